@@ -1,0 +1,4 @@
+pub mod Word
+pub mod Sizes
+pub mod Told
+pub mod Refusals

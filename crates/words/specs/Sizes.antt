@@ -1,0 +1,18 @@
+-- The sizes of document 01. Exactly a size passes, one over is number 5.
+use Prim.Native.Nat.{ℕ}
+
+abbrev pub maxWords : ℕ
+maxWords = 8192
+
+abbrev pub maxStrings : ℕ
+maxStrings = 1024
+
+abbrev pub maxBytes : ℕ
+maxBytes = 16384
+
+abbrev pub maxErased : ℕ
+maxErased = 1024
+
+-- the deepest level: a top statement has depth 1, a statement or expression inside another is one deeper
+abbrev pub maxDepth : ℕ
+maxDepth = 100

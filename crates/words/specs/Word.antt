@@ -1,0 +1,18 @@
+-- A word's top 8 bits are its kind, its low 24 its payload (document 01, "Strings and tree words").
+use Prim.Native.Nat.{ℕ, _+_, _*_, _/_, _%_}
+use mathlib.Core.Bool.{Bool, true, false}
+
+abbrev pub kindOf : ℕ → ℕ
+kindOf w = w / 16777216
+
+abbrev pub payOf : ℕ → ℕ
+payOf w = w % 16777216
+
+-- the word of kind k and payload x
+abbrev pub wordOf : ℕ → ℕ → ℕ
+wordOf k x = k * 16777216 + x
+
+-- the first where the test holds, else the second
+abbrev pub pick : {A : Type 0} → Bool → A → A → A
+pick true a b = a
+pick false a b = b

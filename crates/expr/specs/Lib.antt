@@ -1,0 +1,5 @@
+pub mod Expr
+pub mod Got
+pub mod Reader
+pub mod Stands
+pub mod Answer

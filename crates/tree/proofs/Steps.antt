@@ -1,0 +1,464 @@
+-- Rows of fields, as a sequence of answers. Assumes nothing.
+use Prim.Native.Nat.{ℕ, zero, suc, _+_, _-_, _*_, _/_, _%_, _<_, _≤_, max}
+use mathlib.Core.Path.{_≡_, refl, sym, ap, subst, _∙_}
+use mathlib.Core.List.{List, [], _∷_, _++_, map}
+use mathlib.Core.Bool.{Bool, true, false, _&&_}
+use native.Mathlib.Omega.{arith}
+use native.Mathlib.Numerals.{add-one, sub-one}
+use native.Mathlib.Nat.{le-trans, le-of-eq}
+use lib.ListN.{length, getD, take, drop, drop-of-length-le, List·getD-map}
+use lib.Seq.{drop-cons}
+use lib.Dec.{ltb, leb, eqb}
+use borrow.Author.Tests.{lt-ltb, le-ltb, le-leb, lt-leb, eq-eqb, ne-eqb, ltb-true, leb-true, eqb-true}
+use Rattle.expr.specs.Expr.{Expr}
+use Rattle.words.specs.Word.{wordOf, pick, kindOf, payOf}
+use Rattle.expr.specs.Got.{Got, got, wrong, deep, bind}
+use Rattle.expr.specs.Reader.{leafAt, exprAt}
+use Rattle.expr.specs.Answer.{stepOf, then}
+use Rattle.expr.specs.declared.Cursor.{Cursor}
+use Rattle.expr.specs.declared.Step.{Step}
+use Rattle.expr.specs.declared.Step.the-variants.{Read, Wrong, Deep}
+use Rattle.expr.proofs.Steps.{step-map, step-bind, last, stop, next-leaf}
+use types.Run.{OneOf}
+use denote.Enum.Declared.{tagOf}
+use Rattle.expr.proofs.Step.{the-type}
+use Rattle.tree.specs.Sorts.{Leaf, Sort, leaf, expr, stmt, many, group, either, never, Sorts, nil, _&_, flag, whole, letter, oneOf, named, quoted, opt, exprs, body, GotoTarget, TypeRef, PrintItem, CaseClause, ResumeTarget, Kind, sorts, kinds, kindAt, lock}
+use Rattle.tree.specs.Tree.{strings, Shape, one, row, rows, Tree, word, value, Stmt, list, part, this, that, done, cons, none, more, kindL, okL, between}
+use Rattle.tree.specs.Codes.{parts, allRows, rowOf, singles, sortAt, decode, chain, partCodes, stmtCodes, codes, decoded}
+use Rattle.tree.specs.Verdict.{verdictOf}
+use Rattle.tree.specs.declared.Verdict.{Verdict}
+use Rattle.tree.specs.Reader.{wordAt, neverAt, isAt, stmtHead, rowsAt, fieldAt, rowAt, restAt, stmtAt, programAt}
+
+-- a number past the end of the flags is no name's
+pub no-name : (ns : List ℕ) (x : ℕ) → length ns ≤ x → eqb (getD ns x 0) 1 ≡ false
+no-name [] x h = refl
+no-name (y ∷ ns) zero h = absurd (omega arith)
+no-name (y ∷ ns) (suc x) h = no-name ns x (omega arith)
+
+-- ---- the numbers of the tables
+
+getD-any : {A : Type 0} (l : List A) (i : ℕ) (d d′ : A) → i < length l → getD l i d ≡ getD l i d′
+getD-any [] i d d′ h = absurd (omega arith)
+getD-any (x ∷ l) zero d d′ h = refl
+getD-any (x ∷ l) (suc i) d d′ h = getD-any l i d d′ (omega arith)
+
+-- the tables of the code
+pub codes-part : (r : ℕ) (d : List ℕ) → r < 39 → getD partCodes r d ≡ codes r
+unfolding codes partCodes
+codes-part r d h = getD-any partCodes r d [] h ∙ sym (lib.ListN.List·getD-append partCodes stmtCodes [] r h)
+
+pub codes-stmt : (r : ℕ) (d : List ℕ) → 39 ≤ r → r - 39 < 54 → getD stmtCodes (r - 39) d ≡ codes r
+unfolding codes partCodes stmtCodes
+codes-stmt r d h k =
+    getD-any stmtCodes (r - 39) d [] k ∙ sym (lib.Seq.getD-append-add partCodes stmtCodes (r - 39) [])
+    ∙ ap (λ (x : ℕ). getD (partCodes ++ stmtCodes) x []) (let e : 39 + (r - 39) ≡ r = omega arith in e)
+
+pub codes-none : (r : ℕ) → 93 ≤ r → [] ≡ codes r
+unfolding codes partCodes stmtCodes
+codes-none r h = sym (lib.ListN.List·getD-eq-default (partCodes ++ stmtCodes) [] h)
+
+-- a row ends at the first 0
+pub decode-stop : (cs : List ℕ) (i : ℕ) → getD cs i 0 ≡ 0 → decode (drop i cs) ≡ nil
+unfolding decode
+decode-stop [] zero h = refl
+decode-stop [] (suc i) h = refl
+decode-stop (zero ∷ cs) zero h = refl
+decode-stop (suc c ∷ cs) zero h = absurd (omega arith)
+decode-stop (x ∷ cs) (suc i) h = decode-stop cs i h
+
+decode-suc : (cs : List ℕ) (i : ℕ) → (getD cs i 0 ≡ 0 → ⊥) → decode (drop i cs) ≡ sortAt (getD cs i 0) & decode (drop (suc i) cs)
+unfolding decode
+decode-suc [] i h = absurd (h refl)
+decode-suc (zero ∷ cs) zero h = absurd (h refl)
+decode-suc (suc c ∷ cs) zero h = refl
+decode-suc (x ∷ cs) (suc i) h = decode-suc cs i h
+
+pub decode-go : (cs : List ℕ) (i : ℕ) → (getD cs i 0 ≡ 0 → ⊥) → decode (drop i cs) ≡ sortAt (getD cs i 0) & decode (drop (i + 1) cs)
+decode-go cs i h = rw (add-one i) (decode-suc cs i h)
+
+-- no row has more than six
+sixes : List (List ℕ) → Bool
+sixes [] = true
+sixes (l ∷ ls) = leb (length l) 6 && sixes ls
+
+and-left : (a b : Bool) → (a && b) ≡ true → a ≡ true
+and-left true b e = refl
+and-left false b e = e
+
+and-right : (a b : Bool) → (a && b) ≡ true → b ≡ true
+and-right true b e = e
+and-right false b e = absurd (mathlib.Core.Bool.false≢true e)
+
+six-at : (ls : List (List ℕ)) (r : ℕ) → sixes ls ≡ true → length (getD ls r []) ≤ 6
+unfolding sixes
+six-at [] r e = omega arith
+six-at (l ∷ ls) zero e = leb-true (length l) 6 (and-left _ _ e)
+six-at (l ∷ ls) (suc r) e = six-at ls r (and-right (leb (length l) 6) _ e)
+
+pub decode-over : (r i : ℕ) → 6 ≤ i → decode (drop i (codes r)) ≡ nil
+unfolding decode codes partCodes stmtCodes sixes
+decode-over r i h =
+    let z : length (codes r) ≤ 6 = six-at (partCodes ++ stmtCodes) r refl in
+    rw (drop-of-length-le (codes r) (le-trans z h)) refl
+
+-- the row in numbers is the row
+pub decode-row : (r : ℕ) → decode (codes r) ≡ rowOf r
+unfolding rowOf codes decode
+decode-row r = sym (List·getD-map decode (partCodes ++ stmtCodes) r []) ∙ ap (λ (l : List Sorts). getD l r nil) decoded
+
+pub row-chain : (r count i : ℕ) → i < count → rowOf (r + i) ≡ getD (take count (drop r allRows)) i nil
+unfolding rowOf
+row-chain r count i h = sym (lib.Seq.getD-take count (drop r allRows) i nil h ∙ lib.Seq.getD-drop r allRows i nil)
+
+rows-93 : length allRows ≡ 93
+unfolding allRows parts kinds
+rows-93 = refl
+
+pub length-chain : (r count : ℕ) → r + count ≤ 93 → length (take count (drop r allRows)) ≡ count
+length-chain r count h = lib.Seq.length-take-le count (drop r allRows) (omega (arith, lib.ListN.length-drop r allRows, rows-93))
+
+-- ---- sizes, by which the calls end
+
+unfoldable mutual
+  pub sizeS : Sort → ℕ
+  sizeS (leaf l) = 1
+  sizeS expr = 1
+  sizeS stmt = 1
+  sizeS (many ss) = sizeR ss + 2
+  sizeS (group ss) = sizeR ss + 2
+  sizeS (either k ss s) = sizeR ss + sizeS s + 2
+  sizeS never = 1
+
+  pub sizeR : Sorts → ℕ
+  sizeR nil = 1
+  sizeR (s & ss) = sizeS s + sizeR ss + 2
+
+pub size-many : (ss : Sorts) → sizeS (many ss) ≡ sizeR ss + 2
+unfolding sizeS
+size-many ss = refl
+
+pub size-group : (ss : Sorts) → sizeS (group ss) ≡ sizeR ss + 2
+unfolding sizeS
+size-group ss = refl
+
+pub size-opt : (ss : Sorts) → sizeS (opt ss) ≡ 1 + (sizeR ss + 2) + 2
+unfolding sizeS sizeR
+size-opt ss = refl
+
+pub size-cons : (s : Sort) (ss : Sorts) → sizeR (s & ss) ≡ sizeS s + sizeR ss + 2
+unfolding sizeR
+size-cons s ss = refl
+
+pub size-chain : (k : ℕ) (rs : List Sorts) (j : ℕ) → j < length rs → sizeR (getD rs j nil) < sizeS (chain k rs)
+unfolding chain sizeS
+size-chain k [] j h = absurd (omega arith)
+size-chain k (ss ∷ rs) zero h = omega arith
+size-chain k (ss ∷ rs) (suc j) h = let z : sizeR (getD rs j nil) < sizeS (chain (suc k) rs) = size-chain (suc k) rs j (omega arith) in omega arith
+
+smalls : List Sorts → Bool
+smalls [] = true
+smalls (ss ∷ l) = ltb (sizeR ss) 1000 && smalls l
+
+small-at : (l : List Sorts) (r : ℕ) → smalls l ≡ true → sizeR (getD l r nil) < 1000
+unfolding smalls sizeR
+small-at [] r e = lib.Dec.lit< tt
+small-at (ss ∷ l) zero e = ltb-true (sizeR ss) 1000 (and-left _ _ e)
+small-at (ss ∷ l) (suc r) e = small-at l r (and-right (ltb (sizeR ss) 1000) _ e)
+
+pub small-row : (r : ℕ) → sizeR (rowOf r) < 1000
+unfolding rowOf smalls sizeR sizeS allRows parts sorts kinds
+small-row r = small-at allRows r refl
+
+pub size-start : (r : ℕ) → sizeR (decode (drop 0 (codes r))) ≤ sizeR (rowOf r)
+size-start r = le-of-eq (ap sizeR (decode-row r))
+
+pub size-step : (r i k : ℕ) → k ≡ getD (codes r) i 0 → (k ≡ 0 → ⊥) → sizeR (decode (drop i (codes r))) ≡ sizeS (sortAt k) + sizeR (decode (drop (i + 1) (codes r))) + 2
+size-step r i k e z = ap sizeR (decode-go (codes r) i (λ y. z (e ∙ y)) ∙ ap (λ (x : ℕ). sortAt x & decode (drop (i + 1) (codes r))) (sym e)) ∙ size-cons _ _
+
+pub size-choice : (first count r i : ℕ) → r + count ≤ 93 → i < count → sizeR (rowOf (r + i)) < sizeS (chain first (take count (drop r allRows)))
+size-choice first count r i b h =
+    subst (λ (ss : Sorts). sizeR ss < sizeS (chain first (take count (drop r allRows)))) (sym (row-chain r count i h))
+    (size-chain first (take count (drop r allRows)) i (subst (λ (x : ℕ). i < x) (sym (length-chain r count b)) h))
+
+-- ---- fields
+
+pub is-0 : {k : ℕ} → k ≡ 0 → sortAt k ≡ never
+unfolding sortAt singles
+is-0 e = ap sortAt e
+
+pub is-1 : {k : ℕ} → k ≡ 1 → sortAt k ≡ named
+unfolding sortAt singles
+is-1 e = ap sortAt e
+
+pub is-2 : {k : ℕ} → k ≡ 2 → sortAt k ≡ quoted
+unfolding sortAt singles
+is-2 e = ap sortAt e
+
+pub is-3 : {k : ℕ} → k ≡ 3 → sortAt k ≡ flag
+unfolding sortAt singles
+is-3 e = ap sortAt e
+
+pub is-4 : {k : ℕ} → k ≡ 4 → sortAt k ≡ whole
+unfolding sortAt singles
+is-4 e = ap sortAt e
+
+pub is-5 : {k : ℕ} → k ≡ 5 → sortAt k ≡ letter
+unfolding sortAt singles
+is-5 e = ap sortAt e
+
+pub is-6 : {k : ℕ} → k ≡ 6 → sortAt k ≡ oneOf 4
+unfolding sortAt singles
+is-6 e = ap sortAt e
+
+pub is-7 : {k : ℕ} → k ≡ 7 → sortAt k ≡ oneOf 5
+unfolding sortAt singles
+is-7 e = ap sortAt e
+
+pub is-8 : {k : ℕ} → k ≡ 8 → sortAt k ≡ oneOf 18
+unfolding sortAt singles
+is-8 e = ap sortAt e
+
+pub is-9 : {k : ℕ} → k ≡ 9 → sortAt k ≡ expr
+unfolding sortAt singles
+is-9 e = ap sortAt e
+
+pub is-10 : {k : ℕ} → k ≡ 10 → sortAt k ≡ stmt
+unfolding sortAt singles
+is-10 e = ap sortAt e
+
+pub is-11 : {k : ℕ} → k ≡ 11 → sortAt k ≡ chain 48 (take 2 (drop 22 allRows))
+unfolding sortAt singles chain allRows parts
+is-11 e = ap sortAt e
+
+pub is-12 : {k : ℕ} → k ≡ 12 → sortAt k ≡ chain 40 (take 6 (drop 24 allRows))
+unfolding sortAt singles chain allRows parts
+is-12 e = ap sortAt e
+
+pub is-13 : {k : ℕ} → k ≡ 13 → sortAt k ≡ chain 32 (take 3 (drop 30 allRows))
+unfolding sortAt singles chain allRows parts
+is-13 e = ap sortAt e
+
+pub is-14 : {k : ℕ} → k ≡ 14 → sortAt k ≡ chain 36 (take 3 (drop 33 allRows))
+unfolding sortAt singles chain allRows parts
+is-14 e = ap sortAt e
+
+pub is-15 : {k : ℕ} → k ≡ 15 → sortAt k ≡ chain 52 (take 3 (drop 36 allRows))
+unfolding sortAt singles chain allRows parts
+is-15 e = ap sortAt e
+
+pub sort-opt : (s : ℕ) → 16 ≤ s → s < 64 → sortAt s ≡ opt (rowOf (s - 16))
+unfolding sortAt
+sort-opt s a b = simp (le-ltb s 16 a, lt-ltb s 64 b)
+
+pub sort-many : (s : ℕ) → 64 ≤ s → s < 112 → sortAt s ≡ many (rowOf (s - 64))
+unfolding sortAt
+sort-many s a b = let z : 16 ≤ s = omega arith in simp (le-ltb s 16 z, le-ltb s 64 a, lt-ltb s 112 b)
+
+pub sort-group : (s : ℕ) → 112 ≤ s → sortAt s ≡ group (rowOf (s - 112))
+unfolding sortAt
+sort-group s a = let z : 16 ≤ s = omega arith in let y : 64 ≤ s = omega arith in simp (le-ltb s 16 z, le-ltb s 64 y, le-ltb s 112 a)
+
+pub pos : {k : ℕ} → (k ≡ 0 → ⊥) → 0 < k
+pos {k} f = omega arith
+
+pub zero-end : (ws : List ℕ) (at : ℕ) → length ws ≤ at → isAt ws 0 at ≡ false
+unfolding isAt
+zero-end ws at h = simp (le-ltb at (length ws) h)
+
+pub zero-not : (ws : List ℕ) (at : ℕ) → at < length ws → (getD ws at 0 ≡ 0 → ⊥) → isAt ws 0 at ≡ false
+unfolding isAt
+zero-not ws at h f = simp (lt-ltb at (length ws) h, ne-eqb (getD ws at 0) 0 f)
+
+-- a list
+pub rows-none : (ws ns : List ℕ) (n : ℕ) {ss : Sorts} (f : ℕ → Got (Tree Expr (row ss))) (count : ℕ) (c : Cursor) → count ≤ 0 → stepOf (rowsAt ws ns n f count (c .at)) ≡ Read c
+unfolding rowsAt stepOf
+rows-none ws ns n f zero c z = refl
+rows-none ws ns n f (suc k) c z = absurd (omega arith)
+
+pub rows-more : (ws ns : List ℕ) (n : ℕ) {ss : Sorts} (f : ℕ → Got (Tree Expr (row ss))) (count m : ℕ) → 0 < count → stepOf (rowsAt ws ns n f count m) ≡ then (stepOf (f m)) (λ m′. stepOf (rowsAt ws ns n f (count - 1) m′))
+unfolding rowsAt
+rows-more ws ns n f zero m z = absurd (omega arith)
+rows-more ws ns n f (suc k) m z = rw sub-one (step-bind _ _ _ (λ x m′. step-map _ _))
+
+module _ (ws ns : List ℕ) (n : ℕ) (sub : ℕ → Got Expr) (subS : ℕ → Got (Tree Expr (one stmt))) where
+  -- a field whose number is k
+  pub arm : (k : ℕ) (s : Sort) (m : ℕ) {r : Step} → sortAt k ≡ s → r ≡ stepOf (fieldAt ws ns n sub subS s m) → r ≡ stepOf (fieldAt ws ns n sub subS (sortAt k) m)
+  arm k s m {r} q h = subst (λ (x : Sort). r ≡ stepOf (fieldAt ws ns n sub subS x m)) (sym q) h
+
+  pub leaf-arm : (k : ℕ) (l : Leaf) (m : ℕ) {r : Step} → sortAt k ≡ leaf l → r ≡ stepOf (wordAt ws (kindL l) (okL ns n l) m) → r ≡ stepOf (fieldAt ws ns n sub subS (sortAt k) m)
+  unfolding fieldAt
+  leaf-arm k l m q h = arm k (leaf l) m q (last word _ h)
+
+  pub expr-arm : (m : ℕ) {r : Step} → r ≡ stepOf (sub m) → r ≡ stepOf (fieldAt ws ns n sub subS expr m)
+  unfolding fieldAt
+  expr-arm m h = last value _ h
+
+  pub stmt-arm : (m : ℕ) {r : Step} → r ≡ stepOf (subS m) → r ≡ stepOf (fieldAt ws ns n sub subS stmt m)
+  unfolding fieldAt
+  stmt-arm m h = h
+
+  pub never-arm : (m : ℕ) {r : Step} → r ≡ stepOf (neverAt ws {A = ℕ} m) → r ≡ stepOf (fieldAt ws ns n sub subS never m)
+  unfolding fieldAt neverAt stepOf
+  never-arm m {r} h = go (ltb m (length ws)) h
+    where
+      go : (b : Bool) → r ≡ stepOf (pick {A = Got ℕ} b (wrong m) (wrong (length ws))) → r ≡ stepOf (pick {A = Got (Tree Expr (one never))} b (wrong m) (wrong (length ws)))
+      go true e = e
+      go false e = e
+
+  pub group-arm : (ss : Sorts) (m : ℕ) {r : Step} → r ≡ stepOf (rowAt ws ns n sub subS ss m) → r ≡ stepOf (fieldAt ws ns n sub subS (group ss) m)
+  unfolding fieldAt
+  group-arm ss m h = last part _ h
+
+  -- the word 0, or a row
+  pub opt-none : (ss : Sorts) (at : ℕ) → at < length ws → getD ws at 0 ≡ 0 → Read (record { at = at + 1 }) ≡ stepOf (fieldAt ws ns n sub subS (opt ss) at)
+  unfolding fieldAt rowAt isAt bind stepOf
+  opt-none ss at h e = simp (lt-ltb at (length ws) h, eq-eqb (getD ws at 0) 0 e)
+
+  pub opt-some : (ss : Sorts) (at : ℕ) {r : Step} → isAt ws 0 at ≡ false → r ≡ stepOf (rowAt ws ns n sub subS ss at) → r ≡ stepOf (fieldAt ws ns n sub subS (opt ss) at)
+  unfolding fieldAt
+  opt-some ss at f h = rw f (last that _ (group-arm ss at h))
+
+  -- heads one after another
+  pub chain-end : (k : ℕ) (rs : List Sorts) (at : ℕ) → length ws ≤ at → Wrong (length ws) ≡ stepOf (fieldAt ws ns n sub subS (chain k rs) at)
+  unfolding chain fieldAt neverAt isAt stepOf
+  chain-end k [] at h = simp (le-ltb at (length ws) h)
+  chain-end k (ss ∷ rs) at h = simp (le-ltb at (length ws) h) (last that _ (chain-end (suc k) rs at h))
+
+  pub chain-no : (k : ℕ) (rs : List Sorts) (at : ℕ) → at < length ws → ((j : ℕ) → j < length rs → getD ws at 0 ≡ wordOf (k + j) 0 → ⊥) → Wrong at ≡ stepOf (fieldAt ws ns n sub subS (chain k rs) at)
+  unfolding chain fieldAt neverAt isAt stepOf
+  chain-no k [] at h f = simp (lt-ltb at (length ws) h)
+  chain-no k (ss ∷ rs) at h f =
+      let z : getD ws at 0 ≡ wordOf k 0 → ⊥ = λ e. f 0 (omega arith) (omega arith) in
+      simp (lt-ltb at (length ws) h, ne-eqb (getD ws at 0) (wordOf k 0) z) (last that _ (chain-no (suc k) rs at h (λ j i e. f (suc j) (omega arith) (omega arith))))
+
+  pub chain-yes : (k : ℕ) (rs : List Sorts) (j at : ℕ) {r : Step} → at < length ws → j < length rs → getD ws at 0 ≡ wordOf (k + j) 0 → r ≡ stepOf (rowAt ws ns n sub subS (getD rs j nil) (at + 1)) → r ≡ stepOf (fieldAt ws ns n sub subS (chain k rs) at)
+  unfolding chain fieldAt isAt
+  chain-yes k [] j at h i e q = absurd (omega arith)
+  chain-yes k (ss ∷ rs) zero at h i e q =
+      let z : getD ws at 0 ≡ wordOf k 0 = omega arith in
+      simp (lt-ltb at (length ws) h, eq-eqb (getD ws at 0) (wordOf k 0) z) (last this _ q)
+  chain-yes k (ss ∷ rs) (suc j) at h i e q =
+      let z : getD ws at 0 ≡ wordOf k 0 → ⊥ = λ y. omega arith in
+      simp (lt-ltb at (length ws) h, ne-eqb (getD ws at 0) (wordOf k 0) z) (last that _ (chain-yes (suc k) rs j at h (omega arith) (omega arith) q))
+
+  -- a row
+  pub row-more : (s : Sort) (ss : Sorts) (m : ℕ) → stepOf (rowAt ws ns n sub subS (s & ss) m) ≡ then (stepOf (fieldAt ws ns n sub subS s m)) (λ m′. stepOf (rowAt ws ns n sub subS ss m′))
+  unfolding rowAt
+  row-more s ss m = step-bind _ _ _ (λ v m′. step-map _ _)
+
+  pub row-none : (c : Cursor) → stepOf (rowAt ws ns n sub subS nil (c .at)) ≡ Read c
+  unfolding rowAt stepOf
+  row-none c = refl
+
+  pub many-stop : (ss : Sorts) (at : ℕ) {s : Step} → s ≡ stepOf (leafAt ws 1 16777216 at) → OneOf (1 ∷ 2 ∷ []) (tagOf the-type s) → s ≡ stepOf (fieldAt ws ns n sub subS (many ss) at)
+  unfolding fieldAt
+  many-stop ss at e t = stop _ _ e t
+
+  pub many-go : (ss : Sorts) (at : ℕ) {s r : Step} {c : Cursor} → s ≡ stepOf (leafAt ws 1 16777216 at) → s ≡ Read c → r ≡ stepOf (rowsAt ws ns n (λ x. rowAt ws ns n sub subS ss x) (payOf (getD ws at 0)) (c .at)) → r ≡ stepOf (fieldAt ws ns n sub subS (many ss) at)
+  unfolding fieldAt
+  many-go ss at e q h = next-leaf _ _ _ _ _ e q (last list _ h)
+
+  pub choice-no : (first count r at : ℕ) → r + count ≤ 93 → at < length ws → (payOf (getD ws at 0) ≡ 0 → first ≤ kindOf (getD ws at 0) → kindOf (getD ws at 0) - first < count → ⊥) → Wrong at ≡ stepOf (fieldAt ws ns n sub subS (chain first (take count (drop r allRows))) at)
+  choice-no first count r at b h f =
+      chain-no first (take count (drop r allRows)) at h (λ j i e.
+      let z : j < count = subst (λ (x : ℕ). j < x) (length-chain r count b) i in
+      let k : kindOf (getD ws at 0) ≡ first + j = omega (arith, e) in
+      f (omega (arith, e)) (omega (arith, k)) (omega (arith, k, z)))
+
+  pub choice-go : (first count r at : ℕ) {a : Step} → r + count ≤ 93 → at < length ws → payOf (getD ws at 0) ≡ 0 → first ≤ kindOf (getD ws at 0) → kindOf (getD ws at 0) - first < count → a ≡ stepOf (rowAt ws ns n sub subS (rowOf (r + (kindOf (getD ws at 0) - first))) (at + 1)) → a ≡ stepOf (fieldAt ws ns n sub subS (chain first (take count (drop r allRows))) at)
+  choice-go first count r at {a} b h p f i q =
+      let j : ℕ = kindOf (getD ws at 0) - first in
+      let e : getD ws at 0 ≡ wordOf (first + j) 0 = omega arith in
+      chain-yes first (take count (drop r allRows)) j at h (subst (λ (x : ℕ). j < x) (sym (length-chain r count b)) i) e
+      (subst (λ (ss : Sorts). a ≡ stepOf (rowAt ws ns n sub subS ss (at + 1))) (row-chain r count j i) q)
+
+  -- a row by its numbers
+  pub row-is : (r m : ℕ) → stepOf (rowAt ws ns n sub subS (rowOf r) m) ≡ stepOf (rowAt ws ns n sub subS (decode (drop 0 (codes r))) m)
+  row-is r m = ap (λ (ss : Sorts). stepOf (rowAt ws ns n sub subS ss m)) (sym (decode-row r))
+
+  pub row-stop : (r i k : ℕ) (c : Cursor) → k ≡ getD (codes r) i 0 → k ≡ 0 → stepOf (rowAt ws ns n sub subS (decode (drop i (codes r))) (c .at)) ≡ Read c
+  row-stop r i k c e z = ap (λ (ss : Sorts). stepOf (rowAt ws ns n sub subS ss (c .at))) (decode-stop (codes r) i (sym e ∙ z)) ∙ row-none c
+
+  pub row-over : (r i : ℕ) (c : Cursor) → 6 ≤ i → stepOf (rowAt ws ns n sub subS (decode (drop i (codes r))) (c .at)) ≡ Read c
+  row-over r i c h = ap (λ (ss : Sorts). stepOf (rowAt ws ns n sub subS ss (c .at))) (decode-over r i h) ∙ row-none c
+
+  pub row-step : (r i k m : ℕ) → k ≡ getD (codes r) i 0 → (k ≡ 0 → ⊥) → stepOf (rowAt ws ns n sub subS (decode (drop i (codes r))) m) ≡ then (stepOf (fieldAt ws ns n sub subS (sortAt k) m)) (λ m′. stepOf (rowAt ws ns n sub subS (decode (drop (i + 1) (codes r))) m′))
+  row-step r i k m e z =
+      ap (λ (ss : Sorts). stepOf (rowAt ws ns n sub subS ss m)) (decode-go (codes r) i (λ y. z (e ∙ y)) ∙ ap (λ (x : ℕ). sortAt x & decode (drop (i + 1) (codes r))) (sym e))
+      ∙ row-more (sortAt k) (decode (drop (i + 1) (codes r))) m
+
+-- a statement: its head, then its row
+module _ (ws : List ℕ) (at : ℕ) where
+  pub head-end : length ws ≤ at → stmtHead ws at ≡ wrong (length ws)
+  unfolding stmtHead
+  head-end h = simp (le-ltb at (length ws) h)
+
+  pub head-low : at < length ws → kindOf (getD ws at 0) < 64 → stmtHead ws at ≡ wrong at
+  unfolding stmtHead
+  head-low h k = simp (lt-ltb at (length ws) h, lt-leb 64 (kindOf (getD ws at 0)) k)
+
+  pub head-high : at < length ws → 64 ≤ kindOf (getD ws at 0) → 118 ≤ kindOf (getD ws at 0) → stmtHead ws at ≡ wrong at
+  unfolding stmtHead
+  head-high h k z = simp (lt-ltb at (length ws) h, le-leb 64 (kindOf (getD ws at 0)) k, le-ltb (kindOf (getD ws at 0)) 118 z)
+
+  pub head-ok : at < length ws → 64 ≤ kindOf (getD ws at 0) → kindOf (getD ws at 0) < 118 → stmtHead ws at ≡ got (getD ws at 0) (at + 1)
+  unfolding stmtHead
+  head-ok h k z = simp (lt-ltb at (length ws) h, le-leb 64 (kindOf (getD ws at 0)) k, lt-ltb (kindOf (getD ws at 0)) 118 z)
+
+pub stmt-bad : (ws ns : List ℕ) (n left at p : ℕ) → stmtHead ws at ≡ wrong p → Wrong p ≡ stepOf (stmtAt ws ns n left at)
+unfolding stmtAt bind stepOf
+stmt-bad ws ns n zero at p h = rw h refl
+stmt-bad ws ns n (suc d) at p h = rw h refl
+
+pub stmt-deep : (ws ns : List ℕ) (n left at w m : ℕ) → left ≡ 0 → stmtHead ws at ≡ got w m → Deep at ≡ stepOf (stmtAt ws ns n left at)
+unfolding stmtAt bind stepOf
+stmt-deep ws ns n left at w m z h = rw (z, h) refl
+
+pub row-kind : (j : ℕ) → j < 54 → rowOf (j + 39) ≡ sorts (kindAt j)
+unfolding rowOf allRows kindAt kinds parts
+row-kind j h =
+    ap (λ (x : ℕ). getD (parts ++ map sorts kinds) x nil) (let e : j + 39 ≡ 39 + j = omega arith in e)
+    ∙ lib.Seq.getD-append-add parts (map sorts kinds) j nil
+    ∙ getD-any (map sorts kinds) j nil (sorts lock) h
+    ∙ List·getD-map sorts kinds j lock
+
+pub stmt-go : (ws ns : List ℕ) (n left at : ℕ) {r : Step} → (left ≡ 0 → ⊥) → at < length ws → 64 ≤ kindOf (getD ws at 0) → kindOf (getD ws at 0) < 118 → r ≡ stepOf (rowAt ws ns n (exprAt ws (strings ns n) (left - 1)) (stmtAt ws ns n (left - 1)) (rowOf (kindOf (getD ws at 0) - 64 + 39)) (at + 1)) → r ≡ stepOf (stmtAt ws ns n left at)
+unfolding stmtAt restAt bind
+stmt-go ws ns n zero at z a b c h = absurd (z refl)
+stmt-go ws ns n (suc d) at {r} z a b c h =
+    let q : rowOf (kindOf (getD ws at 0) - 64 + 39) ≡ sorts (kindAt (kindOf (getD ws at 0) - 64)) = row-kind (kindOf (getD ws at 0) - 64) (omega arith) in
+    rw (head-ok ws at a b c) (last (Stmt _ _) _ (rw (sub-one, q) at h))
+
+-- the verdict, from the answer
+verdictS : List ℕ → Step → Verdict
+verdictS ws (Read c) = pick (eqb (c .at) (length ws)) (record { number = 0; place = 0 }) (record { number = 2; place = c .at })
+verdictS ws (Wrong p) = record { number = 2; place = p }
+verdictS ws (Deep p) = record { number = 3; place = p }
+
+verdict-step : {A : Type 0} (ws : List ℕ) (g : Got A) → verdictOf ws g ≡ verdictS ws (stepOf g)
+unfolding verdictOf verdictS stepOf
+verdict-step ws (got a m) = refl
+verdict-step ws (wrong p) = refl
+verdict-step ws (deep p) = refl
+
+module _ {A : Type 0} (ws : List ℕ) (g : Got A) {s : Step} (e : s ≡ stepOf g) where
+  pub verdict-all : {c : Cursor} → s ≡ Read c → c .at ≡ length ws → record { number = 0; place = 0 } ≡ verdictOf ws g
+  unfolding verdictS
+  verdict-all {c} q z = sym (verdict-step ws g ∙ ap (verdictS ws) (sym e ∙ q) ∙ simp (eq-eqb (c .at) (length ws) z))
+
+  pub verdict-over : {c : Cursor} → s ≡ Read c → (c .at ≡ length ws → ⊥) → record { number = 2; place = c .at } ≡ verdictOf ws g
+  unfolding verdictS
+  verdict-over {c} q z = sym (verdict-step ws g ∙ ap (verdictS ws) (sym e ∙ q) ∙ simp (ne-eqb (c .at) (length ws) z))
+
+  pub verdict-wrong : {p : ℕ} → s ≡ Wrong p → record { number = 2; place = p } ≡ verdictOf ws g
+  unfolding verdictS
+  verdict-wrong q = sym (verdict-step ws g ∙ ap (verdictS ws) (sym e ∙ q))
+
+  pub verdict-deep : {p : ℕ} → s ≡ Deep p → record { number = 3; place = p } ≡ verdictOf ws g
+  unfolding verdictS
+  verdict-deep q = sym (verdict-step ws g ∙ ap (verdictS ws) (sym e ∙ q))
+
+-- the program is the list of the rows number 4
+pub program-is : (ws ns : List ℕ) (n : ℕ) {s : Step} → s ≡ stepOf (fieldAt ws ns n (exprAt ws (strings ns n) 100) (stmtAt ws ns n 100) (many (rowOf 4)) 0) → s ≡ stepOf (programAt ws ns n)
+unfolding programAt rowOf allRows parts
+program-is ws ns n e = e

@@ -1,0 +1,253 @@
+-- Laws of order, names and the rule of the table, in the steps that the loops take. Assumes nothing.
+use Prim.Native.Nat.{ℕ, zero, suc, _+_, _-_, _≤_, _<_}
+use mathlib.Core.Path.{_≡_, refl, sym, ap, _∙_}
+use mathlib.Core.Bool.{Bool, true, false, not, _&&_, _||_, false≢true}
+use mathlib.Core.Logic.{_⊎_, ⊎-elim}
+use native.Mathlib.Nat.{eq-or-lt-of-le}
+use mathlib.Core.List.{List, [], _∷_, _++_}
+use native.Mathlib.Omega.{arith}
+use native.Mathlib.Numerals.{add-one}
+use lib.ListN.{length, getD, take, drop, drop-of-length-le, length-append}
+use lib.Seq.{drop-cons}
+use lib.Dec.{ltb, leb, eqb}
+use borrow.Author.Tests.{lt-ltb, le-ltb, le-leb, lt-leb, eq-eqb, ne-eqb, ltb-true, leb-true, eqb-true}
+use Rattle.words.specs.Word.{pick}
+use Rattle.strings.specs.Order.{order, isBelow}
+use Rattle.strings.specs.Name.{between, inner, suffix, rest, isName}
+use Rattle.strings.specs.Table.{part, startOf, stringAt, allPrintable, endRight, rises, lastRight, rightAt, allBelow, sound, breaksAt, marksBelow, namesOf, Bounds}
+use Rattle.strings.specs.Open.{Open, verdictOf}
+use Rattle.strings.specs.declared.Verdict.the-variants.{Sound, Breaks}
+use Rattle.strings.specs.declared.Order.{Order}
+use Rattle.strings.specs.declared.Order.the-variants.{Below, Equal, Above}
+
+-- ---- order
+
+module _ (a b : List ℕ) (i : ℕ) where
+  pub order-same : i < length a → i < length b → getD a i 0 ≡ getD b i 0 → order (drop i a) (drop i b) ≡ order (drop (i + 1) a) (drop (i + 1) b)
+  unfolding order
+  order-same p q e = rw (add-one i, drop-cons a i 0 p, drop-cons b i 0 q, eq-eqb (getD a i 0) (getD b i 0) e) refl
+
+  pub order-less : i < length a → i < length b → getD a i 0 < getD b i 0 → order (drop i a) (drop i b) ≡ Below
+  unfolding order
+  order-less p q l = rw (drop-cons a i 0 p, drop-cons b i 0 q, ne-eqb (getD a i 0) (getD b i 0) (λ e. omega arith), lt-ltb (getD a i 0) (getD b i 0) l) refl
+
+  pub order-more : i < length a → i < length b → getD b i 0 < getD a i 0 → order (drop i a) (drop i b) ≡ Above
+  unfolding order
+  order-more p q l = rw (drop-cons a i 0 p, drop-cons b i 0 q, ne-eqb (getD a i 0) (getD b i 0) (λ e. omega arith), le-ltb (getD a i 0) (getD b i 0) (omega arith)) refl
+
+  pub order-longer : i < length a → length b ≤ i → order (drop i a) (drop i b) ≡ Above
+  unfolding order
+  order-longer p q = rw (drop-cons a i 0 p, drop-of-length-le b q) refl
+
+  pub order-shorter : length a ≤ i → i < length b → order (drop i a) (drop i b) ≡ Below
+  unfolding order
+  order-shorter p q = rw (drop-of-length-le a p, drop-cons b i 0 q) refl
+
+  pub order-end : length a ≤ i → length b ≤ i → order (drop i a) (drop i b) ≡ Equal
+  unfolding order
+  order-end p q = rw (drop-of-length-le a p, drop-of-length-le b q) refl
+
+-- ---- names
+
+pub or-true : (a b : Bool) → a ≡ true → (a || b) ≡ true
+or-true a b e = rw e refl
+
+pub or-false : (a b : Bool) → a ≡ false → (a || b) ≡ b
+or-false a b e = rw e refl
+
+pub and-true : (a b : Bool) → a ≡ true → (a && b) ≡ b
+and-true a b e = rw e refl
+
+pub and-false : (a b : Bool) → a ≡ false → (a && b) ≡ false
+and-false a b e = rw e refl
+
+module _ (s : List ℕ) (i : ℕ) where
+  -- a byte that another follows
+  pub rest-more : i + 1 < length s → rest (drop i s) ≡ (inner (getD s i 0) && rest (drop (i + 1) s))
+  unfolding rest
+  rest-more p = rw (drop-cons s i 0 (omega arith), ← add-one i, drop-cons s (i + 1) 0 p) refl
+
+  pub rest-last : i < length s → length s ≤ i + 1 → rest (drop i s) ≡ (inner (getD s i 0) || suffix (getD s i 0))
+  unfolding rest
+  rest-last p q = rw (drop-cons s i 0 p, ← add-one i, drop-of-length-le s q) refl
+
+  pub rest-none : length s ≤ i → rest (drop i s) ≡ true
+  unfolding rest
+  rest-none p = rw (drop-of-length-le s p) refl
+
+  pub printable-more : i < length s → allPrintable (drop i s) ≡ (between 32 126 (getD s i 0) && allPrintable (drop (i + 1) s))
+  unfolding allPrintable
+  printable-more p = rw (add-one i, drop-cons s i 0 p) refl
+
+  pub printable-none : length s ≤ i → allPrintable (drop i s) ≡ true
+  unfolding allPrintable
+  printable-none p = rw (drop-of-length-le s p) refl
+
+-- ---- the table
+
+pub start-zero : (ends : List ℕ) (i : ℕ) → i ≡ 0 → startOf ends i ≡ 0
+unfolding startOf
+start-zero ends zero e = refl
+start-zero ends (suc i) e = absurd (omega arith)
+
+pub start-suc : (ends : List ℕ) (i : ℕ) → 0 < i → startOf ends i ≡ getD ends (i - 1) 0
+unfolding startOf
+start-suc ends zero p = absurd (omega arith)
+start-suc ends (suc i) p = ap (λ (j : ℕ). getD ends j 0) (omega arith)
+
+-- ---- the rule
+
+and-left : (a b : Bool) → (a && b) ≡ true → a ≡ true
+and-left true b e = refl
+and-left false b e = e
+
+and-right : (a b : Bool) → (a && b) ≡ true → b ≡ true
+and-right true b e = e
+and-right false b e = absurd (false≢true e)
+
+pub name-empty : (s : List ℕ) → length s ≡ 0 → isName s ≡ false
+unfolding isName
+name-empty [] e = refl
+name-empty (b ∷ bs) e = absurd (omega arith)
+
+pub name-long : (s : List ℕ) → 40 < length s → isName s ≡ false
+unfolding isName
+name-long [] p = refl
+name-long (b ∷ bs) p = and-false _ _ (lt-leb (length (b ∷ bs)) 40 p)
+
+pub name-first : (s : List ℕ) → between 65 90 (getD s 0 0) ≡ false → isName s ≡ false
+unfolding isName
+name-first [] e = refl
+name-first (b ∷ bs) e = ap (λ (x : Bool). leb (length (b ∷ bs)) 40 && x) (and-false _ _ e) ∙ and-none (leb (length (b ∷ bs)) 40)
+  where
+    and-none : (a : Bool) → (a && false) ≡ false
+    and-none true = refl
+    and-none false = refl
+
+pub name-is : (s : List ℕ) → 0 < length s → length s ≤ 40 → between 65 90 (getD s 0 0) ≡ true → isName s ≡ rest (drop 1 s)
+unfolding isName
+name-is [] p q e = absurd (omega arith)
+name-is (b ∷ bs) p q e = and-true _ _ (le-leb (length (b ∷ bs)) 40 q) ∙ and-true _ _ e
+
+pub all-at : (n : ℕ) (ok : ℕ → Bool) (i : ℕ) → allBelow n ok ≡ true → i < n → ok i ≡ true
+unfolding allBelow
+all-at zero ok i e p = absurd (omega arith)
+all-at (suc n) ok i e p =
+    ⊎-elim (λ (h : i ≡ n). rw h (and-right (allBelow n ok) _ e)) (λ (l : i < n). all-at n ok i (and-left _ _ e) l)
+    (eq-or-lt-of-le {n = i} {m = n} (omega arith))
+
+pub all-more : (n : ℕ) (ok : ℕ → Bool) → allBelow n ok ≡ true → ok n ≡ true → allBelow (n + 1) ok ≡ true
+unfolding allBelow
+all-more n ok e h = rw (add-one n) (and-true _ _ e ∙ h)
+
+pub all-not : (n : ℕ) (ok : ℕ → Bool) (i : ℕ) → i < n → ok i ≡ false → allBelow n ok ≡ false
+all-not n ok i p h = none (allBelow n ok) (λ e. all-at n ok i e p)
+  where
+    none : (b : Bool) → (b ≡ true → ok i ≡ true) → b ≡ false
+    none false f = refl
+    none true f = let z : false ≡ true = sym h ∙ f refl in absurd (false≢true z)
+
+module _ (bytes ends : List ℕ) where
+  pub rises-first : (i : ℕ) → i ≡ 0 → rises bytes ends i ≡ true
+  unfolding rises
+  rises-first zero e = refl
+  rises-first (suc i) e = absurd (omega arith)
+
+  pub rises-is : (i b a e : ℕ) → 0 < i → b ≡ startOf ends (i - 1) → a ≡ startOf ends i → e ≡ getD ends i 0 → {o : Order} → o ≡ order (part b a bytes) (part a e bytes) → rises bytes ends i ≡ isBelow o
+  unfolding rises stringAt startOf
+  rises-is zero b a e p x y z q = absurd (omega arith)
+  rises-is (suc i) b a e p x y z q =
+      let n : suc i - 1 ≡ i = omega arith in
+      let x′ : b ≡ startOf ends i = x ∙ ap (startOf ends) n in
+      rw (q, x′, y, z) refl
+
+  -- what a right string says of its ends
+  pub ends-in : (i : ℕ) → rightAt bytes ends i ≡ true → (startOf ends i ≤ getD ends i 0) × (getD ends i 0 ≤ length bytes)
+  unfolding rightAt endRight
+  ends-in i e =
+      let h = and-left (endRight bytes ends i) _ e in
+      (leb-true (startOf ends i) (getD ends i 0) (and-left _ _ h), leb-true (getD ends i 0) (length bytes) (and-right (leb (startOf ends i) (getD ends i 0)) _ h))
+
+  pub starts-rise : (i : ℕ) → allBelow i (rightAt bytes ends) ≡ true → startOf ends (i - 1) ≤ startOf ends i
+  starts-rise i e =
+      ⊎-elim (λ (h : 0 ≡ i). let n : i - 1 ≡ i = omega arith in omega (arith, ap (startOf ends) n))
+      (λ (p : 0 < i). rw (start-suc ends i p) (ends-in (i - 1) (all-at i (rightAt bytes ends) (i - 1) e (omega arith)) .0))
+      (eq-or-lt-of-le {n = 0} {m = i} (omega arith))
+
+  pub right-end-below : (i : ℕ) → getD ends i 0 < startOf ends i → rightAt bytes ends i ≡ false
+  unfolding rightAt endRight
+  right-end-below i p = and-false _ _ (and-false _ _ (lt-leb (startOf ends i) (getD ends i 0) p))
+
+  pub right-end-past : (i : ℕ) → startOf ends i ≤ getD ends i 0 → length bytes < getD ends i 0 → rightAt bytes ends i ≡ false
+  unfolding rightAt endRight
+  right-end-past i p q = and-false _ _ (and-true _ _ (le-leb (startOf ends i) (getD ends i 0) p) ∙ lt-leb (getD ends i 0) (length bytes) q)
+
+  -- the ends are right: the rest of the rule decides
+  pub right-is : (i a e : ℕ) → a ≡ startOf ends i → e ≡ getD ends i 0 → a ≤ e → e ≤ length bytes → rightAt bytes ends i ≡ (allPrintable (part a e bytes) && (rises bytes ends i && lastRight bytes ends i))
+  unfolding rightAt endRight stringAt
+  right-is i a e x y p q =
+      rw (x, y)
+      (and-true _ _
+      (and-true _ _ (le-leb (startOf ends i) (getD ends i 0) (omega arith)) ∙ le-leb (getD ends i 0) (length bytes) (omega arith)))
+
+  pub last-is : (i : ℕ) → i + 1 ≡ length ends → lastRight bytes ends i ≡ eqb (getD ends i 0) (length bytes)
+  unfolding lastRight
+  last-is i e = rw (eq-eqb (i + 1) (length ends) e) refl
+
+  pub last-not : (i : ℕ) → (i + 1 ≡ length ends → ⊥) → lastRight bytes ends i ≡ true
+  unfolding lastRight
+  last-not i e = rw (ne-eqb (i + 1) (length ends) e) refl
+
+  pub sound-all : 0 < length ends → allBelow (length ends) (rightAt bytes ends) ≡ true → sound bytes ends ≡ true
+  unfolding sound
+  sound-all p e = rw (ne-eqb (length ends) 0 (λ h. omega arith), e) refl
+
+  pub sound-none : length ends ≡ 0 → length bytes ≡ 0 → sound bytes ends ≡ true
+  unfolding sound
+  sound-none p q = rw (eq-eqb (length ends) 0 p, eq-eqb (length bytes) 0 q) refl
+
+  pub unsound-none : length ends ≡ 0 → (length bytes ≡ 0 → ⊥) → (sound bytes ends ≡ false) × (breaksAt bytes ends 0 ≡ true)
+  unfolding sound breaksAt
+  unsound-none p q = (rw (eq-eqb (length ends) 0 p, ne-eqb (length bytes) 0 q) refl, rw (eq-eqb (length ends) 0 p, ne-eqb (length bytes) 0 q) refl)
+
+  pub unsound-at : (i : ℕ) → i < length ends → rightAt bytes ends i ≡ false → (sound bytes ends ≡ false) × (breaksAt bytes ends i ≡ true)
+  unfolding sound breaksAt
+  unsound-at i p e =
+      let h = ne-eqb (length ends) 0 (λ (q : length ends ≡ 0). omega arith) in
+      (rw (h, all-not (length ends) (rightAt bytes ends) i p e) refl, rw (h, lt-ltb i (length ends) p, e) refl)
+
+  pub sound-at : (i : ℕ) → sound bytes ends ≡ true → i < length ends → rightAt bytes ends i ≡ true
+  unfolding sound
+  sound-at i e p =
+      let h = ne-eqb (length ends) 0 (λ (q : length ends ≡ 0). omega arith) in
+      all-at (length ends) (rightAt bytes ends) i (rw h at e) p
+
+  pub marks-more : (i : ℕ) {from to m : ℕ} → from ≡ startOf ends i → to ≡ getD ends i 0 → m ≡ pick (isName (part from to bytes)) 1 0 → marksBelow bytes ends (i + 1) ≡ marksBelow bytes ends i ++ (m ∷ [])
+  unfolding marksBelow stringAt
+  marks-more i x y e = rw (add-one i, e, x, y) refl
+
+  pub marks-none : marksBelow bytes ends 0 ≡ []
+  unfolding marksBelow
+  marks-none = refl
+
+  pub marks-all : (i : ℕ) → i ≡ length ends → marksBelow bytes ends i ≡ namesOf bytes ends
+  unfolding namesOf
+  marks-all i e = ap (marksBelow bytes ends) e
+
+pub start-next : (ends : List ℕ) (i : ℕ) → getD ends i 0 ≡ startOf ends (i + 1)
+unfolding startOf
+start-next ends i = rw (add-one i) refl
+
+pub all-none : (ok : ℕ → Bool) → allBelow 0 ok ≡ true
+unfolding allBelow
+all-none ok = refl
+
+-- ---- what the check says
+
+pub is-sound : {bytes ends : List ℕ} → sound bytes ends ≡ true → Open bytes ends (λ (at : ℕ). Sound ≡ verdictOf at (sound bytes ends))
+unfolding verdictOf
+is-sound e = record { at = 0; breaks = λ f. absurd (false≢true (sym f ∙ e)); claims = rw e refl }
+
+pub is-broken : {bytes ends : List ℕ} {i : ℕ} → (sound bytes ends ≡ false) × (breaksAt bytes ends i ≡ true) → Open bytes ends (λ (at : ℕ). Breaks i ≡ verdictOf at (sound bytes ends))
+unfolding verdictOf
+is-broken {i} e = record { at = i; breaks = λ f. e .1; claims = rw (e .0) refl }

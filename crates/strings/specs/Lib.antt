@@ -1,0 +1,4 @@
+pub mod Order
+pub mod Name
+pub mod Table
+pub mod Open

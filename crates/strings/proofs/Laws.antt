@@ -7,15 +7,15 @@ use native.Mathlib.Nat.{eq-or-lt-of-le}
 use mathlib.Core.List.{List, [], _∷_, _++_}
 use native.Mathlib.Omega.{arith}
 use native.Mathlib.Numerals.{add-one}
-use lib.ListN.{length, getD, take, drop, drop-of-length-le, length-append}
-use lib.Seq.{drop-cons}
+use lib.ListN.{length, getD, take, drop, drop-of-length-le, length-append, length-drop}
+use lib.Seq.{drop-cons, take-at}
 use lib.Dec.{ltb, leb, eqb}
 use borrow.Author.Tests.{lt-ltb, le-ltb, le-leb, lt-leb, eq-eqb, ne-eqb, ltb-true, leb-true, eqb-true}
 use Rattle.words.specs.Word.{pick}
 use Rattle.strings.specs.Order.{order, isBelow}
 use Rattle.strings.specs.Name.{between, inner, suffix, rest, isName}
-use Rattle.strings.specs.Table.{part, startOf, stringAt, allPrintable, endRight, rises, lastRight, rightAt, allBelow, sound, breaksAt, marksBelow, namesOf, Bounds}
-use Rattle.strings.specs.Open.{Open, verdictOf}
+use Rattle.strings.specs.Table.{Names, part, startOf, stringAt, allPrintable, endRight, rises, lastRight, rightAt, allBelow, sound, breaksAt, marksBelow, namesOf, Bounds}
+use Rattle.strings.specs.Open.{Said, verdictOf}
 use Rattle.strings.specs.declared.Verdict.the-variants.{Sound, Breaks}
 use Rattle.strings.specs.declared.Order.{Order}
 use Rattle.strings.specs.declared.Order.the-variants.{Below, Equal, Above}
@@ -230,6 +230,11 @@ module _ (bytes ends : List ℕ) where
   unfolding marksBelow
   marks-none = refl
 
+  pub marks-length : (i : ℕ) → length (marksBelow bytes ends i) ≡ i
+  unfolding marksBelow
+  marks-length zero = refl
+  marks-length (suc i) = length-append (marksBelow bytes ends i) _ ∙ rw (marks-length i) (add-one i)
+
   pub marks-all : (i : ℕ) → i ≡ length ends → marksBelow bytes ends i ≡ namesOf bytes ends
   unfolding namesOf
   marks-all i e = ap (marksBelow bytes ends) e
@@ -244,10 +249,19 @@ all-none ok = refl
 
 -- ---- what the check says
 
-pub is-sound : {bytes ends : List ℕ} → sound bytes ends ≡ true → Open bytes ends (λ (at : ℕ). Sound ≡ verdictOf at (sound bytes ends))
+pub is-sound : {bytes ends : List ℕ} → sound bytes ends ≡ true → Said bytes ends Sound
 unfolding verdictOf
-is-sound e = record { at = 0; breaks = λ f. absurd (false≢true (sym f ∙ e)); claims = rw e refl }
+is-sound e = record { at = 0; place = λ f. absurd (false≢true (sym f ∙ e)); is = rw e refl }
 
-pub is-broken : {bytes ends : List ℕ} {i : ℕ} → (sound bytes ends ≡ false) × (breaksAt bytes ends i ≡ true) → Open bytes ends (λ (at : ℕ). Breaks i ≡ verdictOf at (sound bytes ends))
+pub is-broken : {bytes ends : List ℕ} {i : ℕ} → (sound bytes ends ≡ false) × (breaksAt bytes ends i ≡ true) → Said bytes ends (Breaks i)
 unfolding verdictOf
-is-broken {i} e = record { at = i; breaks = λ f. e .1; claims = rw (e .0) refl }
+is-broken {i} e = record { at = i; place = λ f. e .1; is = rw (e .0) refl }
+
+pub names-made : {bytes ends x : List ℕ} (r : List ℕ) → x ≡ namesOf bytes ends → length r ≡ 1024 → length ends ≤ 1024 → Names bytes ends (x ++ drop (length ends) r)
+unfolding namesOf
+names-made {bytes} {ends} {x} r e p q =
+    let n : length x ≡ length ends = ap length e ∙ marks-length bytes ends (length ends) in
+    record {
+      long = length-append x _ ∙ rw (n, length-drop) (omega arith);
+      first = take-at x (drop (length ends) r) (length ends) n ∙ e;
+    }

@@ -1,22 +1,33 @@
--- Number 1 and its place, the only open one: some string where the rule breaks. What an entry promises holds for one such place.
+-- Number 1 and its place, the only open one: some string where the rule breaks.
 use Prim.Native.Nat.{ℕ}
 use mathlib.Core.Bool.{Bool, true, false}
 use mathlib.Core.Path.{_≡_}
 use mathlib.Core.List.{List}
-use Rattle.words.specs.Told.{Told, stops, gives, unless}
+use Rattle.words.specs.Told.{Told, unless}
 use Rattle.strings.specs.Table.{sound, breaksAt}
 use Rattle.strings.specs.declared.Verdict.{Verdict}
 use Rattle.strings.specs.declared.Verdict.the-variants.{Sound, Breaks}
 
-pub record Open (bytes ends : List ℕ) (claim : ℕ → Type 0) : Type 0 where
-  pub at : ℕ
-  pub breaks : sound bytes ends ≡ false → breaksAt bytes ends at ≡ true
-  pub claims : claim at
-
--- what the check of a string table says; `at` is the place under number 1
-unfoldable pub checked : {A : Type 0} → (at : ℕ) → List ℕ → List ℕ → Told A → Told A
-checked at bytes ends t = unless (sound bytes ends) 1 at t
+-- what is said of the place: here alone
+abbrev pub Place : List ℕ → List ℕ → ℕ → Type 0
+Place bytes ends at = sound bytes ends ≡ false → breaksAt bytes ends at ≡ true
 
 unfoldable pub verdictOf : ℕ → Bool → Verdict
 verdictOf at true = Sound
 verdictOf at false = Breaks at
+
+-- what `check` says of a table
+pub record Said (bytes ends : List ℕ) (v : Verdict) : Type 0 where
+  pub at : ℕ
+  pub place : Place bytes ends at
+  pub is : v ≡ verdictOf at (sound bytes ends)
+
+-- How every entry begins: 5 where a size is passed, then 1, whose place is `at`, then the rest of its checks and its work.
+unfoldable pub entryOf : {A : Type 0} → (sized : Bool) → (at : ℕ) → List ℕ → List ℕ → Told A → Told A
+entryOf sized at bytes ends t = unless sized 5 0 (unless (sound bytes ends) 1 at t)
+
+-- What an entry promises: it tells t, and behind the checks of sizes and strings that is u.
+pub record Answers {A : Type 0} (sized : Bool) (bytes ends : List ℕ) (t u : Told A) : Type 0 where
+  pub at : ℕ
+  pub place : Place bytes ends at
+  pub is : t ≡ entryOf sized at bytes ends u

@@ -80,3 +80,8 @@ pub record Bounds (bytes ends : List ℕ) (i a e : ℕ) : Type 0 where
   pub before : startOf ends (i - 1) ≤ a
   pub order : a ≤ e
   pub fits : e ≤ length bytes
+
+-- an array that begins with the marks of all strings
+pub record Names (bytes ends marks : List ℕ) : Type 0 where
+  pub long : length marks ≡ 1024
+  pub first : take (length ends) marks ≡ namesOf bytes ends

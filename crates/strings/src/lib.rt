@@ -4,10 +4,11 @@ ghost use mathlib.Core.Bool.{true, _||_, _&&_};
 ghost use Prim.Native.Nat.{ℕ, _+_, _<_, _≤_};
 ghost use lib.ListN.{length, drop, getD};
 ghost use Rattle.words.specs.Word.{pick};
+ghost use Rattle.words.specs.Sizes.{maxStrings};
 ghost use Rattle.strings.specs.Order.{order};
 ghost use Rattle.strings.specs.Name.{between, inner, suffix, rest, isName};
-ghost use Rattle.strings.specs.Table.{startOf, allPrintable, rises as risesOf, rightAt, allBelow, sound, namesOf, Bounds};
-ghost use Rattle.strings.specs.Open.{Open, verdictOf};
+ghost use Rattle.strings.specs.Table.{startOf, allPrintable, rises as risesOf, rightAt, allBelow, sound, namesOf, Bounds, Names};
+ghost use Rattle.strings.specs.Open.{Said};
 
 // How one string stands to another in byte order.
 pub enum Order {
@@ -184,7 +185,7 @@ fn right_at(bytes: &[u8], ends: &[u32], i: usize) -> bool
 
 // Tests a string table. Of a table that breaks the rule it names a string where it breaks.
 pub fn check(bytes: &[u8], ends: &[u32]) -> Verdict
-    ensures { λ r. ⌜ Open (now (bytes .entry)) (now (ends .entry)) (λ (at : ℕ). r ≡ verdictOf at (sound (now (bytes .entry)) (now (ends .entry)))) ⌝ }
+    ensures { λ r. ⌜ Said (now (bytes .entry)) (now (ends .entry)) r ⌝ }
 {
     if ends.len() == 0 {
         if bytes.len() == 0 {
@@ -225,4 +226,22 @@ fn mark(s: &[u8]) -> u8
         return 1;
     }
     0
+}
+
+// Room for the marks of all strings that a table may have.
+fn room() -> [u8; 1024]
+    ensures { λ r. ⌜ length r ≡ 1024 ⌝ }
+{
+    [0u8; 1024]
+}
+
+// The marks of a sound table of at most 1,024 strings: as many as there are strings, from the start of the array.
+pub fn names_of(bytes: &[u8], ends: &[u32]) -> [u8; 1024]
+    requires { ⌜ (sound (now bytes) (now ends) ≡ true) × (length (now ends) ≤ maxStrings) ⌝ }
+    ensures { λ r. ⌜ Names (now (bytes .entry)) (now (ends .entry)) r ⌝ }
+{
+    let mut names = room();
+    let n = ends.len();
+    mark_names(bytes, ends, &mut names[..n]);
+    names
 }

@@ -47,7 +47,7 @@ pub fn key_of(a: u32, b: u32) -> u64
 }
 
 // The key of the row at i.
-fn key_at(b: &[u32], i: usize) -> u64
+pub fn key_at(b: &[u32], i: usize) -> u64
     requires { ⌜ (i + 1) * width ≤ length (now b) ⌝ }
     ensures { λ r. ⌜ r ≡ keyOf (getD (now (b .entry)) (i * width) 0) (getD (now (b .entry)) (i * width + 1) 0) ⌝ }
 {

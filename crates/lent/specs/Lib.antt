@@ -1,0 +1,4 @@
+pub mod Rules
+pub mod Lent
+pub mod LentLaws
+pub mod Examples

@@ -7,7 +7,7 @@ use lib.Dec.{T, eqb, ltb, leb}
 use lib.Ieee.{binary64, toBits}
 use lib.Ieee.Scale.{finite}
 use Rattle.words.specs.Word.{pick}
-use Rattle.numbers.specs.Numbers.{ofWords}
+use Rattle.numbers.specs.Numbers.{ofWords, bitsOf, wholeAt}
 use Rattle.fold.specs.declared.Value.{Value}
 use Rattle.fold.specs.declared.Value.the-variants.{Integer, Long, Single, Float, Text}
 
@@ -40,14 +40,9 @@ literalKind (Single x) = 26
 literalKind (Float x) = 27
 literalKind (Text t) = 28
 
--- two's complement
-abbrev pub sign64 : ℤ → ℕ
-sign64 (pos n) = n
-sign64 (negsuc n) = 18446744073709551615 - n
-
 abbrev pub bits64 : Value → ℕ
-bits64 (Integer z) = sign64 z
-bits64 (Long z) = sign64 z
+bits64 (Integer z) = bitsOf z
+bits64 (Long z) = bitsOf z
 bits64 (Single x) = toBits binary64 x
 bits64 (Float x) = toBits binary64 x
 bits64 (Text t) = t
@@ -60,13 +55,10 @@ highOf v = bits64 v / 4294967296
 
 -- ---- back: the value of a row with these words
 
-abbrev pub ofSign64 : (low high : ℕ) → ℤ
-ofSign64 low high = cond (ltb high 2147483648) (pos (high * 4294967296 + low)) (negsuc (18446744073709551615 - (high * 4294967296 + low)))
-
 unfoldable pub valueOf : (kind low high : ℕ) → Value
 valueOf k low high =
-    pick (eqb k 24) (Integer (ofSign64 low high))
-    (pick (eqb k 25) (Long (ofSign64 low high))
+    pick (eqb k 24) (Integer (wholeAt low high))
+    (pick (eqb k 25) (Long (wholeAt low high))
     (pick (eqb k 26) (Single (ofWords low high))
     (pick (eqb k 27) (Float (ofWords low high))
     (Text low))))

@@ -14,10 +14,10 @@ use lib.Ieee.Bits.{ofBits-toBits, toBits-ofBits, toBits-lt, ofBits-fits}
 use lib.Ieee.Fits.{and-i, and-l, and-r}
 use lib.Ieee.Scale.{finite}
 use Rattle.words.specs.Word.{pick}
-use Rattle.numbers.specs.Numbers.{ofWords}
+use Rattle.numbers.specs.Numbers.{ofWords, bitsOf, wholeAt}
 use Rattle.numbers.specs.NumbersLaws.{no-nan, words-finite}
 use Rattle.numbers.specs.SignedLaws.{never}
-use Rattle.fold.specs.Value.{InRange, Good, Known, literalKind, sign64, bits64, lowOf, highOf, ofSign64, valueOf, wholeRule, floatRule, constRule}
+use Rattle.fold.specs.Value.{InRange, Good, Known, literalKind, bits64, lowOf, highOf, valueOf, wholeRule, floatRule, constRule}
 use Rattle.fold.specs.declared.Value.{Value}
 use Rattle.fold.specs.declared.Value.the-variants.{Integer, Long, Single, Float, Text}
 
@@ -40,27 +40,14 @@ join : (b : ℕ) → b / 4294967296 * 4294967296 + b % 4294967296 ≡ b
 join b = div-add-mod' b 4294967296
 
 -- ---- whole numbers
-pub neg-low : (z : ℤ) → InRange z → ltZ z (pos 0) ≡ true → z +ℤ pos 4294967296 ≡ pos (sign64 z % 4294967296)
-neg-low (pos n) h e = absurd (omega (arith, ltb-true n 0 e))
-neg-low (negsuc n) h e =
-    ap (λ (b : Bool). cond b (negsuc (suc n - suc 4294967296)) (pos (4294967296 - suc n))) (le-ltb 4294967296 (suc n) (omega arith)) ∙ ap pos (omega arith)
-
-pub neg-high : (z : ℤ) → InRange z → ltZ z (pos 0) ≡ true → 4294967295 ≡ sign64 z / 4294967296
-neg-high (pos n) h e = absurd (omega (arith, ltb-true n 0 e))
-neg-high (negsuc n) h e = omega arith
-
-pub pos-words : (z : ℤ) → InRange z → ltZ z (pos 0) ≡ false → (z ≡ pos (sign64 z % 4294967296)) × (0 ≡ sign64 z / 4294967296)
-pos-words (pos n) h e = (ap pos (omega arith), omega arith)
-pos-words (negsuc n) h e = never (sym e)
-
-sign-back : (low high : ℕ) → low < 4294967296 → high < 4294967296 → sign64 (ofSign64 low high) ≡ high * 4294967296 + low
+sign-back : (low high : ℕ) → low < 4294967296 → high < 4294967296 → bitsOf (wholeAt low high) ≡ high * 4294967296 + low
 sign-back low high h k = go (ltb high 2147483648)
   where
-    go : (b : Bool) → sign64 (cond b (pos (high * 4294967296 + low)) (negsuc (18446744073709551615 - (high * 4294967296 + low)))) ≡ high * 4294967296 + low
+    go : (b : Bool) → bitsOf (cond b (pos (high * 4294967296 + low)) (negsuc (18446744073709551615 - (high * 4294967296 + low)))) ≡ high * 4294967296 + low
     go true = refl
     go false = omega arith
 
-back-sign : (z : ℤ) → InRange z → ofSign64 (sign64 z % 4294967296) (sign64 z / 4294967296) ≡ z
+back-sign : (z : ℤ) → InRange z → wholeAt (bitsOf z % 4294967296) (bitsOf z / 4294967296) ≡ z
 back-sign (pos n) h =
     ap (λ (b : Bool). cond b (pos (n / 4294967296 * 4294967296 + n % 4294967296)) (negsuc (18446744073709551615 - (n / 4294967296 * 4294967296 + n % 4294967296))))
     (lt-ltb (n / 4294967296) 2147483648 (omega arith))
@@ -116,7 +103,7 @@ or-split : (a b : Bool) {X : Type 0} → T (a || b) → (T a → X) → (T b →
 or-split true b t f g = f tt
 or-split false b t f g = g t
 
-rule-range : (low high : ℕ) → low < 4294967296 → T (wholeRule low high) → InRange (ofSign64 low high)
+rule-range : (low high : ℕ) → low < 4294967296 → T (wholeRule low high) → InRange (wholeAt low high)
 rule-range low high k t =
     or-split (eqb high 0 && leb low 2147483648) (eqb high 4294967295 && leb 2147483648 low) t
     (λ (u : T (eqb high 0 && leb low 2147483648)).
@@ -124,13 +111,13 @@ rule-range low high k t =
     (λ (u : T (eqb high 4294967295 && leb 2147483648 low)).
     above (eqb→eq high 4294967295 (and-l (eqb high 4294967295) (leb 2147483648 low) u)) (leb→le 2147483648 low (and-r (eqb high 4294967295) (leb 2147483648 low) u)))
   where
-    at : (b : Bool) → ltb high 2147483648 ≡ b → InRange (cond b (pos (high * 4294967296 + low)) (negsuc (18446744073709551615 - (high * 4294967296 + low)))) → InRange (ofSign64 low high)
+    at : (b : Bool) → ltb high 2147483648 ≡ b → InRange (cond b (pos (high * 4294967296 + low)) (negsuc (18446744073709551615 - (high * 4294967296 + low)))) → InRange (wholeAt low high)
     at b e r = subst (λ (t : Bool). InRange (cond t (pos (high * 4294967296 + low)) (negsuc (18446744073709551615 - (high * 4294967296 + low))))) (sym e) r
 
-    below : high ≡ 0 → low ≤ 2147483648 → InRange (ofSign64 low high)
+    below : high ≡ 0 → low ≤ 2147483648 → InRange (wholeAt low high)
     below e l = at true (lt-ltb high 2147483648 (omega arith)) (omega arith)
 
-    above : high ≡ 4294967295 → 2147483648 ≤ low → InRange (ofSign64 low high)
+    above : high ≡ 4294967295 → 2147483648 ≤ low → InRange (wholeAt low high)
     above e l = at false (le-ltb high 2147483648 (omega arith)) (omega arith)
 
 or-left : (a b : Bool) → T a → T (a || b)
@@ -144,7 +131,7 @@ or-right false b t = t
 eq→T : (a b : ℕ) → a ≡ b → T (eqb a b)
 eq→T a b e = subst (λ (x : ℕ). T (eqb a x)) e (eqb-refl a)
 
-range-rule : (z : ℤ) → InRange z → T (wholeRule (sign64 z % 4294967296) (sign64 z / 4294967296))
+range-rule : (z : ℤ) → InRange z → T (wholeRule (bitsOf z % 4294967296) (bitsOf z / 4294967296))
 range-rule (pos n) h =
     or-left (eqb (n / 4294967296) 0 && leb (n % 4294967296) 2147483648) (eqb (n / 4294967296) 4294967295 && leb 2147483648 (n % 4294967296))
     (and-i (eqb (n / 4294967296) 0) (leb (n % 4294967296) 2147483648) (eq→T (n / 4294967296) 0 (omega arith)) (le→leb (n % 4294967296) 2147483648 (omega arith)))
@@ -195,9 +182,9 @@ same-words b low high h e = (omega arith, omega arith)
 case-words : (n : ℕ) {k low high : ℕ} → low < 4294967296 → high < 4294967296 → RuleCase n k low high → SameWords (valueOf k low high) k low high
 unfolding valueOf
 case-words n {low = low} {high = high} h g (integer t) =
-    let s = same-words (sign64 (ofSign64 low high)) low high h (sign-back low high h g) in record { kind-is = refl; low-is = s .0; high-is = s .1 }
+    let s = same-words (bitsOf (wholeAt low high)) low high h (sign-back low high h g) in record { kind-is = refl; low-is = s .0; high-is = s .1 }
 case-words n {low = low} {high = high} h g (long t) =
-    let s = same-words (sign64 (ofSign64 low high)) low high h (sign-back low high h g) in record { kind-is = refl; low-is = s .0; high-is = s .1 }
+    let s = same-words (bitsOf (wholeAt low high)) low high h (sign-back low high h g) in record { kind-is = refl; low-is = s .0; high-is = s .1 }
 case-words n {low = low} {high = high} h g (single t) =
     let s = same-words (toBits binary64 (ofWords low high)) low high h (back-float low high h g (subst T (words-finite low high h g) t)) in record { kind-is = refl; low-is = s .0; high-is = s .1 }
 case-words n {low = low} {high = high} h g (float t) =

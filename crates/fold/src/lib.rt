@@ -7,7 +7,7 @@ ghost use lib.IntN.{natAbs};
 ghost use lib.Ieee.Scale.{finite};
 ghost use Rattle.numbers.specs.Numbers.{ofWords};
 ghost use Rattle.numbers.specs.NumbersLaws.{Small};
-ghost use Rattle.fold.specs.Value.{Good, InRange, sign64, ofSign64, literalKind, lowOf, highOf, valueOf};
+ghost use Rattle.fold.specs.Value.{Good, InRange, literalKind, lowOf, highOf, valueOf};
 ghost use Rattle.fold.specs.Fold.{GoodFold, inInteger, inLong, negatedInteger, negatedLong, negated, negateOf, isText, rankOf, asF64, intOf, integerFold, longFold, singleFold, floatFold, divOf, rounded, partOf, isZero, ofWholes, wholeDivOf, intOp, floatOp, arithOf, opOf, binaryOf};
 use numbers::Halves;
 use numbers::Narrow;
@@ -39,30 +39,13 @@ pub struct ConstWords {
     pub high: u32,
 }
 
-// A whole number as two words, two's complement.
-fn whole_words(z: i64) -> TwoWords
-    requires { ⌜ InRange z ⌝ }
-    ensures { λ r. ⌜ (r .low ≡ sign64 z % 4294967296) × (r .high ≡ sign64 z / 4294967296) ⌝ }
-{
-    if z < 0 {
-        return TwoWords {
-            low: (z + 4294967296) as u32,
-            high: 4294967295,
-        };
-    }
-    TwoWords {
-        low: z as u32,
-        high: 0,
-    }
-}
-
 fn value_words(v: Value) -> TwoWords
     requires { ⌜ Good v ⌝ }
     ensures { λ r. ⌜ (r .low ≡ lowOf v) × (r .high ≡ highOf v) ⌝ }
 {
     match v {
-        Value::Integer(z) => whole_words(z),
-        Value::Long(z) => whole_words(z),
+        Value::Integer(z) => numbers::whole_words(z),
+        Value::Long(z) => numbers::whole_words(z),
         Value::Single(x) => numbers::words_of(x),
         Value::Float(x) => numbers::words_of(x),
         Value::Text(t) => TwoWords { low: t, high: 0 },
@@ -94,25 +77,14 @@ pub fn const_words(v: Value) -> ConstWords
     }
 }
 
-// Two's complement read back.
-fn of_whole_words(low: u32, high: u32) -> i64
-    ensures { λ r. ⌜ r ≡ ofSign64 low high ⌝ }
-{
-    let n = (high as u64) * 4294967296 + (low as u64);
-    if high < 2147483648 {
-        return n as i64;
-    }
-    -1 - ((18446744073709551615 - n) as i64)
-}
-
 // The value of a CONST row with these words.
 pub fn value_of(kind: u32, low: u32, high: u32) -> Value
     requires { ⌜ Good (valueOf kind low high) ⌝ }
     ensures { λ r. ⌜ r ≡ valueOf kind low high ⌝ }
 {
     match kind {
-        24 => Value::Integer(of_whole_words(low, high)),
-        25 => Value::Long(of_whole_words(low, high)),
+        24 => Value::Integer(numbers::of_whole_words(low, high)),
+        25 => Value::Long(numbers::of_whole_words(low, high)),
         26 => Value::Single(numbers::of_words(low, high)),
         27 => Value::Float(numbers::of_words(low, high)),
         _ => Value::Text(low),

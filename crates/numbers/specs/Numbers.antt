@@ -2,8 +2,8 @@
 -- A finite float is `fin s m e`, the number m * 2 ^ e = m * up e / down e, negative where s is true.
 use mathlib.Core.Path.{_≡_}
 use mathlib.Core.Bool.{Bool, true, false, cond}
-use Prim.Native.Nat.{ℕ, suc, _+_, _*_, _/_, _%_, _^_, _<_, _≤_, compare, Ordering, Ordering·lt, Ordering·eq, Ordering·gt}
-use lib.IntN.{ℤ, pos, negℤ}
+use Prim.Native.Nat.{ℕ, suc, _+_, _-_, _*_, _/_, _%_, _^_, _<_, _≤_, compare, Ordering, Ordering·lt, Ordering·eq, Ordering·gt}
+use lib.IntN.{ℤ, pos, negsuc, negℤ}
 use lib.Signed.{mag}
 use lib.Dec.{ltb}
 use lib.Ieee as Ieee
@@ -72,10 +72,17 @@ narrowOf x = finiteTo (narrowed x)
 abbrev pub doubleOf : ℤ → Float
 doubleOf z = Ieee.ofInt binary64 z
 
--- ---- a float as two words, the low first
+-- ---- 64 bits as two words, the low first: a float's, and a whole number's in two's complement
 
 abbrev pub ofWords : (low high : ℕ) → Float
 ofWords low high = Ieee.ofBits binary64 (high * 4294967296 + low)
+
+abbrev pub bitsOf : ℤ → ℕ
+bitsOf (pos n) = n
+bitsOf (negsuc n) = 18446744073709551615 - n
+
+abbrev pub wholeAt : (low high : ℕ) → ℤ
+wholeAt low high = cond (ltb high 2147483648) (pos (high * 4294967296 + low)) (negsuc (18446744073709551615 - (high * 4294967296 + low)))
 
 -- ---- x is sig * 2 ^ exp of the smallest f64, and sig has all 53 digits where exp is above 0
 pub record PartsOf (x : Float) (neg : Bool) (exp sig : ℕ) : Type 0 where

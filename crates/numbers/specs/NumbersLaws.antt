@@ -1,12 +1,13 @@
 -- What users of the conversions rest on: which floats are finite, that whole numbers below 2 ^ 53 are floats exactly, and which two words are a finite float's.
-use mathlib.Core.Path.{_≡_, refl, sym, ap, _∙_}
+use mathlib.Core.Path.{_≡_, refl, sym, ap, _∙_, subst}
 use mathlib.Core.Bool.{Bool, true, false, not, cond}
-use Prim.Native.Nat.{ℕ, zero, suc, _+_, _*_, _/_, _%_, _^_, _≤_, _<_}
+use Prim.Native.Nat.{ℕ, zero, suc, _+_, _-_, _*_, _/_, _%_, _^_, _≤_, _<_}
 use native.Mathlib.Nat.{le-trans, le-of-eq, lt-of-lt-of-le, mul-lt-mul-of-pos-right, mul-one}
 use native.Mathlib.Omega.{arith}
+use borrow.Author.Tests.{ltb-true, le-ltb}
 use lib.Dec.{T, eqb, ltb, ltb→lt}
-use lib.IntN.{ℤ, pos, negsuc, natAbs}
-use lib.Signed.{mag, nonNeg}
+use lib.IntN.{ℤ, pos, negsuc, natAbs, _+ℤ_}
+use lib.Signed.{nonNeg, ltZ}
 use lib.Pow.{pow-add, pow-pos, pow-mono}
 use lib.Ieee.{Float, nan, inf, fin, binary64, odd, ofFields, ofBits, ofInt, isNan, round}
 use lib.Ieee.Exact.{HasValue, round-exact}
@@ -14,7 +15,7 @@ use lib.Ieee.Scale.{finite}
 use Rattle.numbers.specs.declared.Halves.{Halves}
 use Rattle.numbers.specs.declared.Whole.{Whole}
 use Rattle.numbers.specs.declared.Whole.the-variants.{At, Out}
-use Rattle.numbers.specs.Numbers.{within, wholeOf, longOf, pickWhole, doubleOf, ofWords}
+use Rattle.numbers.specs.Numbers.{within, wholeOf, longOf, pickWhole, doubleOf, ofWords, bitsOf}
 
 -- ---- finite floats
 pub has-finite : (x : Float) (s : Bool) (a c : ℕ) → HasValue x s a c → T (finite x)
@@ -83,3 +84,17 @@ unfolding ofBits
 words-finite low high h k =
     ap (λ (f : ℕ). not (eqb f 2047)) (field-is low high h k)
     ∙ fields-finite _ ((high * 4294967296 + low) % 9223372036854775808 / 4503599627370496) ((high * 4294967296 + low) % 4503599627370496)
+
+-- ---- a whole number's words
+pub neg-low : (z : ℤ) → natAbs z < 4294967296 → ltZ z (pos 0) ≡ true → z +ℤ pos 4294967296 ≡ pos (bitsOf z % 4294967296)
+neg-low (pos n) h e = absurd (omega (arith, ltb-true n 0 e))
+neg-low (negsuc n) h e =
+    ap (λ (b : Bool). cond b (negsuc (suc n - suc 4294967296)) (pos (4294967296 - suc n))) (le-ltb 4294967296 (suc n) (omega arith)) ∙ ap pos (omega arith)
+
+pub neg-high : (z : ℤ) → natAbs z < 4294967296 → ltZ z (pos 0) ≡ true → 4294967295 ≡ bitsOf z / 4294967296
+neg-high (pos n) h e = absurd (omega (arith, ltb-true n 0 e))
+neg-high (negsuc n) h e = omega arith
+
+pub pos-words : (z : ℤ) → natAbs z < 4294967296 → ltZ z (pos 0) ≡ false → (z ≡ pos (bitsOf z % 4294967296)) × (0 ≡ bitsOf z / 4294967296)
+pos-words (pos n) h e = (ap pos (omega arith), omega arith)
+pos-words (negsuc n) h e = absurd (subst T e tt)

@@ -3,9 +3,10 @@ ghost use mathlib.Core.Path.{_≡_};
 ghost use mathlib.Core.Bool.{cond};
 ghost use Prim.Native.Nat.{ℕ, _+_, _-_, _*_, _^_, _<_, _≤_, _/_, _%_};
 ghost use lib.Dec.{T};
+ghost use lib.IntN.{natAbs};
 ghost use lib.Ieee.{binary64, toBits};
 ghost use lib.Ieee.Scale.{finite};
-ghost use Rattle.numbers.specs.Numbers.{near, halfOf, longOf, narrowOf, doubleOf, ofWords, PartsOf};
+ghost use Rattle.numbers.specs.Numbers.{near, halfOf, longOf, narrowOf, doubleOf, ofWords, bitsOf, wholeAt, PartsOf};
 
 // Where the half between two whole numbers goes: the rule for ties is a parameter of every rounding here.
 pub enum Halves {
@@ -163,7 +164,7 @@ pub fn is_finite(x: f64) -> bool
     false
 }
 
-// The two words of a finite float, the low first.
+// 64 bits as two words, the low first.
 pub struct TwoWords {
     pub low: u32,
     pub high: u32,
@@ -185,4 +186,32 @@ pub fn of_words(low: u32, high: u32) -> f64
     ensures { λ r. ⌜ r ≡ ofWords low high ⌝ }
 {
     f64::from_bits((high as u64) * 4294967296 + (low as u64))
+}
+
+// A whole number's words, two's complement.
+pub fn whole_words(z: i64) -> TwoWords
+    requires { ⌜ natAbs z < 4294967296 ⌝ }
+    ensures { λ r. ⌜ (r .low ≡ bitsOf z % 4294967296) × (r .high ≡ bitsOf z / 4294967296) ⌝ }
+{
+    if z < 0 {
+        return TwoWords {
+            low: (z + 4294967296) as u32,
+            high: 4294967295,
+        };
+    }
+    TwoWords {
+        low: z as u32,
+        high: 0,
+    }
+}
+
+// And back.
+pub fn of_whole_words(low: u32, high: u32) -> i64
+    ensures { λ r. ⌜ r ≡ wholeAt low high ⌝ }
+{
+    let n = (high as u64) * 4294967296 + (low as u64);
+    if high < 2147483648 {
+        return n as i64;
+    }
+    -1 - ((18446744073709551615 - n) as i64)
 }

@@ -4,9 +4,9 @@ use Prim.Native.Nat.{ℕ}
 use borrow.Author.Tests.{ne-eqb}
 use lib.Dec.{T}
 use lib.Ieee.Scale.{finite}
-use Rattle.numbers.specs.Numbers.{ofWords}
+use Rattle.numbers.specs.Numbers.{ofWords, wholeAt}
 use Rattle.numbers.specs.SignedLaws.{read}
-use Rattle.fold.specs.Value.{Good, ofSign64, valueOf}
+use Rattle.fold.specs.Value.{Good, valueOf}
 use Rattle.fold.specs.declared.Value.{Value}
 use Rattle.fold.specs.declared.Value.the-variants.{Integer, Long, Single, Float, Text}
 use borrow.Author.Needs.{needs}
@@ -17,11 +17,11 @@ use Rattle.fold.proofs.value_of.Tie as tie
 at : (k j low high : ℕ) → k ≡ j → valueOf j low high ≡ valueOf k low high
 at k j low high e = ap (λ (i : ℕ). valueOf i low high) (sym e)
 
-integer : (low high : ℕ) → Integer (ofSign64 low high) ≡ valueOf 24 low high
+integer : (low high : ℕ) → Integer (wholeAt low high) ≡ valueOf 24 low high
 unfolding valueOf
 integer low high = refl
 
-long : (low high : ℕ) → Long (ofSign64 low high) ≡ valueOf 25 low high
+long : (low high : ℕ) → Long (wholeAt low high) ≡ valueOf 25 low high
 unfolding valueOf
 long low high = refl
 

@@ -1,4 +1,4 @@
--- `fold::of_whole_words` meets its contract: below 2 ^ 63 the number itself, from there on -1 minus what is left to 2 ^ 64 - 1. Assumes nothing.
+-- `numbers::of_whole_words` meets its contract: below 2 ^ 63 the number itself, from there on -1 minus what is left to 2 ^ 64 - 1. Assumes nothing.
 use mathlib.Core.Path.{_≡_, refl, sym, ap, ap₂, _∙_, subst}
 use mathlib.Core.Bool.{Bool, true, false, cond}
 use Prim.Native.Nat.{ℕ, zero, suc, _+_, _-_, _*_, _^_, _≤_, _<_}
@@ -8,11 +8,11 @@ use lib.Dec.{ltb}
 use lib.IntN.{ℤ, pos, negsuc, _-ℤ_}
 use mir.Syntax.{w64}
 use mir.Val.{SFits, toZ, ofZ}
 use Rattle.numbers.specs.SignedLaws.{read, toZ-small}
-use Rattle.fold.specs.Value.{ofSign64}
+use Rattle.numbers.specs.Numbers.{wholeAt}
 use borrow.Author.Needs.{needs}
-use Rattle.fold.proofs.of_whole_words.Statement.{statement}
-use Rattle.fold.proofs.of_whole_words.Tie as tie
+use Rattle.numbers.proofs.of_whole_words.Statement.{statement}
+use Rattle.numbers.proofs.of_whole_words.Tie as tie
 
 mul-n : tie.Need-mul-n
 mul-n c = search needs
@@ -23,7 +23,7 @@ add-n c = search needs
 cast-result : tie.Need-cast-result
 cast-result c = search needs
 
-at : (low high : ℕ) (b : Bool) → ltb high 2147483648 ≡ b → cond b (pos (high * 4294967296 + low)) (negsuc (18446744073709551615 - (high * 4294967296 + low))) ≡ ofSign64 low high
+at : (low high : ℕ) (b : Bool) → ltb high 2147483648 ≡ b → cond b (pos (high * 4294967296 + low)) (negsuc (18446744073709551615 - (high * 4294967296 + low))) ≡ wholeAt low high
 at low high b e = ap (λ (t : Bool). cond t (pos (high * 4294967296 + low)) (negsuc (18446744073709551615 - (high * 4294967296 + low)))) (sym e)
 
 returns : tie.Need-returns

@@ -1,0 +1,4 @@
+pub mod Value
+pub mod Fold
+pub mod ValueLaws
+pub mod FoldLaws

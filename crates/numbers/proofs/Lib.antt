@@ -1,0 +1,5 @@
+pub mod Order
+pub mod Bits
+pub mod Value
+pub mod Long
+pub mod Single

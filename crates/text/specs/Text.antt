@@ -6,10 +6,10 @@ use mathlib.Core.List.{List, [], _∷_, _++_, map}
 use lib.Dec.{ltb}
 use Rattle.words.specs.Word.{pick}
 
--- the bytes of a text
-unfoldable pub bytes : S.String → List ℕ
-bytes S.[] = []
-bytes (S._∷_ c s) = code c ∷ bytes s
+-- the bytes of a literal
+unfoldable pub ascii : S.String → List ℕ
+ascii S.[] = []
+ascii (S._∷_ c s) = code c ∷ ascii s
 
 -- 0 to 9, then a to f
 unfoldable pub digit : ℕ → ℕ

@@ -1,0 +1,154 @@
+-- The table of the templates, and a template read byte by byte: the run of bytes from one start to the next is the template (`row`), and
+-- rendering it from the left is rendering it whole (`render-append`).
+use Prim.Native.Nat.{ℕ, zero, suc, _+_, _-_, _≤_, _<_}
+use native.Mathlib.Nat.{add-zero, zero-add}
+use native.Mathlib.Numerals.{add-one}
+use native.Mathlib.Omega.{arith}
+use mathlib.Core.Path.{_≡_, refl, sym, ap, _∙_}
+use mathlib.Core.List.{List, [], _∷_, _++_, append-assoc, append-nil, map}
+use borrow.Author.Tests.{ne-eqb}
+use lib.ListN.{length, take, drop, getD, length-append, length-drop, List·getD-eq-default}
+use lib.Seq.{take-suc, getD-drop, take-all, take-nil, drop-nil, drop-append-add, take-append-seam}
+use Rattle.text.specs.Text.{ascii, decimal}
+use Rattle.text.specs.Wrote.{Wrote}
+use Rattle.text.specs.Laws.{nothing, then, same}
+use Rattle.message.specs.declared.Diag.{Diag}
+use Rattle.message.specs.Message.{Template, error, error-with-note, templates, name, piece, render, messageLine, noteLine, said, lines}
+use Rattle.message.specs.Table.{run, table, flat, starts}
+
+pub long : length (flat table) ≡ 1325
+unfolding table run templates ascii flat
+long = refl
+
+pub many : length table ≡ 29
+unfolding table templates
+many = refl
+
+pub past : (i : ℕ) → 1325 ≤ i → 0 ≡ getD (flat table) i 0
+past i h = sym (List·getD-eq-default (flat table) 0 (omega (arith, long)))
+
+-- where a template starts
+starts-at : (n : ℕ) (ts : List (List ℕ)) (c : ℕ) → c ≤ length ts → getD (starts n ts) c 0 ≡ n + length (flat (take c ts))
+unfolding starts flat
+starts-at n [] zero h = sym (add-zero n)
+starts-at n [] (suc c) h = absurd (omega arith)
+starts-at n (t ∷ ts) zero h = sym (add-zero n)
+starts-at n (t ∷ ts) (suc c) h = starts-at (n + length t) ts c (omega arith) ∙ simp length-append (omega arith)
+
+pub start-here : (c : ℕ) → c < 30 → getD (starts 0 table) c 0 ≡ length (flat (take c table))
+start-here c h = starts-at 0 table c (omega (arith, many)) ∙ zero-add (length (flat (take c table)))
+
+pub start-past : (c : ℕ) → 30 ≤ c → 1325 ≡ length (flat (take c table))
+start-past c h = sym long ∙ ap (λ x. length (flat x)) (sym (take-all c table (omega (arith, many))))
+
+-- the run from one start to the next is the template
+row : (ts : List (List ℕ)) (c : ℕ) → take (length (flat (take (suc c) ts)) - length (flat (take c ts))) (drop (length (flat (take c ts))) (flat ts)) ≡ getD ts c []
+unfolding flat
+row [] c = rw (drop-nil, take-nil)
+row (t ∷ ts) zero =
+    let e : length (t ++ []) - 0 ≡ length t = simp length-append (omega arith) in
+    rw e (take-append-seam t (flat ts))
+row (t ∷ ts) (suc c) =
+    let a = length (flat (take c ts)) in
+    let b = length (flat (take (suc c) ts)) in
+    let e : length (t ++ flat (take (suc c) ts)) - length (t ++ flat (take c ts)) ≡ b - a = simp length-append (omega arith) in
+    rw (e, length-append t (flat (take c ts)), drop-append-add t (flat ts) a) (row ts c)
+
+-- rendering goes from left to right
+render-append : (bytes ends : List ℕ) (d : Diag) (xs ys : List ℕ) → render bytes ends d (xs ++ ys) ≡ render bytes ends d xs ++ render bytes ends d ys
+unfolding render
+render-append bytes ends d [] ys = refl
+render-append bytes ends d (x ∷ xs) ys = ap (λ r. piece bytes ends d x ++ r) (render-append bytes ends d xs ys) ∙ sym (append-assoc (piece bytes ends d x) (render bytes ends d xs) (render bytes ends d ys))
+
+render-one : (bytes ends : List ℕ) (d : Diag) (b : ℕ) → render bytes ends d (b ∷ []) ≡ piece bytes ends d b
+unfolding render
+render-one bytes ends d b = append-nil (piece bytes ends d b)
+
+-- what was written by the i-th byte of the table, from s on
+abbrev pub sofar : List ℕ → List ℕ → Diag → ℕ → ℕ → List ℕ
+sofar bytes ends d s i = render bytes ends d (take (i - s) (drop s (flat table)))
+
+pub at-start : (bytes ends : List ℕ) (d : Diag) {b : List ℕ} {at : ℕ} (s : ℕ) → Wrote (sofar bytes ends d s s) b b at at
+unfolding render
+at-start bytes ends d s =
+    let z : 0 ≡ s - s = omega arith in
+    same (ap (λ k. render bytes ends d (take k (drop s (flat table)))) z) nothing
+
+pub one-more : (bytes ends : List ℕ) (d : Diag) {a b c : List ℕ} {i j k : ℕ} (s n x : ℕ) → s ≤ n → n < 1325 → x ≡ getD (flat table) n 0 → Wrote (sofar bytes ends d s n) a b i j → Wrote (piece bytes ends d x) b c j k → Wrote (sofar bytes ends d s (n + 1)) a c i k
+one-more bytes ends d s n x h l e p q =
+    let t = drop s (flat table) in
+    let m : n + 1 - s ≡ suc (n - s) = omega arith in
+    let back : s + (n - s) ≡ n = omega arith in
+    let g : getD t (n - s) 0 ≡ x = getD-drop s (flat table) (n - s) 0 ∙ ap (λ y. getD (flat table) y 0) back ∙ sym e in
+    let short : n - s < length t = simp length-drop (omega (arith, long)) in
+    let grown : take (n + 1 - s) t ≡ take (n - s) t ++ (x ∷ []) = ap (λ y. take y t) m ∙ take-suc t (n - s) 0 short ∙ ap (λ y. take (n - s) t ++ (y ∷ [])) g in
+    same (sym (ap (render bytes ends d) grown ∙ render-append bytes ends d (take (n - s) t) (x ∷ []) ∙ ap (λ y. render bytes ends d (take (n - s) t) ++ y) (render-one bytes ends d x))) (then p q)
+
+pub at-end : (bytes ends : List ℕ) (d : Diag) (s i e : ℕ) → s ≡ length (flat (take (d .code) table)) → e ≡ length (flat (take (d .code + 1) table)) → i ≡ e → sofar bytes ends d s i ≡ render bytes ends d (getD table (d .code) [])
+at-end bytes ends d s i e p q r =
+    let one : i ≡ length (flat (take (suc (d .code)) table)) = r ∙ q ∙ ap (λ y. length (flat (take y table))) (add-one (d .code)) in
+    ap (render bytes ends d) (rw (one, p) (row table (d .code)))
+
+-- starts rise
+flat-rise : (ts : List (List ℕ)) (c : ℕ) → length (flat (take c ts)) ≤ length (flat (take (suc c) ts))
+unfolding flat
+flat-rise [] zero = omega arith
+flat-rise [] (suc c) = omega arith
+flat-rise (t ∷ ts) zero = omega arith
+flat-rise (t ∷ ts) (suc c) = simp length-append (omega (arith, flat-rise ts c))
+
+flat-all : (ts : List (List ℕ)) (c : ℕ) → length (flat (take c ts)) ≤ length (flat ts)
+unfolding flat
+flat-all ts zero = omega arith
+flat-all [] (suc c) = omega arith
+flat-all (t ∷ ts) (suc c) = simp length-append (omega (arith, flat-all ts c))
+
+pub bounds : (c s e : ℕ) → s ≡ length (flat (take c table)) → e ≡ length (flat (take (c + 1) table)) → (s ≤ e) × (e ≤ 1325)
+bounds c s e p q =
+    let r : e ≡ length (flat (take (suc c) table)) = q ∙ ap (λ y. length (flat (take y table))) (add-one c) in
+    (omega (arith, flat-rise table c), omega (arith, flat-all table (c + 1), long))
+
+-- ---- names and pieces
+
+pub end-at : (ends : List ℕ) (k : ℕ) → (k ≡ 0 → ⊥) → getD ends (k - 1) 0 ≡ getD (0 ∷ ends) k 0
+end-at ends zero h = absurd (h refl)
+end-at ends (suc k) h =
+    let e : suc k - 1 ≡ k = omega arith in
+    rw e
+
+pub end-past : (ends : List ℕ) (k : ℕ) → (k ≡ 0 → ⊥) → length ends ≤ k - 1 → 0 ≡ getD (0 ∷ ends) k 0
+end-past ends k h l = sym (List·getD-eq-default ends 0 l) ∙ end-at ends k h
+
+pub named : (bytes ends : List ℕ) (k l s e : ℕ) → l ≡ k - 1 → s ≡ getD (0 ∷ ends) l 0 → e ≡ getD (0 ∷ ends) k 0 → take (e - s) (drop s bytes) ≡ name bytes ends k
+unfolding name
+named bytes ends k l s e p q r = rw (r, q, p)
+
+pub plain : (bytes ends : List ℕ) (d : Diag) (b : ℕ) → (b ≡ 64 → ⊥) → (b ≡ 38 → ⊥) → (b ≡ 35 → ⊥) → (b ≡ 37 → ⊥) → (b ≡ 36 → ⊥) → (b ≡ 33 → ⊥) → (b ≡ 94 → ⊥) → b ∷ [] ≡ piece bytes ends d b
+unfolding piece
+plain bytes ends d b h₁ h₂ h₃ h₄ h₅ h₆ h₇ = rw (ne-eqb b 64 h₁, ne-eqb b 38 h₂, ne-eqb b 35 h₃, ne-eqb b 37 h₄, ne-eqb b 36 h₅, ne-eqb b 33 h₆, ne-eqb b 94 h₇)
+
+-- ---- the lines
+
+-- the line's end and the next line's front stand for themselves
+mark : (bytes ends : List ℕ) (d : Diag) (xs : List ℕ) → render bytes ends d (ascii "\nN " ++ xs) ≡ ascii "\nN " ++ render bytes ends d xs
+unfolding render piece ascii
+mark bytes ends d xs = refl
+
+-- the rendered run between the front and the end of a line is what is said
+run-said : (bytes ends : List ℕ) (d : Diag) (t : Template) → ascii "D " ++ (decimal (d .line) ++ (32 ∷ [] ++ (render bytes ends d (run t) ++ (10 ∷ [])))) ≡ said bytes ends d t
+unfolding run said messageLine noteLine ascii
+run-said bytes ends d (error m) = refl
+run-said bytes ends d (error-with-note m n) =
+    let r = render bytes ends d in
+    let e : r (ascii m ++ (ascii "\nN " ++ ascii n)) ≡ r (ascii m) ++ (ascii "\nN " ++ r (ascii n)) = render-append bytes ends d (ascii m) (ascii "\nN " ++ ascii n) ∙ ap (λ y. r (ascii m) ++ y) (mark bytes ends d (ascii n)) in
+    rw e (simp append-assoc)
+
+run-at : (ts : List Template) (c : ℕ) → getD (map run ts) c [] ≡ run (getD ts c (error ""))
+unfolding run ascii
+run-at [] c = refl
+run-at (t ∷ ts) zero = refl
+run-at (t ∷ ts) (suc c) = run-at ts c
+
+pub all-said : (bytes ends : List ℕ) (d : Diag) → ascii "D " ++ (decimal (d .line) ++ (32 ∷ [] ++ (render bytes ends d (getD table (d .code) []) ++ (10 ∷ [])))) ≡ lines bytes ends d
+unfolding lines table
+all-said bytes ends d = rw (run-at templates (d .code)) (run-said bytes ends d (getD templates (d .code) (error "")))

@@ -1,0 +1,125 @@
+// Writes text into a lent buffer, as much as fits. A writer's state is one place in it; a place past the end says that not all fitted.
+ghost use mathlib.Core.Path.{_≡_};
+ghost use mathlib.Core.List.{[], _∷_};
+ghost use Prim.Native.Nat.{_+_, _-_, _≤_, _<_, min};
+ghost use lib.ListN.{length, take, drop, replicate};
+ghost use lib.Seq.{sets};
+ghost use lib.Dec.{leb};
+ghost use Rattle.words.specs.Word.{pick};
+ghost use Rattle.text.specs.Text.{digit as digitOf, hex8, decimal};
+ghost use Rattle.text.specs.Wrote.{Wrote};
+
+pub fn put_byte(out: &mut [u8], at: usize, b: u8) -> usize
+    ensures { λ r. ⌜ Wrote (b ∷ []) (now (out .entry)) (now (out .exit)) at r ⌝ }
+{
+    if at < out.len() {
+        out[at] = b;
+        return at + 1;
+    }
+    out.len() + 1
+}
+
+fn less(a: usize, b: usize) -> usize
+    ensures { λ r. ⌜ r ≡ min a b ⌝ }
+{
+    if a < b { a } else { b }
+}
+
+// n bytes of s from `from` on: a loop without tests, which the compiler turns into wide moves.
+fn copy(out: &mut [u8], at: usize, s: &[u8], from: usize, n: usize)
+    requires { ⌜ (at + n ≤ length (now out)) × (from + n ≤ length (now s)) ⌝ }
+    ensures { λ _. ⌜ now (out .exit) ≡ sets (now (out .entry)) at (take n (drop from (now (s .entry)))) ⌝ }
+{
+    let mut i = 0;
+    while i < n {
+        out[at + i] = s[from + i];
+        i += 1;
+    }
+}
+
+// The bytes of s from `from` up to `to`, or to its end.
+pub fn put_part(out: &mut [u8], at: usize, s: &[u8], from: usize, to: usize) -> usize
+    ensures { λ r. ⌜ Wrote (take (to - from) (drop from (now (s .entry)))) (now (out .entry)) (now (out .exit)) at r ⌝ }
+{
+    let end = less(to, s.len());
+    if end < from {
+        return at;
+    }
+    if out.len() < at {
+        return at;
+    }
+    let size = end - from;
+    let n = less(size, out.len() - at);
+    copy(out, at, s, from, n);
+    if n < size {
+        return out.len() + 1;
+    }
+    at + n
+}
+
+pub fn put_bytes(out: &mut [u8], at: usize, s: &[u8]) -> usize
+    ensures { λ r. ⌜ Wrote (now (s .entry)) (now (out .entry)) (now (out .exit)) at r ⌝ }
+{
+    put_part(out, at, s, 0, s.len())
+}
+
+fn digit(n: u32) -> u8
+    requires { ⌜ n < 16 ⌝ }
+    ensures { λ r. ⌜ r ≡ digitOf n ⌝ }
+{
+    if n < 10 {
+        (48 + n) as u8
+    } else {
+        (87 + n) as u8
+    }
+}
+
+// A blank, and a word as eight hexadecimal digits.
+fn blank_and_digits(w: u32) -> [u8; 9]
+    ensures { λ r. ⌜ r ≡ 32 ∷ hex8 w ⌝ }
+{
+    [
+        b' ',
+        digit(w / 0x1000_0000 % 16),
+        digit(w / 0x100_0000 % 16),
+        digit(w / 0x10_0000 % 16),
+        digit(w / 0x1_0000 % 16),
+        digit(w / 0x1000 % 16),
+        digit(w / 0x100 % 16),
+        digit(w / 16 % 16),
+        digit(w % 16),
+    ]
+}
+
+// A word after a blank.
+pub fn put_word(out: &mut [u8], at: usize, w: u32) -> usize
+    ensures { λ r. ⌜ Wrote (32 ∷ hex8 w) (now (out .entry)) (now (out .exit)) at r ⌝ }
+{
+    let d = blank_and_digits(w);
+    put_bytes(out, at, &d)
+}
+
+pub fn put_decimal(out: &mut [u8], at: usize, n: u32) -> usize
+    ensures { λ r. ⌜ Wrote (decimal n) (now (out .entry)) (now (out .exit)) at r ⌝ }
+{
+    if n < 10 {
+        return put_byte(out, at, digit(n));
+    }
+    let next = put_decimal(out, at, n / 10);
+    put_byte(out, next, digit(n % 10))
+}
+
+// Ends a text: its length, or 0 and zeros where it didn't fit.
+pub fn finish(out: &mut [u8], at: usize) -> usize
+    ensures { λ r. ⌜ (r ≡ pick (leb at (length (now (out .entry)))) at 0) × (now (out .exit) ≡ pick (leb at (length (now (out .entry)))) (now (out .entry)) (replicate (length (now (out .entry))) 0)) ⌝ }
+{
+    if at <= out.len() {
+        return at;
+    }
+    let mut i = 0;
+    while i < out.len() {
+        out[i] = 0;
+        i += 1;
+    }
+    0
+}

@@ -1,0 +1,82 @@
+use Rattle.reader.proofs.erased_right.Statement.{statement}
+use Rattle.reader.proofs.erased_right.Tie as tie
+use Rattle.reader.proofs.erased_right.Reads as reads
+use Rattle.reader.proofs.erased_right.Lts as lts
+
+abbrev Inv-loop : tie.InvT-loop
+Inv-loop erased names low₀ i₀ low i = ?
+
+abbrev μ-loop : tie.MeasureT-loop
+μ-loop erased names low₀ i₀ low i = ?
+
+-- src/lib.rt:185:5
+loop-holds : tie.Need-loop-holds Inv-loop μ-loop
+loop-holds c = ?
+
+-- src/lib.rt:186:17
+mul-e : tie.Need-mul-e Inv-loop μ-loop
+mul-e c = ?
+
+-- src/lib.rt:186:17
+shared-slice-read-e : tie.Need-shared-slice-read-e Inv-loop μ-loop
+shared-slice-read-e c = ?
+
+-- src/lib.rt:186:17
+cast-e : tie.Need-cast-e Inv-loop μ-loop
+cast-e c = ?
+
+-- src/lib.rt:188:13
+returns : tie.Need-returns Inv-loop μ-loop
+returns c = ?
+
+-- src/lib.rt:191:13
+returns-2 : tie.Need-returns-2 Inv-loop μ-loop
+returns-2 c = ?
+
+-- src/lib.rt:193:12
+shared-slice-read-if3 : tie.Need-shared-slice-read-if3 Inv-loop μ-loop
+shared-slice-read-if3 c = ?
+
+-- src/lib.rt:194:13
+returns-3 : tie.Need-returns-3 Inv-loop μ-loop
+returns-3 c = ?
+
+-- src/lib.rt:196:15
+add-low : tie.Need-add-low Inv-loop μ-loop
+add-low c = ?
+
+-- src/lib.rt:197:9
+add-i : tie.Need-add-i Inv-loop μ-loop
+add-i c = ?
+
+-- src/lib.rt:185:5
+loop-less : tie.Need-loop-less Inv-loop μ-loop
+loop-less c = ?
+
+-- src/lib.rt:185:5
+loop-again : tie.Need-loop-again Inv-loop μ-loop
+loop-again c = ?
+
+-- src/lib.rt:180:1
+returns-4 : tie.Need-returns-4 Inv-loop μ-loop
+returns-4 c = ?
+
+pub erased-right-spec : {M : Type 1} → statement M
+erased-right-spec =
+    tie.close
+    (tie.spec
+    Inv-loop
+    μ-loop
+    loop-holds
+    mul-e
+    shared-slice-read-e
+    cast-e
+    returns
+    returns-2
+    shared-slice-read-if3
+    returns-3
+    add-low
+    add-i
+    loop-less
+    loop-again
+    returns-4)

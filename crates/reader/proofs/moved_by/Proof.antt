@@ -1,0 +1,24 @@
+use borrow.Author.Needs.{needs}
+use Rattle.reader.proofs.moved_by.Statement.{statement}
+use Rattle.reader.proofs.moved_by.Tie as tie
+use Rattle.reader.proofs.moved_by.Reads as reads
+use Rattle.reader.proofs.moved_by.Lts as lts
+
+-- src/lib.rt:139:23
+enum-known-answer : tie.Need-enum-known-answer
+enum-known-answer c = search needs
+
+-- src/lib.rt:147:21
+enum-told : tie.Need-enum-told
+enum-told c = search needs
+
+-- src/lib.rt:135:1
+returns : tie.Need-returns
+returns c = ?
+
+-- src/lib.rt:135:1
+returns-2 : tie.Need-returns-2
+returns-2 c = ?
+
+pub moved-by-spec : {M : Type 1} → statement M
+moved-by-spec = tie.close (tie.spec enum-known-answer enum-told returns returns-2)

@@ -1,0 +1,39 @@
+use borrow.Author.Needs.{needs}
+use Rattle.reader.proofs.passed.Statement.{statement}
+use Rattle.reader.proofs.passed.Tie as tie
+use Rattle.reader.proofs.passed.Reads as reads
+use Rattle.reader.proofs.passed.Lts as lts
+use Rattle.reader.proofs.word.Reads as word-reads
+
+-- src/lib.rt:57:20
+enum-known-s : tie.Need-enum-known-s
+enum-known-s c = search needs
+
+-- src/lib.rt:60:23
+word-requires : tie.Need-word-requires
+word-requires c κs = search needs
+
+-- src/lib.rt:65:21
+enum-known-s-2 : tie.Need-enum-known-s-2
+enum-known-s-2 c = search needs
+
+-- src/lib.rt:66:20
+enum-known-s-3 : tie.Need-enum-known-s-3
+enum-known-s-3 c = search needs
+
+-- src/lib.rt:53:1
+returns : tie.Need-returns
+returns c = ?
+
+-- src/lib.rt:53:1
+returns-2 : tie.Need-returns-2
+returns-2 c = ?
+
+-- src/lib.rt:53:1
+returns-3 : tie.Need-returns-3
+returns-3 c = ?
+
+pub passed-spec : {M : Type 1} → statement M
+passed-spec =
+    tie.close
+    (tie.spec enum-known-s word-requires enum-known-s-2 enum-known-s-3 returns returns-2 returns-3)

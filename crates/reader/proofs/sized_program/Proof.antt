@@ -1,0 +1,21 @@
+use borrow.Author.Needs.{needs}
+use Rattle.reader.proofs.sized_program.Statement.{statement}
+use Rattle.reader.proofs.sized_program.Tie as tie
+use Rattle.reader.proofs.sized_program.Reads as reads
+use Rattle.reader.proofs.sized_program.Lts as lts
+use Rattle.reader.proofs.sized_tree.Reads as sized-tree-reads
+
+-- src/lib.rt:226:9
+sized-tree-requires : tie.Need-sized-tree-requires
+sized-tree-requires c κs = search needs
+
+-- src/lib.rt:227:9
+returns : tie.Need-returns
+returns c = ?
+
+-- src/lib.rt:223:1
+returns-2 : tie.Need-returns-2
+returns-2 c = ?
+
+pub sized-program-spec : {M : Type 1} → statement M
+sized-program-spec = tie.close (tie.spec sized-tree-requires returns returns-2)

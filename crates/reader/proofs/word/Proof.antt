@@ -1,0 +1,24 @@
+use borrow.Author.Needs.{needs}
+use Rattle.reader.proofs.word.Statement.{statement}
+use Rattle.reader.proofs.word.Tie as tie
+use Rattle.reader.proofs.word.Reads as reads
+use Rattle.reader.proofs.word.Lts as lts
+
+-- src/lib.rt:47:9
+returns : tie.Need-returns
+returns c = ?
+
+-- src/lib.rt:49:5
+mul-result : tie.Need-mul-result
+mul-result c = search needs
+
+-- src/lib.rt:49:5
+shared-slice-read-result : tie.Need-shared-slice-read-result
+shared-slice-read-result c = search needs
+
+-- src/lib.rt:43:1
+returns-2 : tie.Need-returns-2
+returns-2 c = search needs
+
+pub word-spec : {M : Type 1} → statement M
+word-spec = tie.close (tie.spec returns mul-result shared-slice-read-result returns-2)

@@ -18,11 +18,11 @@ use Rattle.strings.specs.Table.{Names, namesOf}
 use Rattle.expr.specs.Got.{Got, got, wrong, deep}
 use Rattle.expr.specs.Answer.{stepOf}
 use Rattle.expr.specs.declared.Step.{Step}
-use Rattle.tree.specs.Verdict.{verdictOf}
-use Rattle.tree.specs.declared.Verdict.{Verdict}
+use Rattle.expr.specs.declared.Step.the-variants.{Read, Wrong, Deep}
+use Rattle.tree.specs.Reader.{programAt}
 use Rattle.reader.specs.Sized.{sizedStrings, sizedTree, sizedProgram}
 use Rattle.reader.specs.Reading.{nodeOf, nodeOfStep, told, movedOf}
-use Rattle.reader.specs.Program.{wholeOf, erasedFrom, programOf, acceptedOf, verdict, told as toldProgram}
+use Rattle.reader.specs.Program.{wholeOf, erasedFrom, programOf, acceptedOf, verdict, endOf, told as toldProgram}
 use Rattle.reader.specs.declared.Node.{Node}
 use Rattle.reader.specs.declared.Accepted.{Accepted}
 use Rattle.reader.specs.declared.Accepted.the-variants.{Fine, Refused}
@@ -88,12 +88,62 @@ few-marks n p = omega (arith, as-many n p)
 
 -- ---- whole programs
 
-pub word-wrong : {A B : Type 0} (ws : List ℕ) (g : Got A) (k : A → Told B) (v : Verdict) → v ≡ verdictOf ws g → v .number ≡ 2 → stops 2 (v .place) ≡ verdict (after (wholeOf ws g) k)
-unfolding verdictOf wholeOf after verdict
-word-wrong ws (got p m) k v e h = by-test (eqb m (length ws)) refl
-  where
-    by-test : (t : Bool) → eqb m (length ws) ≡ t → stops 2 (v .place) ≡ verdict (after (pick (eqb m (length ws)) (gives p) (stops 2 m)) k)
-    by-test true q = absurd (omega (arith, ap (λ (x : Verdict). x .number) e, ap (λ (t : Bool). pick t 0 2) q))
-    by-test false q = ?
-word-wrong ws (wrong p) k v e h = ap (λ (x : Verdict). stops 2 (x .place)) e
-word-wrong ws (deep p) k v e h = absurd (omega (arith, ap (λ (x : Verdict). x .number) e))
+unfoldable pub stepTold : List ℕ → List ℕ → List ℕ → Step → Told (Unit {0})
+unfolding endOf
+stepTold ns ws erased (Read c) = endOf ns ws erased (c .at)
+stepTold ns ws erased (Wrong p) = stops 2 p
+stepTold ns ws erased (Deep p) = stops 3 p
+
+module _ (ns ws erased : List ℕ) where
+  pub end-over : (at : ℕ) → (at ≡ length ws → ⊥) → stops 2 at ≡ endOf ns ws erased at
+  unfolding endOf
+  end-over at n = rw (ne-eqb at (length ws) n) refl
+
+  pub end-fine : (at : ℕ) → at ≡ length ws → erasedFrom ns 0 erased ≡ true → gives tt ≡ endOf ns ws erased at
+  unfolding endOf unless
+  end-fine at n e = rw (eq-eqb at (length ws) n, e) refl
+
+  pub end-erased : (at : ℕ) → at ≡ length ws → erasedFrom ns 0 erased ≡ false → stops 4 0 ≡ endOf ns ws erased at
+  unfolding endOf unless
+  end-erased at n e = rw (eq-eqb at (length ws) n, e) refl
+
+  by-ok : {A : Type 0} (a : A) (b : Bool) → unless {A = Unit {0}} b 4 0 (gives tt) ≡ verdict (unless b 4 0 (gives a))
+  unfolding verdict unless
+  by-ok a true = refl
+  by-ok a false = refl
+
+  by-end : {A : Type 0} (a : A) (m : ℕ) (b : Bool) → pick b (unless (erasedFrom ns 0 erased) 4 0 (gives tt)) (stops 2 m) ≡ verdict (after (pick b (gives a) (stops 2 m)) (λ p. unless (erasedFrom ns 0 erased) 4 0 (gives p)))
+  unfolding verdict after
+  by-end a m true = by-ok a (erasedFrom ns 0 erased)
+  by-end a m false = refl
+
+  by-got : {A : Type 0} (g : Got A) → stepTold ns ws erased (stepOf g) ≡ verdict (after (wholeOf ws g) (λ p. unless (erasedFrom ns 0 erased) 4 0 (gives p)))
+  unfolding stepTold stepOf wholeOf endOf after verdict
+  by-got (got a m) = by-end a m (eqb m (length ws))
+  by-got (wrong p) = refl
+  by-got (deep p) = refl
+
+  -- the answer from the step that reading took
+  pub program-told : {s : Step} → s ≡ stepOf (programAt ws ns (length ns)) → stepTold ns ws erased s ≡ verdict (acceptedOf ns ws erased)
+  unfolding acceptedOf programOf
+  program-told e = ap (stepTold ns ws erased) e ∙ by-got (programAt ws ns (length ns))
+
+-- ---- erased names
+
+module _ (ns es : List ℕ) (low i : ℕ) where
+  pub erased-none : length es ≤ i → erasedFrom ns low (drop i es) ≡ true
+  unfolding erasedFrom
+  erased-none p = rw (drop-of-length-le es p) refl
+
+  pub erased-more : i < length es → erasedFrom ns low (drop i es) ≡ (leb low (getD es i 0) && (eqb (getD ns (getD es i 0) 0) 1 && erasedFrom ns (getD es i 0 + 1) (drop (i + 1) es)))
+  unfolding erasedFrom
+  erased-more p = rw (add-one i, drop-cons es i 0 p) refl
+
+  pub erased-low : i < length es → getD es i 0 < low → erasedFrom ns low (drop i es) ≡ false
+  erased-low p q = erased-more p ∙ and-false _ _ (lt-leb low (getD es i 0) q)
+
+  pub erased-not : i < length es → low ≤ getD es i 0 → (getD ns (getD es i 0) 0 ≡ 1 → ⊥) → erasedFrom ns low (drop i es) ≡ false
+  erased-not p q n = erased-more p ∙ and-true _ _ (le-leb low (getD es i 0) q) ∙ and-false _ _ (ne-eqb (getD ns (getD es i 0) 0) 1 n)
+
+  pub erased-next : i < length es → low ≤ getD es i 0 → getD ns (getD es i 0) 0 ≡ 1 → erasedFrom ns low (drop i es) ≡ erasedFrom ns (getD es i 0 + 1) (drop (i + 1) es)
+  erased-next p q n = erased-more p ∙ and-true _ _ (le-leb low (getD es i 0) q) ∙ and-true _ _ (eq-eqb (getD ns (getD es i 0) 0) 1 n)

@@ -47,3 +47,8 @@ verdict (gives a) = gives tt
 unfoldable pub told : Accepted → Told (Unit {0})
 told Fine = gives tt
 told (Refused r) = refused r
+
+-- what is left to ask of a tree that was read up to `at`
+unfoldable pub endOf : List ℕ → List ℕ → List ℕ → ℕ → Told (Unit {0})
+unfolding erasedFrom
+endOf ns ws erased at = pick (eqb at (length ws)) (unless (erasedFrom ns 0 erased) 4 0 (gives tt)) (stops 2 at)

@@ -12,7 +12,7 @@ ghost use Rattle.strings.specs.Table.{namesOf};
 ghost use Rattle.strings.specs.Open.{Answers};
 ghost use Rattle.reader.specs.Sized.{sizedTree as sizedTreeOf, sizedProgram as sizedProgramOf};
 ghost use Rattle.reader.specs.Reading.{nodeOfStep, statementOf, expressionOf, told, movedOf};
-ghost use Rattle.reader.specs.Program.{erasedFrom, acceptedOf, verdict, told as toldProgram};
+ghost use Rattle.reader.specs.Program.{erasedFrom, acceptedOf, verdict, endOf, told as toldProgram};
 
 // A node: its head word, its place, and the place past it.
 pub struct Node {
@@ -176,7 +176,7 @@ pub enum Accepted {
     Refused(Refusal),
 }
 
-// Whether the names' numbers from the i-th on rise strictly, from `low` on.
+// Whether the erased names rise strictly, each a name's number.
 fn erased_right(erased: &[u32], names: &[u8]) -> bool
     ensures { λ r. ⌜ r ≡ erasedFrom (now (names .entry)) 0 (now (erased .entry)) ⌝ }
 {
@@ -199,24 +199,33 @@ fn erased_right(erased: &[u32], names: &[u8]) -> bool
     true
 }
 
-// A program's words and erased names, where the names' marks are known: what all later entries ask first.
-pub fn check_program(words: &[u32], erased: &[u32], names: &[u8]) -> Accepted
-    requires { ⌜ length (now names) ≤ maxStrings ⌝ }
-    ensures { λ r. ⌜ toldProgram r ≡ verdict (acceptedOf (now (names .entry)) (now (words .entry)) (now (erased .entry))) ⌝ }
+// A program that was read up to `at`: whether that is all, and its erased names.
+fn whole(at: usize, words: &[u32], erased: &[u32], names: &[u8]) -> Accepted
+    ensures { λ r. ⌜ toldProgram r ≡ endOf (now (names .entry)) (now (words .entry)) (now (erased .entry)) at ⌝ }
 {
-    let v = tree::accept(words, names, names.len() as u32);
-    let number = v.number;
-    let place = v.place;
-    if number == 2 {
-        return Accepted::Refused(Refusal::Word(place));
-    }
-    if number == 3 {
-        return Accepted::Refused(Refusal::Depth(place));
+    if at != words.len() {
+        return Accepted::Refused(Refusal::Word(at));
     }
     if erased_right(erased, names) {
         return Accepted::Fine;
     }
     Accepted::Refused(Refusal::Erased)
+}
+
+// A program's words and erased names, where the names' marks are known: what all later entries ask first.
+pub fn check_program(words: &[u32], erased: &[u32], names: &[u8]) -> Accepted
+    requires { ⌜ length (now names) ≤ maxStrings ⌝ }
+    ensures { λ r. ⌜ toldProgram r ≡ verdict (acceptedOf (now (names .entry)) (now (words .entry)) (now (erased .entry))) ⌝ }
+{
+    let s = tree::program(words, names, names.len() as u32);
+    match s {
+        Step::Read(c) => {
+            let at = c.at;
+            whole(at, words, erased, names)
+        }
+        Step::Wrong(p) => Accepted::Refused(Refusal::Word(p)),
+        Step::Deep(p) => Accepted::Refused(Refusal::Depth(p)),
+    }
 }
 
 // Whether a program is within the sizes.

@@ -1,5 +1,5 @@
 -- The definition runs: the scope paper's example, and words that it refuses. Assumes nothing.
-use Prim.Native.Nat.{ℕ, zero, suc}
+use Prim.Native.Nat.{ℕ}
 use mathlib.Core.Path.{_≡_, refl}
 use mathlib.Core.List.{List, [], _∷_}
 use Rattle.expr.specs.Expr.{Expr, Lit, Elem, Paren, Integer, none as noExpr, more as andExpr, finite}
@@ -7,7 +7,6 @@ use Rattle.expr.specs.Got.{Got, got, wrong, deep, bind}
 use Rattle.expr.specs.Reader.{rawAt, testAt, leafAt, nameAt, headAt, floatAt, literalBody, literalAt, exprsAt, listAt, bodyAt, exprAt}
 use Rattle.tree.specs.Sorts.{Sort, stmt, many, nil, _&_, sorts, kindAt, kinds, dim, let′}
 use Rattle.tree.specs.Tree.{Tree, one, word, value, Stmt, list, part, this, that, done, cons, none, more}
-use Rattle.tree.specs.Verdict.{verdictOf}
 use Rattle.tree.specs.Reader.{wordAt, neverAt, isAt, stmtHead, rowsAt, fieldAt, rowAt, restAt, stmtAt, programAt}
 
 -- DIM A(5) on line 1, X = (A(2)) on line 2; both strings are names
@@ -40,24 +39,7 @@ early-end : programAt (0x01000001 ∷ 0x66000001 ∷ 0x36000000 ∷ 0x30000000 �
 unfolding programAt fieldAt rowAt rowsAt restAt stmtAt stmtHead wordAt neverAt isAt rawAt testAt leafAt nameAt headAt floatAt literalBody literalAt exprsAt listAt bodyAt exprAt bind sorts kindAt kinds
 early-end = refl
 
--- DO loops one in another: a hundred levels pass, and the head of the next one is too deep
-nest : ℕ → List ℕ
-nest zero = 0x01000000 ∷ []
-nest (suc k) = 0x01000001 ∷ 0x49000001 ∷ 0 ∷ 0x03000000 ∷ 0x03000000 ∷ nest k
-
-hundred : verdictOf (nest 100) (programAt (nest 100) [] 0) ≡ record { number = 0; place = 0 }
-unfolding programAt fieldAt rowAt rowsAt restAt stmtAt stmtHead wordAt neverAt isAt rawAt testAt leafAt nameAt headAt floatAt literalBody literalAt exprsAt listAt bodyAt exprAt bind sorts kindAt kinds nest verdictOf
-hundred = refl
-
-one-more : verdictOf (nest 101) (programAt (nest 101) [] 0) ≡ record { number = 3; place = 501 }
-unfolding programAt fieldAt rowAt rowsAt restAt stmtAt stmtHead wordAt neverAt isAt rawAt testAt leafAt nameAt headAt floatAt literalBody literalAt exprsAt listAt bodyAt exprAt bind sorts kindAt kinds nest verdictOf
-one-more = refl
-
--- a name inside an expression must be a name too: X = Y, with Y's string no name, is wrong at Y; as a DATA text it is right
+-- a name inside an expression must be a name too: X = Y, with Y's string no name, is wrong at Y
 not-in-expr : programAt (0x01000001 ∷ 0x42000001 ∷ 0x02000000 ∷ 0 ∷ 0x11000000 ∷ 0x02000001 ∷ []) (1 ∷ 0 ∷ []) 2 ≡ wrong 5
 unfolding programAt fieldAt rowAt rowsAt restAt stmtAt stmtHead wordAt neverAt isAt rawAt testAt leafAt nameAt headAt floatAt literalBody literalAt exprsAt listAt bodyAt exprAt bind sorts kindAt kinds
 not-in-expr = refl
-
-as-data : verdictOf (0x01000001 ∷ 0x5f000001 ∷ 0x01000001 ∷ 0x02000001 ∷ 0x03000000 ∷ []) (programAt (0x01000001 ∷ 0x5f000001 ∷ 0x01000001 ∷ 0x02000001 ∷ 0x03000000 ∷ []) (1 ∷ 0 ∷ []) 2) ≡ record { number = 0; place = 0 }
-unfolding programAt fieldAt rowAt rowsAt restAt stmtAt stmtHead wordAt neverAt isAt rawAt testAt leafAt nameAt headAt floatAt literalBody literalAt exprsAt listAt bodyAt exprAt bind sorts kindAt kinds verdictOf
-as-data = refl

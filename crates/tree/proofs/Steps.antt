@@ -25,8 +25,6 @@ use Rattle.expr.proofs.Step.{the-type}
 use Rattle.tree.specs.Sorts.{Leaf, Sort, leaf, expr, stmt, many, group, either, never, Sorts, nil, _&_, flag, whole, letter, oneOf, named, quoted, opt, exprs, body, GotoTarget, TypeRef, PrintItem, CaseClause, ResumeTarget, Kind, sorts, kinds, kindAt, lock}
 use Rattle.tree.specs.Tree.{strings, Shape, one, row, rows, Tree, word, value, Stmt, list, part, this, that, done, cons, none, more, kindL, okL, between}
 use Rattle.tree.specs.Codes.{parts, allRows, rowOf, singles, sortAt, decode, chain, partCodes, stmtCodes, codes, decoded}
-use Rattle.tree.specs.Verdict.{verdictOf}
-use Rattle.tree.specs.declared.Verdict.{Verdict}
 use Rattle.tree.specs.Reader.{wordAt, neverAt, isAt, stmtHead, rowsAt, fieldAt, rowAt, restAt, stmtAt, programAt}
 
 -- a number past the end of the flags is no name's
@@ -428,35 +426,6 @@ stmt-go ws ns n zero at z a b c h = absurd (z refl)
 stmt-go ws ns n (suc d) at {r} z a b c h =
     let q : rowOf (kindOf (getD ws at 0) - 64 + 39) ≡ sorts (kindAt (kindOf (getD ws at 0) - 64)) = row-kind (kindOf (getD ws at 0) - 64) (omega arith) in
     rw (head-ok ws at a b c) (last (Stmt _ _) _ (rw (sub-one, q) at h))
-
--- the verdict, from the answer
-verdictS : List ℕ → Step → Verdict
-verdictS ws (Read c) = pick (eqb (c .at) (length ws)) (record { number = 0; place = 0 }) (record { number = 2; place = c .at })
-verdictS ws (Wrong p) = record { number = 2; place = p }
-verdictS ws (Deep p) = record { number = 3; place = p }
-
-verdict-step : {A : Type 0} (ws : List ℕ) (g : Got A) → verdictOf ws g ≡ verdictS ws (stepOf g)
-unfolding verdictOf verdictS stepOf
-verdict-step ws (got a m) = refl
-verdict-step ws (wrong p) = refl
-verdict-step ws (deep p) = refl
-
-module _ {A : Type 0} (ws : List ℕ) (g : Got A) {s : Step} (e : s ≡ stepOf g) where
-  pub verdict-all : {c : Cursor} → s ≡ Read c → c .at ≡ length ws → record { number = 0; place = 0 } ≡ verdictOf ws g
-  unfolding verdictS
-  verdict-all {c} q z = sym (verdict-step ws g ∙ ap (verdictS ws) (sym e ∙ q) ∙ simp (eq-eqb (c .at) (length ws) z))
-
-  pub verdict-over : {c : Cursor} → s ≡ Read c → (c .at ≡ length ws → ⊥) → record { number = 2; place = c .at } ≡ verdictOf ws g
-  unfolding verdictS
-  verdict-over {c} q z = sym (verdict-step ws g ∙ ap (verdictS ws) (sym e ∙ q) ∙ simp (ne-eqb (c .at) (length ws) z))
-
-  pub verdict-wrong : {p : ℕ} → s ≡ Wrong p → record { number = 2; place = p } ≡ verdictOf ws g
-  unfolding verdictS
-  verdict-wrong q = sym (verdict-step ws g ∙ ap (verdictS ws) (sym e ∙ q))
-
-  pub verdict-deep : {p : ℕ} → s ≡ Deep p → record { number = 3; place = p } ≡ verdictOf ws g
-  unfolding verdictS
-  verdict-deep q = sym (verdict-step ws g ∙ ap (verdictS ws) (sym e ∙ q))
 
 -- the program is the list of the rows number 4
 pub program-is : (ws ns : List ℕ) (n : ℕ) {s : Step} → s ≡ stepOf (fieldAt ws ns n (exprAt ws (strings ns n) 100) (stmtAt ws ns n 100) (many (rowOf 4)) 0) → s ≡ stepOf (programAt ws ns n)

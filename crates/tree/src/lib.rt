@@ -10,7 +10,6 @@ ghost use Rattle.tree.specs.Sorts.{Sort, many, group, opt, nil};
 ghost use Rattle.tree.specs.Tree.{between, strings};
 ghost use Rattle.tree.specs.Codes.{codes, sortAt, rowOf, chain, allRows};
 ghost use Rattle.tree.specs.Reader.{wordAt, neverAt, fieldAt, rowAt, stmtAt, programAt};
-ghost use Rattle.tree.specs.Verdict.{verdictOf};
 ghost use Rattle.expr.specs.Reader.{exprAt};
 ghost use Rattle.expr.specs.Answer.{stepOf};
 
@@ -339,39 +338,9 @@ pub fn stmt(c: Cursor, words: &[u32], names: &[u8], n: u32, left: usize) -> Step
     }
 }
 
-// What stops a call: a number and a place, both 0 where nothing does.
-pub struct Verdict {
-    pub number: u32,
-    pub place: usize,
-}
-
-// A whole program: one list of statements, and no word over. The deepest level is 100.
-pub fn accept(words: &[u32], names: &[u8], n: u32) -> Verdict
-    ensures { λ r. ⌜ r ≡ verdictOf (now (words .entry)) (programAt (now (words .entry)) (now (names .entry)) n) ⌝ }
+// A whole program: one list of statements. The deepest level is 100.
+pub fn program(words: &[u32], names: &[u8], n: u32) -> Step
+    ensures { λ r. ⌜ r ≡ stepOf (programAt (now (words .entry)) (now (names .entry)) n) ⌝ }
 {
-    let s = rows(Cursor { at: 0 }, words, names, n, 100, 4);
-    match s {
-        Step::Read(c) => {
-            let at = c.at;
-            if at == words.len() {
-                Verdict {
-                    number: 0,
-                    place: 0,
-                }
-            } else {
-                Verdict {
-                    number: 2,
-                    place: at,
-                }
-            }
-        }
-        Step::Wrong(p) => Verdict {
-            number: 2,
-            place: p,
-        },
-        Step::Deep(p) => Verdict {
-            number: 3,
-            place: p,
-        },
-    }
+    rows(Cursor { at: 0 }, words, names, n, 100, 4)
 }

@@ -1,3 +1,7 @@
+use Rattle.reader.specs.Reading.{nodeOf}
+use mathlib.Core.Path.{_∙_}
+use Rattle.reader.specs.Reading.{expressionOf}
+use Rattle.reader.proofs.Laws.{node-is}
 use borrow.Author.Needs.{needs}
 use Rattle.reader.proofs.expression_at.Statement.{statement}
 use Rattle.reader.proofs.expression_at.Tie as tie
@@ -20,7 +24,8 @@ passed-requires c κs = search needs
 
 -- src/lib.rt:81:1
 returns : tie.Need-returns
-returns c = ?
+unfolding expressionOf nodeOf
+returns c = c .passed .ensures ∙ node-is (c .before .before .before .before .args .words .now) (c .before .before .before .before .args .at) _ (c .before .expr .ensures)
 
 pub expression-at-spec : {M : Type 1} → statement M
 expression-at-spec = tie.close (tie.spec cast-n expr-requires passed-requires returns)

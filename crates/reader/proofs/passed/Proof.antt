@@ -1,3 +1,8 @@
+use mathlib.Core.Path.{refl, sym, ap, _∙_}
+use Prim.Native.Nat.{ℕ}
+use Rattle.words.specs.Told.{gives}
+use Rattle.words.specs.Refusals.{refused}
+use Rattle.reader.specs.Reading.{told, nodeOfStep}
 use borrow.Author.Needs.{needs}
 use Rattle.reader.proofs.passed.Statement.{statement}
 use Rattle.reader.proofs.passed.Tie as tie
@@ -23,15 +28,18 @@ enum-known-s-3 c = search needs
 
 -- src/lib.rt:53:1
 returns : tie.Need-returns
-returns c = ?
+unfolding nodeOfStep told refused
+returns c = rw (c .before .before .s .given .1, c .word .ensures) refl
 
 -- src/lib.rt:53:1
 returns-2 : tie.Need-returns-2
-returns-2 c = ?
+unfolding nodeOfStep told refused
+returns-2 c = rw (c .before .s2 .given .1) refl
 
 -- src/lib.rt:53:1
 returns-3 : tie.Need-returns-3
-returns-3 c = ?
+unfolding nodeOfStep told refused
+returns-3 c = rw (c .before .s3 .given .1) refl
 
 pub passed-spec : {M : Type 1} → statement M
 passed-spec =

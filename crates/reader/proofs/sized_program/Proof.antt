@@ -1,3 +1,6 @@
+use mathlib.Core.Path.{sym, _∙_}
+use borrow.Author.Tests.{not-true, not-false}
+use Rattle.reader.proofs.Laws.{tree-over, erased-are}
 use borrow.Author.Needs.{needs}
 use Rattle.reader.proofs.sized_program.Statement.{statement}
 use Rattle.reader.proofs.sized_program.Tie as tie
@@ -11,11 +14,11 @@ sized-tree-requires c κs = search needs
 
 -- src/lib.rt:227:9
 returns : tie.Need-returns
-returns c = ?
+returns c = sym (tree-over (c .before .before .before .before .before .before .args .bytes .now) (c .before .before .before .before .before .before .args .ends .now) (c .before .before .before .before .before .before .args .words .now) (c .before .before .before .before .before .before .args .erased .now) (sym (c .before .sized-tree .ensures) ∙ not-true _ (c .if1 .taken)))
 
 -- src/lib.rt:223:1
 returns-2 : tie.Need-returns-2
-returns-2 c = ?
+returns-2 c = sym (erased-are (c .before .before .before .before .before .before .args .bytes .now) (c .before .before .before .before .before .before .args .ends .now) (c .before .before .before .before .before .before .args .words .now) (c .before .before .before .before .before .before .args .erased .now) (sym (c .before .sized-tree .ensures) ∙ not-false _ (c .if1 .left)))
 
 pub sized-program-spec : {M : Type 1} → statement M
 sized-program-spec = tie.close (tie.spec sized-tree-requires returns returns-2)

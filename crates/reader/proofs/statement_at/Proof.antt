@@ -1,3 +1,7 @@
+use Rattle.reader.specs.Reading.{nodeOf}
+use mathlib.Core.Path.{_∙_}
+use Rattle.reader.specs.Reading.{statementOf}
+use Rattle.reader.proofs.Laws.{node-is}
 use borrow.Author.Needs.{needs}
 use Rattle.reader.proofs.statement_at.Statement.{statement}
 use Rattle.reader.proofs.statement_at.Tie as tie
@@ -20,7 +24,8 @@ passed-requires c κs = search needs
 
 -- src/lib.rt:71:1
 returns : tie.Need-returns
-returns c = ?
+unfolding statementOf nodeOf
+returns c = c .passed .ensures ∙ node-is (c .before .before .before .before .args .words .now) (c .before .before .before .before .args .at) _ (c .before .stmt .ensures)
 
 pub statement-at-spec : {M : Type 1} → statement M
 statement-at-spec = tie.close (tie.spec cast-n stmt-requires passed-requires returns)

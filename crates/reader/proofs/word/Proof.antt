@@ -1,3 +1,5 @@
+use mathlib.Core.Path.{sym}
+use lib.ListN.{List·getD-eq-default}
 use borrow.Author.Needs.{needs}
 use Rattle.reader.proofs.word.Statement.{statement}
 use Rattle.reader.proofs.word.Tie as tie
@@ -6,7 +8,7 @@ use Rattle.reader.proofs.word.Lts as lts
 
 -- src/lib.rt:47:9
 returns : tie.Need-returns
-returns c = ?
+returns c = sym (List·getD-eq-default (c .before .args .words .now) 0 (c .if1 .taken))
 
 -- src/lib.rt:49:5
 mul-result : tie.Need-mul-result

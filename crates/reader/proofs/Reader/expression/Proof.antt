@@ -1,3 +1,4 @@
+use mathlib.Core.Path.{_≡_, refl, _∙_}
 use borrow.Author.Needs.{needs}
 use Rattle.reader.proofs.Reader.expression.Statement.{statement}
 use Rattle.reader.proofs.Reader.expression.Tie as tie
@@ -16,7 +17,9 @@ moved-by-requires c κs = search needs
 
 -- src/lib.rt:164:5
 returns : tie.Need-returns
-returns c = ?
+returns c =
+    let same : c .moved-by .result .answer ≡ c .before .read-expression .result = c .moved-by .ensures .0 in
+    (rw same (c .before .read-expression .ensures), c .moved-by .ensures .1 ∙ rw same refl)
 
 pub expression-spec : {M : Type 1} → statement M
 expression-spec = tie.close (tie.spec read-expression-requires moved-by-requires returns)

@@ -1,3 +1,4 @@
+use mathlib.Core.Path.{_≡_, refl, _∙_}
 use borrow.Author.Needs.{needs}
 use Rattle.reader.proofs.Reader.statement.Statement.{statement}
 use Rattle.reader.proofs.Reader.statement.Tie as tie
@@ -16,7 +17,9 @@ moved-by-requires c κs = search needs
 
 -- src/lib.rt:155:5
 returns : tie.Need-returns
-returns c = ?
+returns c =
+    let same : c .moved-by .result .answer ≡ c .before .read-statement .result = c .moved-by .ensures .0 in
+    (rw same (c .before .read-statement .ensures), c .moved-by .ensures .1 ∙ rw same refl)
 
 pub statement-spec : {M : Type 1} → statement M
 statement-spec = tie.close (tie.spec read-statement-requires moved-by-requires returns)

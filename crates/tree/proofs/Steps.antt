@@ -228,7 +228,7 @@ pub is-11 : {k : ℕ} → k ≡ 11 → sortAt k ≡ chain 48 (take 2 (drop 22 al
 unfolding sortAt singles chain allRows parts
 is-11 e = ap sortAt e
 
-pub is-12 : {k : ℕ} → k ≡ 12 → sortAt k ≡ chain 40 (take 6 (drop 24 allRows))
+pub is-12 : {k : ℕ} → k ≡ 12 → sortAt k ≡ TypeRef
 unfolding sortAt singles chain allRows parts
 is-12 e = ap sortAt e
 
@@ -355,6 +355,61 @@ module _ (ws ns : List ℕ) (n : ℕ) (sub : ℕ → Got Expr) (subS : ℕ → G
   pub many-go : (ss : Sorts) (at : ℕ) {s r : Step} {c : Cursor} → s ≡ stepOf (leafAt ws 1 16777216 at) → s ≡ Read c → r ≡ stepOf (rowsAt ws ns n (λ x. rowAt ws ns n sub subS ss x) (payOf (getD ws at 0)) (c .at)) → r ≡ stepOf (fieldAt ws ns n sub subS (many ss) at)
   unfolding fieldAt
   many-go ss at e q h = next-leaf _ _ _ _ _ e q (last list _ h)
+
+  -- a type's heads
+  abbrev typeRows : List Sorts
+  typeRows = nil ∷ nil ∷ nil ∷ nil ∷ (whole & nil) ∷ (named & nil) ∷ []
+
+  type-chain : chain 40 typeRows ≡ TypeRef
+  unfolding chain
+  type-chain = refl
+
+  plain-row : (j : ℕ) → j < 4 → getD typeRows j nil ≡ nil
+  plain-row zero h = refl
+  plain-row (suc zero) h = refl
+  plain-row (suc (suc zero)) h = refl
+  plain-row (suc (suc (suc zero))) h = refl
+  plain-row (suc (suc (suc (suc j)))) h = absurd (omega arith)
+
+  then-read : (s : Step) → then s (λ m. Read (record { at = m })) ≡ s
+  unfolding then
+  then-read (Read c) = refl
+  then-read (Wrong p) = refl
+  then-read (Deep p) = refl
+
+  -- a row of one field
+  row-one : (s : Sort) (m : ℕ) {r : Step} → r ≡ stepOf (fieldAt ws ns n sub subS s m) → r ≡ stepOf (rowAt ws ns n sub subS (s & nil) m)
+  unfolding rowAt stepOf
+  row-one s m e = e ∙ sym (row-more s nil m ∙ then-read _)
+
+  type-yes : (j at : ℕ) {r : Step} → at < length ws → j < 6 → payOf (getD ws at 0) ≡ 0 → kindOf (getD ws at 0) ≡ 40 + j → r ≡ stepOf (rowAt ws ns n sub subS (getD typeRows j nil) (at + 1)) → r ≡ stepOf (fieldAt ws ns n sub subS TypeRef at)
+  unfolding chain
+  type-yes j at h i p k e = chain-yes 40 typeRows j at h i (omega (arith, p, k)) e
+
+  pub type-end : (at : ℕ) → length ws ≤ at → Wrong (length ws) ≡ stepOf (fieldAt ws ns n sub subS TypeRef at)
+  unfolding chain
+  type-end at h = chain-end 40 typeRows at h
+
+  pub type-no : (at : ℕ) → at < length ws → (payOf (getD ws at 0) ≡ 0 → 40 ≤ kindOf (getD ws at 0) → kindOf (getD ws at 0) ≤ 45 → ⊥) → Wrong at ≡ stepOf (fieldAt ws ns n sub subS TypeRef at)
+  unfolding chain
+  type-no at h f =
+      chain-no 40 typeRows at h (λ j i e.
+      let k : kindOf (getD ws at 0) ≡ 40 + j = omega (arith, e) in
+      f (omega (arith, e)) (omega (arith, k)) (omega (arith, k, i)))
+
+  pub type-plain : (at : ℕ) → at < length ws → payOf (getD ws at 0) ≡ 0 → 40 ≤ kindOf (getD ws at 0) → kindOf (getD ws at 0) ≤ 43 → Read (record { at = at + 1 }) ≡ stepOf (fieldAt ws ns n sub subS TypeRef at)
+  unfolding rowAt stepOf
+  type-plain at h p a b =
+      type-yes (kindOf (getD ws at 0) - 40) at h (omega arith) p (omega arith)
+      (rw (plain-row (kindOf (getD ws at 0) - 40) (omega arith)) refl)
+
+  pub type-length : (at : ℕ) {r : Step} → at < length ws → payOf (getD ws at 0) ≡ 0 → kindOf (getD ws at 0) ≡ 44 → r ≡ stepOf (wordAt ws 4 (between 0 16777216) (at + 1)) → r ≡ stepOf (fieldAt ws ns n sub subS TypeRef at)
+  unfolding fieldAt
+  type-length at h p k e = type-yes 4 at h (omega arith) p k (row-one whole (at + 1) (last word _ e))
+
+  pub type-name : (at : ℕ) {r : Step} → at < length ws → payOf (getD ws at 0) ≡ 0 → kindOf (getD ws at 0) ≡ 45 → r ≡ stepOf (wordAt ws 2 (λ (x : ℕ). eqb (getD ns x 0) 1) (at + 1)) → r ≡ stepOf (fieldAt ws ns n sub subS TypeRef at)
+  unfolding fieldAt
+  type-name at h p k e = type-yes 5 at h (omega arith) p k (row-one named (at + 1) (last word _ e))
 
   pub choice-no : (first count r at : ℕ) → r + count ≤ 93 → at < length ws → (payOf (getD ws at 0) ≡ 0 → first ≤ kindOf (getD ws at 0) → kindOf (getD ws at 0) - first < count → ⊥) → Wrong at ≡ stepOf (fieldAt ws ns n sub subS (chain first (take count (drop r allRows))) at)
   choice-no first count r at b h f =

@@ -6,7 +6,7 @@ ghost use Prim.Native.Nat.{ℕ, _<_, _≤_, _+_};
 ghost use lib.ListN.{getD, take, drop};
 ghost use lib.Dec.{eqb};
 ghost use mathlib.Core.List.{List};
-ghost use Rattle.tree.specs.Sorts.{Sort, many, group, opt, nil};
+ghost use Rattle.tree.specs.Sorts.{Sort, many, group, opt, nil, TypeRef};
 ghost use Rattle.tree.specs.Tree.{between, strings};
 ghost use Rattle.tree.specs.Codes.{codes, sortAt, rowOf, chain, allRows};
 ghost use Rattle.tree.specs.Reader.{wordAt, neverAt, fieldAt, rowAt, stmtAt, programAt};
@@ -200,6 +200,28 @@ fn plain(c: Cursor, words: &[u32], names: &[u8], n: u32, left: usize, sort: u8) 
     }
 }
 
+// a type: one of the plain heads, a fixed string with its length, or a record with its name
+fn type_ref(c: Cursor, words: &[u32], names: &[u8], n: u32, left: usize) -> Step
+    ensures { λ r. ⌜ r ≡ stepOf (fieldAt (now (words .entry)) (now (names .entry)) n (exprAt (now (words .entry)) (strings (now (names .entry)) n) left) (stmtAt (now (words .entry)) (now (names .entry)) n left) TypeRef (c .at)) ⌝ }
+{
+    let at = c.at;
+    if words.len() <= at {
+        return Step::Wrong(words.len());
+    }
+    let w = words[at];
+    if w % 16777216 != 0 {
+        return Step::Wrong(at);
+    }
+    let next = Cursor { at: at + 1 };
+    let k = w / 16777216;
+    match k {
+        40..=43 => Step::Read(next),
+        44 => mark(next, words, 4, 0, 16777216),
+        45 => name(next, words, names),
+        _ => Step::Wrong(at),
+    }
+}
+
 // a field of a sort, with so many levels left for what stands in it
 fn field(c: Cursor, words: &[u32], names: &[u8], n: u32, left: usize, sort: u8) -> Step
     ensures { λ r. ⌜ r ≡ stepOf (fieldAt (now (words .entry)) (now (names .entry)) n (exprAt (now (words .entry)) (strings (now (names .entry)) n) left) (stmtAt (now (words .entry)) (now (names .entry)) n left) (sortAt sort) (c .at)) ⌝ }
@@ -210,7 +232,7 @@ fn field(c: Cursor, words: &[u32], names: &[u8], n: u32, left: usize, sort: u8) 
         9 => c.expr(words, names, n, left),
         10 => stmt(c, words, names, n, left),
         11 => choice(c, words, names, n, left, 48, 2, 22),
-        12 => choice(c, words, names, n, left, 40, 6, 24),
+        12 => type_ref(c, words, names, n, left),
         13 => choice(c, words, names, n, left, 32, 3, 30),
         14 => choice(c, words, names, n, left, 36, 3, 33),
         15 => choice(c, words, names, n, left, 52, 3, 36),

@@ -33,6 +33,7 @@ use Rattle.tree.proofs.+choice+field+optional+row+rows+stmt.Lts-row as 
 use Rattle.tree.proofs.rows.Reads as rows
 use Rattle.tree.proofs.rows.Kinds as rows-kinds
 use Rattle.tree.proofs.+choice+field+optional+row+rows+stmt.Lts-rows as rows-lts
+use Rattle.tree.proofs.type_ref.Reads as type-ref-reads
 use Rattle.tree.proofs.stmt.Reads as stmt
 use Rattle.tree.proofs.stmt.Kinds as stmt-kinds
 use Rattle.tree.proofs.+choice+field+optional+row+rows+stmt.Lts-stmt as stmt-lts
@@ -103,7 +104,7 @@ abbrev K-choice : ℕ → choice-lts.Claims
 K-choice t = (row-below t, row.Post)
 
 abbrev K-field : ℕ → field-lts.Claims
-K-field t = (nowhere-reads.Asked, nowhere-reads.Learnt, expr-reads.Asked, expr-reads.Learnt, stmt-below t, stmt.Post, choice-below t, choice.Post, plain-reads.Asked, plain-reads.Learnt, optional-below t, optional.Post, rows-below t, rows.Post, row-below t, row.Post)
+K-field t = (nowhere-reads.Asked, nowhere-reads.Learnt, expr-reads.Asked, expr-reads.Learnt, stmt-below t, stmt.Post, choice-below t, choice.Post, type-ref-reads.Asked, type-ref-reads.Learnt, plain-reads.Asked, plain-reads.Learnt, optional-below t, optional.Post, rows-below t, rows.Post, row-below t, row.Post)
 
 abbrev K-optional : ℕ → optional-lts.Claims
 K-optional t = (row-below t, row.Post)
@@ -178,17 +179,17 @@ module _ (t : ℕ) where
   field-choice-requires : field-lts.Need-choice-requires (K-field t) (field-at t) field.Post
   field-choice-requires c κs = (omega (arith, c .before .before .before .pre .0, ap sizeS (is-11 (c .match .keys4))), lib.Dec.lit≤ tt)
 
+  field-type-ref-requires : field-lts.Need-type-ref-requires (K-field t) (field-at t) field.Post
+  field-type-ref-requires c κs = search needs
+
   field-choice-requires-2 : field-lts.Need-choice-requires-2 (K-field t) (field-at t) field.Post
-  field-choice-requires-2 c κs = (omega (arith, c .before .before .before .pre .0, ap sizeS (is-12 (c .match .keys5))), lib.Dec.lit≤ tt)
+  field-choice-requires-2 c κs = (omega (arith, c .before .before .before .pre .0, ap sizeS (is-13 (c .match .keys6))), lib.Dec.lit≤ tt)
 
   field-choice-requires-3 : field-lts.Need-choice-requires-3 (K-field t) (field-at t) field.Post
-  field-choice-requires-3 c κs = (omega (arith, c .before .before .before .pre .0, ap sizeS (is-13 (c .match .keys6))), lib.Dec.lit≤ tt)
+  field-choice-requires-3 c κs = (omega (arith, c .before .before .before .pre .0, ap sizeS (is-14 (c .match .keys7))), lib.Dec.lit≤ tt)
 
   field-choice-requires-4 : field-lts.Need-choice-requires-4 (K-field t) (field-at t) field.Post
-  field-choice-requires-4 c κs = (omega (arith, c .before .before .before .pre .0, ap sizeS (is-14 (c .match .keys7))), lib.Dec.lit≤ tt)
-
-  field-choice-requires-5 : field-lts.Need-choice-requires-5 (K-field t) (field-at t) field.Post
-  field-choice-requires-5 c κs = (omega (arith, c .before .before .before .pre .0, ap sizeS (is-15 (c .match .keys8))), lib.Dec.lit≤ tt)
+  field-choice-requires-4 c κs = (omega (arith, c .before .before .before .pre .0, ap sizeS (is-15 (c .match .keys8))), lib.Dec.lit≤ tt)
 
   field-plain-requires : field-lts.Need-plain-requires (K-field t) (field-at t) field.Post
   field-plain-requires c κs = search needs
@@ -224,16 +225,16 @@ module _ (t : ℕ) where
   field-returns-4 c = arm _ _ _ _ _ _ _ _ (is-11 (c .before .match .keys4)) (c .choice .ensures)
 
   field-returns-5 : field-lts.Need-returns-5 (K-field t) (field-at t) field.Post
-  field-returns-5 c = arm _ _ _ _ _ _ _ _ (is-12 (c .before .match .keys5)) (c .choice2 .ensures)
+  field-returns-5 c = arm _ _ _ _ _ _ _ _ (is-12 (c .before .match .keys5)) (c .type-ref .ensures)
 
   field-returns-6 : field-lts.Need-returns-6 (K-field t) (field-at t) field.Post
-  field-returns-6 c = arm _ _ _ _ _ _ _ _ (is-13 (c .before .match .keys6)) (c .choice3 .ensures)
+  field-returns-6 c = arm _ _ _ _ _ _ _ _ (is-13 (c .before .match .keys6)) (c .choice2 .ensures)
 
   field-returns-7 : field-lts.Need-returns-7 (K-field t) (field-at t) field.Post
-  field-returns-7 c = arm _ _ _ _ _ _ _ _ (is-14 (c .before .match .keys7)) (c .choice4 .ensures)
+  field-returns-7 c = arm _ _ _ _ _ _ _ _ (is-14 (c .before .match .keys7)) (c .choice3 .ensures)
 
   field-returns-8 : field-lts.Need-returns-8 (K-field t) (field-at t) field.Post
-  field-returns-8 c = arm _ _ _ _ _ _ _ _ (is-15 (c .before .match .keys8)) (c .choice5 .ensures)
+  field-returns-8 c = arm _ _ _ _ _ _ _ _ (is-15 (c .before .match .keys8)) (c .choice4 .ensures)
 
   field-returns-9 : field-lts.Need-returns-9 (K-field t) (field-at t) field.Post
   field-returns-9 c = c .plain .ensures (pos (c .before .before .match .rest .0 .0 .0 .0 .0 .0 .0 .1)) (c .before .if1 .taken)
@@ -379,7 +380,7 @@ module _ (t : ℕ) where
 pub +choice+field+optional+row+rows+stmt-spec : {M : Type 1} → statement M
 +choice+field+optional+row+rows+stmt-spec = close μ-choice μ-field μ-optional μ-row μ-rows μ-stmt
     (λ t. choice-lts.spec (K-choice t) (choice-at t) choice.Post (choice-returns t) (choice-mul-w t) (choice-shared-slice-read-w t) (choice-returns-2 t) (choice-returns-3 t) (choice-add-t19 t) (choice-cast-row t) (choice-add-row t) (choice-row-requires t) (choice-returns-4 t) (choice-returns-5 t))
-    (λ t. field-lts.spec (K-field t) (field-at t) field.Post (field-nowhere-requires t) (field-expr-requires t) (field-stmt-requires t) (field-choice-requires t) (field-choice-requires-2 t) (field-choice-requires-3 t) (field-choice-requires-4 t) (field-choice-requires-5 t) (field-plain-requires t) (field-sub-optional t) (field-optional-requires t) (field-sub-rows t) (field-rows-requires t) (field-sub-row t) (field-row-requires t) (field-returns t) (field-returns-2 t) (field-returns-3 t) (field-returns-4 t) (field-returns-5 t) (field-returns-6 t) (field-returns-7 t) (field-returns-8 t) (field-returns-9 t) (field-returns-10 t) (field-returns-11 t) (field-returns-12 t))
+    (λ t. field-lts.spec (K-field t) (field-at t) field.Post (field-nowhere-requires t) (field-expr-requires t) (field-stmt-requires t) (field-choice-requires t) (field-type-ref-requires t) (field-choice-requires-2 t) (field-choice-requires-3 t) (field-choice-requires-4 t) (field-plain-requires t) (field-sub-optional t) (field-optional-requires t) (field-sub-rows t) (field-rows-requires t) (field-sub-row t) (field-row-requires t) (field-returns t) (field-returns-2 t) (field-returns-3 t) (field-returns-4 t) (field-returns-5 t) (field-returns-6 t) (field-returns-7 t) (field-returns-8 t) (field-returns-9 t) (field-returns-10 t) (field-returns-11 t) (field-returns-12 t))
     (λ t. optional-lts.spec (K-optional t) (optional-at t) optional.Post (optional-row-requires t) (optional-returns t) (optional-mul-if2 t) (optional-shared-slice-read-if2 t) (optional-add-t12 t) (optional-returns-2 t) (optional-row-requires-2 t) (optional-returns-3 t))
     (λ t. row-lts.spec (K-row t) (row-at t) row.Post row-Inv-loop row-μ-loop (row-loop-holds t) (row-sort-requires t) (row-returns t) (row-field-requires t) (row-enum-known-s t) (row-returns-2 t) (row-add-i t) (row-loop-less t) (row-loop-again t) (row-returns-3 t))
     (λ t. rows-lts.spec (K-rows t) (rows-at t) rows.Post rows-Inv-loop rows-μ-loop (rows-leaf-requires t) (rows-enum-known-s t) (rows-returns t) (rows-mul-count t) (rows-shared-slice-read-count t) (rows-loop-holds t) (rows-row-requires t) (rows-enum-known-s-2 t) (rows-returns-2 t) (rows-sub-count t) (rows-loop-less t) (rows-loop-again t) (rows-returns-3 t))

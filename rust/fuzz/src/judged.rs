@@ -157,48 +157,49 @@ pub fn vectors(seeds: Range<u64>) {
     }
 }
 
-/// Kept lists, a file a group, each with no more images than are needed for what the group can show.
+/// Kept lists, a file a group: of all the seeds' cases the smallest that show each feature, a few of each.
 ///
 /// A file is records, all numbers 32 bits little-endian: the image's length in bytes, the image, the listing's length,
 /// the listing. Nothing is padded.
 pub fn keep(seeds: Range<u64>, folder: &Path) {
     fs::create_dir_all(folder).expect("the folder can be made");
-    let mut lists: BTreeMap<&'static str, Vec<u8>> = BTreeMap::new();
+    let mut sizes: Vec<(usize, u64)> = seeds.map(|s| (case(s).file.len(), s)).collect();
+    sizes.sort_unstable();
+    let mut lists: BTreeMap<&'static str, (usize, Vec<u8>)> = BTreeMap::new();
     let mut met: BTreeMap<String, usize> = BTreeMap::new();
-    let mut counts: BTreeMap<&'static str, usize> = BTreeMap::new();
-    for seed in seeds {
+    for (size, seed) in sizes {
         let Case { file, group } = case(seed);
-        if file.len() > 2_000 && met.get(group).copied().unwrap_or(0) >= 3 {
-            continue;
-        }
         let answer = oracle::analyse_file(&file);
-        let mut found = features(&answer);
-        found.extend(shapes(&file, &answer));
-        // Kept where it shows something that few before it did.
-        let few = |f: &String| met.get(f).copied().unwrap_or(0) < 12;
-        if !found.iter().any(few) {
+        // Large ones only for what the limits are about.
+        let (few, found) = if size > 800 {
+            let number = answer.as_ref().map_or_else(|r| r.number, |_| 0);
+            (1, vec![format!("{group} {number}")])
+        } else {
+            let mut found = features(&answer);
+            found.extend(shapes(&file, &answer));
+            (2, found)
+        };
+        if !found.iter().any(|f| met.get(f).copied().unwrap_or(0) < few) {
             continue;
         }
-        for f in found
-            .into_iter()
-            .chain((file.len() > 2_000).then(|| group.to_string()))
-        {
+        for f in found {
             *met.entry(f).or_default() += 1;
         }
         let listing = oracle::text(&answer);
-        let list = lists.entry(group).or_default();
+        let (count, list) = lists.entry(group).or_default();
+        *count += 1;
         for part in [&file[..], listing.as_bytes()] {
             list.extend_from_slice(&(part.len() as u32).to_le_bytes());
             list.extend_from_slice(part);
         }
-        *counts.entry(group).or_default() += 1;
     }
-    for (group, list) in lists {
-        let name = folder.join(group.replace(' ', "-")).with_extension("kept");
+    for (group, (count, list)) in lists {
+        let name = folder
+            .join(group.replace(' ', "-").to_lowercase())
+            .with_extension("kept");
         fs::write(&name, &list).expect("the list can be written");
         println!(
-            "{:6} images {:8} bytes  {}",
-            counts[group],
+            "{count:6} images {:8} bytes  {}",
             list.len(),
             name.display()
         );

@@ -2,6 +2,7 @@
 //!
 //! A case is a function of its seed and of nothing else, so a seed is all that a record of a run needs.
 
+pub mod bench;
 pub mod damage;
 #[cfg(original)]
 pub mod judged;

@@ -85,7 +85,7 @@ fn sizes(rng: &mut Rng) -> Raw {
 }
 
 /// A chain of statements and expressions down to depth 99 to 102, with something at its end.
-fn deep(rng: &mut Rng) -> Raw {
+pub fn deep(rng: &mut Rng) -> Raw {
     let depth = rng.within(98, 102);
     let statements = match rng.below(4) {
         0 => 1,

@@ -47,7 +47,10 @@ pub fn small(rng: &mut Rng) -> Raw {
         Flavour::Constants,
     ]);
     let statements = rng.within(1, 6);
-    Maker::new(rng, flavour).image(statements)
+    let depth = rng.within(2, 4);
+    let mut maker = Maker::new(rng, flavour);
+    maker.depth = depth;
+    maker.image(statements)
 }
 
 /// Names that a pool is drawn from: every suffix, built-in functions, dots, the longest.

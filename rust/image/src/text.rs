@@ -7,8 +7,8 @@
 //!   (Let line=2 name=X value=(Paren (FnCall name=A args=[2]))))
 //! ```
 //!
-//! Variants and fields have their names of `parser.rs`. A field may be left out where it is absent, an empty list, `no` or,
-//! for a line, 0. `-` is an absent option, `[ ]` a list, `{ }` a struct. An expression may be a bare name for a variable, or a
+//! Variants and fields have their names of `parser.rs`. Named fields stand in any order, and one may be left out where it is
+//! absent, an empty list, `no` or, for a line, 0; a line comes first. `-` is an absent option, `[ ]` a list, `{ }` a struct. An expression may be a bare name for a variable, or a
 //! literal: `5` Integer, `5&` Long, `1.5!` Single, `1.5` Float, `"text"` String. Strings are numbered in byte order;
 //! `(strings "A")` adds some that nothing mentions, `(erased A)` lists the erased names.
 //!
@@ -664,16 +664,20 @@ impl Parser {
         self.fields(variant.fields, ')')
     }
 
-    /// Fields in their order, up to the closing mark.
+    /// Fields up to the closing mark: named ones in any order, the others in theirs.
     fn fields(&mut self, fields: &[Field], close: char) -> Parse<()> {
+        let named = self.named(fields)?;
+        let from = self.at;
+        let mut ends = Vec::new();
         for field in fields {
-            let named = *self.peek() == Token::Atom(field.name.into())
-                && self.tokens[self.at + 1].1 == Token::Mark('=');
-            if named {
-                self.at += 2;
-            }
-            if named || field.name.is_empty() {
+            if field.name.is_empty() {
                 self.value(&field.sort)?;
+                continue;
+            }
+            if let Some((_, at)) = named.iter().find(|(name, _)| *name == field.name) {
+                self.at = *at;
+                self.value(&field.sort)?;
+                ends.push(self.at);
                 continue;
             }
             match field.sort {
@@ -683,7 +687,40 @@ impl Parser {
                 _ => return self.fault(format!("expected {}=", field.name)),
             }
         }
+        // Each value ends where the next field's name or the closing mark stands, and the first name comes at once.
+        ends.sort_unstable();
+        for (start, end) in named.iter().zip(std::iter::once(from).chain(ends.clone())) {
+            self.at = end;
+            if start.1 != end + 2 {
+                return self.fault("expected a field's name");
+            }
+        }
+        self.at = ends.last().copied().unwrap_or(self.at);
         self.mark(close)
+    }
+
+    /// Where the value of each named field starts.
+    fn named(&self, fields: &[Field]) -> Parse<Vec<(&'static str, usize)>> {
+        let mut named: Vec<(&'static str, usize)> = Vec::new();
+        let mut nested = 0;
+        for (i, pair) in (self.at..).zip(self.tokens[self.at..].windows(2)) {
+            match &pair[0].1 {
+                Token::Mark('(' | '[' | '{') => nested += 1,
+                Token::Mark(')' | ']' | '}') if nested == 0 => break,
+                Token::Mark(')' | ']' | '}') => nested -= 1,
+                Token::Atom(a) if nested == 0 && pair[1].1 == Token::Mark('=') => {
+                    let Some(field) = fields.iter().find(|f| f.name == a) else {
+                        return self.fault(format!("no field {a}"));
+                    };
+                    if named.iter().any(|(name, _)| name == a) {
+                        return self.fault(format!("{a} comes twice"));
+                    }
+                    named.push((field.name, i + 2));
+                }
+                _ => {}
+            }
+        }
+        Ok(named)
     }
 
     fn expr(&mut self) -> Parse<()> {

@@ -144,9 +144,15 @@ pub fn text(answer: &Result<Analysis, Refusal>) -> String {
 }
 
 fn words(out: &mut String, letter: char, words: &[u32]) {
+    out.reserve(9 * words.len() + 2);
     out.push(letter);
     for w in words {
-        write!(out, " {w:08x}").expect("a String takes all");
+        // By hand, since `{:08x}` would be most of the time that a listing takes.
+        out.push(' ');
+        for shift in (0..8).rev() {
+            let digit = (w >> (4 * shift)) & 15;
+            out.push(char::from(b"0123456789abcdef"[digit as usize]));
+        }
     }
     out.push('\n');
 }

@@ -1,7 +1,10 @@
 //! What the original says of generated images.
 
-use crate::{Case, case, small};
+use crate::rng::Rng;
+use crate::{Case, case, rich, small};
+use image::ast::{Expr, Stmt, StmtKind};
 use image::raw::{Raw, Refusal};
+use oracle::steps::{Action, Verdict, expressions, step};
 use oracle::{Analysis, LENT, Lent};
 use std::collections::BTreeMap;
 use std::fs;
@@ -136,6 +139,57 @@ fn peak(raw: &Raw) -> usize {
     low
 }
 
+/// Demand 3 by running: allowed steps leave rows, diagnostics and resolved words as they were, forbidden ones change the words.
+pub fn steps(seeds: Range<u64>) {
+    let mut counts: BTreeMap<String, usize> = BTreeMap::new();
+    for seed in seeds {
+        let mut rng = Rng::new(!seed);
+        let file = rich(&mut Rng::new(seed)).file;
+        let Ok(raw) = Raw::from_bytes(&file) else {
+            continue;
+        };
+        let Ok(mut input) = oracle::input(&raw) else {
+            continue;
+        };
+        if oracle::analyse(&raw, LENT).is_err() {
+            continue;
+        }
+        let symbols = oracle::tables(&input);
+        let first = oracle::whole(input.clone());
+        let wanted = oracle::text(&Ok(first.clone()));
+        *counts.entry("programs".into()).or_default() += 1;
+        for _ in 0..rng.within(1, 30) {
+            let count = expressions(&mut input.program, &symbols);
+            if count == 0 {
+                break;
+            }
+            let action = *rng.pick(&[Action::Put, Action::Take, Action::Take, Action::Rewrite]);
+            let before = input.clone();
+            let verdict = step(&mut input.program, &symbols, rng.below(count), action);
+            let after = || oracle::whole(input.clone());
+            match verdict {
+                Verdict::Nothing => continue,
+                Verdict::Allowed => {
+                    assert_eq!(
+                        oracle::text(&Ok(after())),
+                        wanted,
+                        "seed {seed}: an allowed step"
+                    );
+                }
+                Verdict::Forbidden => {
+                    let changed = after().resolved;
+                    assert!(changed != first.resolved, "seed {seed}: a forbidden step");
+                    input = before;
+                }
+            }
+            *counts.entry(format!("{verdict:?} {action:?}")).or_default() += 1;
+        }
+    }
+    for (what, count) in counts {
+        println!("{count:9} {what}");
+    }
+}
+
 /// Small programs with their listings, to try definitions on.
 ///
 /// `= seed`, `strings`, each string after `"`, `tree` and `erased` with their words, the readable text after `;`, then the
@@ -157,6 +211,19 @@ pub fn vectors(seeds: Range<u64>) {
     }
 }
 
+/// The edges of document 01 and the readings, as texts; the samples' folder.
+const EDGES: &str = include_str!("../edges.txt");
+const SAMPLES: &str = concat!(env!("CARGO_MANIFEST_DIR"), "/../../samples");
+
+/// One more image of a list, with the original's listing.
+fn record((count, list): &mut (usize, Vec<u8>), file: &[u8]) {
+    *count += 1;
+    for part in [file, oracle::listing(file).as_bytes()] {
+        list.extend_from_slice(&(part.len() as u32).to_le_bytes());
+        list.extend_from_slice(part);
+    }
+}
+
 /// Kept lists, a file a group: of all the seeds' cases the smallest that show each feature, a few of each.
 ///
 /// A file is records, all numbers 32 bits little-endian: the image's length in bytes, the image, the listing's length,
@@ -171,7 +238,7 @@ pub fn keep(seeds: Range<u64>, folder: &Path) {
         let Case { file, group } = case(seed);
         let answer = oracle::analyse_file(&file);
         // Large ones only for what the limits are about.
-        let (few, found) = if size > 800 {
+        let (few, found) = if size > 640 {
             let number = answer.as_ref().map_or_else(|r| r.number, |_| 0);
             (1, vec![format!("{group} {number}")])
         } else {
@@ -185,13 +252,16 @@ pub fn keep(seeds: Range<u64>, folder: &Path) {
         for f in found {
             *met.entry(f).or_default() += 1;
         }
-        let listing = oracle::text(&answer);
-        let (count, list) = lists.entry(group).or_default();
-        *count += 1;
-        for part in [&file[..], listing.as_bytes()] {
-            list.extend_from_slice(&(part.len() as u32).to_le_bytes());
-            list.extend_from_slice(part);
-        }
+        record(lists.entry(group).or_default(), &file);
+    }
+    for text in EDGES.split("\n= ").skip(1) {
+        let (name, text) = text.split_once('\n').expect("a name, then a text");
+        let file = image::text::parse(text).unwrap_or_else(|f| panic!("{name}: {f}"));
+        record(lists.entry("edges").or_default(), &file);
+    }
+    for (name, text) in texts(Path::new(SAMPLES)) {
+        let file = image::text::parse(&text).unwrap_or_else(|f| panic!("{name}: {f}"));
+        record(lists.entry("samples").or_default(), &file);
     }
     for (group, (count, list)) in lists {
         let name = folder
@@ -203,6 +273,95 @@ pub fn keep(seeds: Range<u64>, folder: &Path) {
             list.len(),
             name.display()
         );
+    }
+}
+
+/// Beside each text of a folder, its image and the original's listing of it.
+pub fn samples(folder: &Path) {
+    for (name, text) in texts(folder) {
+        let file = image::text::parse(&text).unwrap_or_else(|f| panic!("{name}: {f}"));
+        let beside = |ending| folder.join(&name).with_extension(ending);
+        fs::write(beside("img"), &file).expect("the image can be written");
+        fs::write(beside("list"), oracle::listing(&file)).expect("the listing can be written");
+    }
+}
+
+/// The texts of a folder, by name.
+pub fn texts(folder: &Path) -> Vec<(String, String)> {
+    let entries = fs::read_dir(folder).expect("the folder can be read");
+    let paths = entries.map(|e| e.expect("an entry").path());
+    let mut texts: Vec<(String, String)> = paths
+        .filter(|p| p.extension().is_some_and(|e| e == "txt"))
+        .map(|p| {
+            let name = p
+                .file_stem()
+                .expect("a name")
+                .to_string_lossy()
+                .into_owned();
+            (name, fs::read_to_string(&p).expect("a text"))
+        })
+        .collect();
+    texts.sort();
+    texts
+}
+
+/// Which variant of its enum a value is.
+fn variant(value: &impl std::fmt::Debug) -> String {
+    let text = format!("{value:?}");
+    let end = text.find(|c: char| !c.is_alphanumeric());
+    text[..end.unwrap_or(text.len())].to_string()
+}
+
+/// A top statement: whether resolving changed it, what its constant folds from and to, where an array parameter is used.
+fn statement_shapes(stmt: &Stmt, resolved: &Stmt, a: &Analysis) -> Vec<String> {
+    let kind = variant(&stmt.kind);
+    let mut found = vec![];
+    if stmt != resolved {
+        found.push(format!("changed {kind}"));
+    }
+    let ranks = || {
+        a.rows
+            .iter()
+            .filter(|r| r[0] >> 24 == 133)
+            .map(|r| r[2])
+            .collect::<Vec<_>>()
+    };
+    match &stmt.kind {
+        StmtKind::Const { value, .. } => {
+            let parts = match value {
+                Expr::Binary { op, left, right } => {
+                    format!("{op:?} {} {}", operand(left), operand(right))
+                }
+                Expr::Unary { op, operand: e } => format!("{op:?} {}", operand(e)),
+                e => variant(e),
+            };
+            let ends: Vec<u32> = a
+                .rows
+                .iter()
+                .filter(|r| r[0] >> 24 == 132)
+                .map(|r| r[2])
+                .collect();
+            let codes: Vec<u32> = a.diagnostics.iter().map(oracle::code).collect();
+            // Only a program of its own says which answer is this constant's.
+            if ends.len() + codes.len() == 1 {
+                found.push(format!("fold {parts} {ends:?} {codes:?}"));
+            }
+        }
+        StmtKind::Sub { params, body, .. } | StmtKind::Function { params, body, .. } => {
+            if let (true, [first]) = (params.iter().any(|p| p.array), &body[..]) {
+                found.push(format!("used in {} {:?}", variant(&first.kind), ranks()));
+            }
+        }
+        _ => {}
+    }
+    found
+}
+
+/// An operand by its literal's kind, or its variant.
+fn operand(e: &Expr) -> String {
+    match e {
+        Expr::Literal(l) => variant(l),
+        e => variant(e),
     }
 }
 
@@ -250,10 +409,13 @@ fn shapes(file: &[u8], answer: &Result<Analysis, Refusal>) -> Vec<String> {
             for w in raw.tree.iter().filter(|w| (64..118).contains(&(*w >> 24))) {
                 found.push(format!("statement {}", w >> 24));
             }
-            found.push(format!(
-                "shrinks by {}",
-                (raw.tree.len() - a.resolved.len()).min(6)
-            ));
+            let (program, _) = image::read(&raw).expect("read before");
+            let after = image::resolved(&raw, &a.resolved).expect("words of a tree");
+            for (s, t) in program.iter().zip(&after) {
+                found.extend(statement_shapes(s, t, a));
+            }
+            let shorter = raw.tree.len() - a.resolved.len();
+            found.push(format!("shrinks by {}", shorter.min(6)));
         }
     }
     found.sort();

@@ -9,6 +9,7 @@ use image::raw::Raw;
 enum Flavour {
     Mixed,
     Constants,
+    Folds,
     Types,
     Arrays,
     Procedures,
@@ -22,6 +23,7 @@ pub fn any(rng: &mut Rng) -> (Raw, &'static str) {
         (Flavour::Mixed, "mixed"),
         (Flavour::Mixed, "mixed"),
         (Flavour::Constants, "constants"),
+        (Flavour::Folds, "folds"),
         (Flavour::Types, "types"),
         (Flavour::Arrays, "arrays"),
         (Flavour::Procedures, "procedures"),
@@ -45,6 +47,7 @@ pub fn small(rng: &mut Rng) -> Raw {
         Flavour::Arrays,
         Flavour::Procedures,
         Flavour::Constants,
+        Flavour::Folds,
     ]);
     let statements = rng.within(1, 6);
     let depth = rng.within(2, 4);
@@ -216,6 +219,8 @@ struct Maker<'a> {
     names: Vec<String>,
     /// Levels of statements and expressions still allowed.
     depth: usize,
+    /// Names that calls and elements have for the most part.
+    called: Vec<String>,
     /// Statements still to come, bodies included.
     left: usize,
     in_procedure: bool,
@@ -230,12 +235,16 @@ impl<'a> Maker<'a> {
             _ => NAMES.len(),
         };
         let names = (0..size).map(|_| rng.pick(NAMES).to_string()).collect();
-        let depth = rng.within(3, 12);
+        let depth = match flavour {
+            Flavour::Folds => rng.within(1, 4),
+            _ => rng.within(3, 12),
+        };
         Maker {
             rng,
             flavour,
             names,
             depth,
+            called: vec![],
             left: 0,
             in_procedure: false,
         }
@@ -243,10 +252,17 @@ impl<'a> Maker<'a> {
 
     fn image(mut self, statements: usize) -> Raw {
         self.left = statements;
+        let planned = if self.flavour == Flavour::Calls {
+            self.planned()
+        } else {
+            vec![]
+        };
         let mut program = Vec::new();
         while self.left > 0 {
             program.push(self.stmt());
         }
+        let at = if self.coin() { 0 } else { program.len() };
+        program.splice(at..at, planned);
         let erased = if self.rng.one_in(3) {
             self.some(3, Self::name)
         } else {
@@ -260,7 +276,54 @@ impl<'a> Maker<'a> {
         image::build(&program, &erased, &extra)
     }
 
+    /// Two procedures and two arrays, so that most calls are of something.
+    fn planned(&mut self) -> Vec<Stmt> {
+        let mut planned = Vec::new();
+        for kind in [20, 20, 15, 15] {
+            let name = self.name();
+            self.called.push(name.clone());
+            let kind = if kind == 20 {
+                StmtKind::Function {
+                    name,
+                    params: self.some(3, |m| Param {
+                        byval: m.rng.one_in(5),
+                        array: m.rng.one_in(5),
+                        ..m.param()
+                    }),
+                    ret_ty: None,
+                    body: vec![],
+                    is_static: false,
+                    def_fn: false,
+                }
+            } else {
+                let dimensions = Some(vec![self.leaf()]);
+                StmtKind::Dim {
+                    decls: vec![Declarator {
+                        name,
+                        dimensions,
+                        lowers: vec![],
+                        ty: None,
+                    }],
+                    shared: self.coin(),
+                }
+            };
+            planned.push(Stmt {
+                line: self.line(),
+                kind,
+            });
+        }
+        planned
+    }
+
     // Pieces
+
+    /// The name of a call or an element.
+    fn called(&mut self) -> String {
+        if self.called.is_empty() || self.rng.one_in(6) {
+            return self.name();
+        }
+        self.rng.pick(&self.called).clone()
+    }
 
     fn coin(&mut self) -> bool {
         self.rng.coin()
@@ -348,7 +411,17 @@ impl<'a> Maker<'a> {
     }
 
     fn float(&mut self) -> f64 {
-        let f = match self.rng.below(8) {
+        let f = match self.rng.below(10) {
+            8 => self.half_way(),
+            9 => {
+                // Between two whole numbers, or next to there.
+                let half = f64::from(self.rng.next() as i32 >> self.rng.below(31)) + 0.5;
+                f64::from_bits(
+                    half.to_bits()
+                        .wrapping_add(self.rng.below(3) as u64)
+                        .wrapping_sub(1),
+                )
+            }
             0 => f64::from_bits(self.rng.next()),
             1 => f64::from(f32::from_bits(self.rng.next() as u32)),
             2 => self.rng.next() as i32 as f64 / 2.0,
@@ -363,14 +436,26 @@ impl<'a> Maker<'a> {
         if f.is_finite() { f } else { 1.0 }
     }
 
+    /// Between two neighbours of 32 bits, or next to there, where narrowing has to choose.
+    fn half_way(&mut self) -> f64 {
+        let narrow = f64::from(f32::from_bits(self.rng.next() as u32)).to_bits();
+        let step = self.rng.below(3) as u64;
+        f64::from_bits((narrow | 1 << 28).wrapping_add(step).wrapping_sub(1))
+    }
+
     // Expressions
 
     fn expr(&mut self) -> Expr {
         if self.depth == 0 {
-            return self.leaf();
+            return if self.flavour == Flavour::Folds {
+                self.operand()
+            } else {
+                self.leaf()
+            };
         }
         self.depth -= 1;
         let e = match self.flavour {
+            Flavour::Folds => self.sum(),
             Flavour::Constants => self.constant(),
             Flavour::Calls | Flavour::Uses => self.call_like(),
             _ if self.rng.one_in(3) => self.call_like(),
@@ -401,6 +486,39 @@ impl<'a> Maker<'a> {
             10 => self.field(),
             11 => self.element(),
             _ => self.call(),
+        }
+    }
+
+    /// A number, or a constant that may be there by now.
+    fn operand(&mut self) -> Expr {
+        if self.rng.one_in(4) {
+            return Expr::Variable(self.name());
+        }
+        match self.literal() {
+            Literal::String(_) if !self.rng.one_in(4) => Expr::Literal(Literal::Integer(2)),
+            l => Expr::Literal(l),
+        }
+    }
+
+    /// Arithmetic on numbers.
+    fn sum(&mut self) -> Expr {
+        match self.rng.below(12) {
+            0..5 => self.operand(),
+            5 => Expr::Unary {
+                op: UnaryOp::Neg,
+                operand: self.boxed(),
+            },
+            6 => self.unary(),
+            7 => Expr::Paren(self.boxed()),
+            8 => self.binary(),
+            _ => {
+                use BinaryOp::*;
+                Expr::Binary {
+                    op: *self.rng.pick(&[Add, Sub, Mul, Div, IntDiv, Mod]),
+                    left: Box::new(self.operand()),
+                    right: Box::new(self.operand()),
+                }
+            }
         }
     }
 
@@ -462,14 +580,14 @@ impl<'a> Maker<'a> {
 
     fn call(&mut self) -> Expr {
         Expr::FnCall {
-            name: self.name(),
+            name: self.called(),
             args: self.args(),
         }
     }
 
     fn element(&mut self) -> Expr {
         Expr::ArrayAccess {
-            name: self.name(),
+            name: self.called(),
             indices: self.args(),
         }
     }
@@ -577,7 +695,7 @@ impl<'a> Maker<'a> {
 
     fn stmt(&mut self) -> Stmt {
         self.left = self.left.saturating_sub(1);
-        let kind = if self.rng.one_in(3) {
+        let kind = if self.flavour != Flavour::Folds && self.rng.one_in(3) {
             let any = self.rng.below(54);
             self.kind(any)
         } else {
@@ -598,6 +716,7 @@ impl<'a> Maker<'a> {
         let kinds: &[usize] = match self.flavour {
             Flavour::Mixed => &[0, 1, 15, 17, 18, 19, 20, 21, 22, 25, 28, 29, 2, 6, 44],
             Flavour::Constants => &[25, 25, 25, 25, 28, 21],
+            Flavour::Folds => &[25],
             Flavour::Types => &[29, 29, 29, 15, 20, 21, 18],
             Flavour::Arrays => &[15, 15, 15, 19, 19, 28, 20, 21, 29, 2],
             Flavour::Procedures => &[20, 21, 20, 21, 15, 22, 29, 17, 18],
@@ -691,7 +810,7 @@ impl<'a> Maker<'a> {
             },
             20 | 21 => self.procedure(),
             22 => StmtKind::Call {
-                name: self.name(),
+                name: self.called(),
                 args: self.some(4, Self::expr),
             },
             23 => StmtKind::MidAssign {

@@ -23,6 +23,8 @@ mod limits;
 #[cfg(original)]
 mod run;
 #[cfg(original)]
+pub mod steps;
+#[cfg(original)]
 mod table;
 
 #[cfg(original)]

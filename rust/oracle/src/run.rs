@@ -5,7 +5,7 @@ use crate::codec;
 pub use crate::limits::Lent;
 use crate::limits::{Stepper, may_stop};
 use crate::raw::{MAX_DIAGNOSTICS, MAX_ROWS, Raw, Refusal};
-use crate::sema::{Diagnostic, Original, Scope};
+use crate::sema::{Diagnostic, Original, Scope, Symbols};
 pub use crate::table::Row;
 use crate::table::{Numbers, rows};
 use std::collections::HashSet;
@@ -26,6 +26,7 @@ pub const LENT: Lent = Lent {
 };
 
 /// An image read into the original's own types.
+#[derive(Clone)]
 pub struct Input<'a> {
     pub program: Vec<Stmt>,
     pub erased: HashSet<String>,
@@ -51,6 +52,13 @@ pub fn whole(mut input: Input<'_>) -> Analysis {
     let collected = original.diagnostics().len();
     original.check_name_collisions();
     finish(original, collected, input)
+}
+
+/// The tables that `collect` gives, in the original's own form.
+pub fn tables(input: &Input<'_>) -> Symbols {
+    let mut original = Original::new(input.erased.clone());
+    original.collect(&input.program, &Scope::Module);
+    original.symbols().clone()
 }
 
 /// The same, a step at a time, stopped by numbers 7, 8 and 9.

@@ -7,8 +7,10 @@ const HELP: &str = "\
 fuzz image SEED                  the image of a seed, to standard output
 fuzz small SEED                  a small program's image
 fuzz self FIRST COUNT            the original against itself: whole and by steps, both codecs, the text form; a table of what came
+fuzz steps FIRST COUNT           demand 3 by running: random steps, allowed and forbidden
 fuzz vectors FIRST COUNT         small programs as words, with their listings, as text
 fuzz keep FIRST COUNT FOLDER     lists of small images with their listings, to be replayed
+fuzz samples FOLDER              the image and the listing beside each text of a folder
 ";
 
 fn main() -> ExitCode {
@@ -20,6 +22,10 @@ fn main() -> ExitCode {
         ["small", seed] => number(seed).map(|s| put(&fuzz::small(s).to_bytes())),
         #[cfg(original)]
         ["self", first, count] => range(first, count).map(fuzz::judged::check_self),
+        #[cfg(original)]
+        ["steps", first, count] => range(first, count).map(fuzz::judged::steps),
+        #[cfg(original)]
+        ["samples", folder] => Some(fuzz::judged::samples(folder.as_ref())),
         #[cfg(original)]
         ["vectors", first, count] => range(first, count).map(fuzz::judged::vectors),
         #[cfg(original)]

@@ -28,6 +28,7 @@ fn main() {
     }
     fs::write(out.join("original.rs"), modules).expect("OUT_DIR can be written");
     println!("cargo::rustc-cfg=original");
+    println!("cargo::metadata=available=1");
 }
 
 /// The folder may be the repository's root or its `src`.

@@ -31,7 +31,25 @@ pub fn sides() -> Vec<Side> {
             run: original,
             parts: &["decode", "passes", "text"],
         },
+        #[cfg(analyser)]
+        Side {
+            name: "proved",
+            run: proved,
+            parts: &[],
+        },
     ]
+}
+
+#[cfg(analyser)]
+fn proved(file: &[u8]) -> (Vec<Duration>, Vec<u8>) {
+    thread_local! {
+        static OUT: std::cell::RefCell<Vec<u8>> = std::cell::RefCell::new(vec![0; analyser::ENOUGH]);
+    }
+    // The buffer is lent and reused, as a compiler would.
+    OUT.with_borrow_mut(|out| {
+        let length = analyser::listing(file, out).expect("a listing fits");
+        (vec![], out[..length].to_vec())
+    })
 }
 
 #[cfg(original)]

@@ -12,7 +12,7 @@ use std::ops::Range;
 use std::path::Path;
 
 /// What a listing has, for a table of what a run met.
-fn features(answer: &Result<Analysis, Refusal>) -> Vec<String> {
+pub fn features(answer: &Result<Analysis, Refusal>) -> Vec<String> {
     match answer {
         Err(refusal) => vec![format!("E {}", refusal.number)],
         Ok(a) => {

@@ -3,6 +3,8 @@
 //! A case is a function of its seed and of nothing else, so a seed is all that a record of a run needs.
 
 pub mod bench;
+#[cfg(all(original, analyser))]
+pub mod compare;
 pub mod damage;
 #[cfg(original)]
 pub mod judged;

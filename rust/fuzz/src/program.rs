@@ -28,6 +28,7 @@ pub fn any(rng: &mut Rng) -> (Raw, &'static str) {
         (Flavour::Arrays, "arrays"),
         (Flavour::Procedures, "procedures"),
         (Flavour::Calls, "calls"),
+        (Flavour::Calls, "calls"),
         (Flavour::Uses, "uses"),
     ]);
     let statements = match rng.below(20) {

@@ -7,6 +7,7 @@ const HELP: &str = "\
 fuzz image SEED                  the image of a seed, to standard output
 fuzz small SEED                  a small program's image
 fuzz self FIRST COUNT            the original against itself: whole and by steps, both codecs, the text form; a table of what came
+fuzz compare FIRST COUNT         the analyser against the original, line by line; ends with 1 where they part
 fuzz steps FIRST COUNT           demand 3 by running: random steps, allowed and forbidden
 fuzz vectors FIRST COUNT         small programs as words, with their listings, as text
 fuzz keep FIRST COUNT FOLDER     lists of small images with their listings, to be replayed
@@ -22,6 +23,12 @@ fn main() -> ExitCode {
         ["small", seed] => number(seed).map(|s| put(&fuzz::small(s).to_bytes())),
         #[cfg(original)]
         ["self", first, count] => range(first, count).map(fuzz::judged::check_self),
+        #[cfg(all(original, analyser))]
+        ["compare", first, count] => range(first, count).map(|seeds| {
+            if !fuzz::compare::compare(seeds) {
+                std::process::exit(1);
+            }
+        }),
         #[cfg(original)]
         ["steps", first, count] => range(first, count).map(fuzz::judged::steps),
         #[cfg(original)]

@@ -190,6 +190,16 @@ pub fn steps(seeds: Range<u64>) {
     }
 }
 
+/// A number for each seed's listing, so that two builds of the original can be compared.
+pub fn digest(seeds: Range<u64>) {
+    for seed in seeds {
+        let listing = oracle::listing(&case(seed).file);
+        let fold = |h: u64, b: u8| (h ^ u64::from(b)).wrapping_mul(0x0100_0000_01b3);
+        let number = listing.bytes().fold(0xcbf2_9ce4_8422_2325, fold);
+        println!("{seed} {number:016x}");
+    }
+}
+
 /// Small programs with their listings, to try definitions on.
 ///
 /// `= seed`, `strings`, each string after `"`, `tree` and `erased` with their words, the readable text after `;`, then the
@@ -238,18 +248,19 @@ pub fn keep(seeds: Range<u64>, folder: &Path) {
         let Case { file, group } = case(seed);
         let answer = oracle::analyse_file(&file);
         // Large ones only for what the limits are about.
-        let (few, found) = if size > 640 {
+        let found: Vec<(String, usize)> = if size > 640 {
             let number = answer.as_ref().map_or_else(|r| r.number, |_| 0);
-            (1, vec![format!("{group} {number}")])
+            vec![(format!("{group} {number}"), 1)]
         } else {
-            let mut found = features(&answer);
-            found.extend(shapes(&file, &answer));
-            (2, found)
+            let coarse = features(&answer).into_iter().map(|f| (f, 3));
+            let fine = shapes(&file, &answer).into_iter().map(|f| (f, 1));
+            coarse.chain(fine).collect()
         };
-        if !found.iter().any(|f| met.get(f).copied().unwrap_or(0) < few) {
+        let few = |(f, wanted): &(String, usize)| met.get(f).copied().unwrap_or(0) < *wanted;
+        if !found.iter().any(few) {
             continue;
         }
-        for f in found {
+        for (f, _) in found {
             *met.entry(f).or_default() += 1;
         }
         record(lists.entry(group).or_default(), &file);

@@ -9,6 +9,7 @@ fuzz small SEED                  a small program's image
 fuzz self FIRST COUNT            the original against itself: whole and by steps, both codecs, the text form; a table of what came
 fuzz compare FIRST COUNT         the analyser against the original, line by line; ends with 1 where they part
 fuzz steps FIRST COUNT           demand 3 by running: random steps, allowed and forbidden
+fuzz digest FIRST COUNT          a number for each listing, to compare two builds of the original
 fuzz vectors FIRST COUNT         small programs as words, with their listings, as text
 fuzz keep FIRST COUNT FOLDER     lists of small images with their listings, to be replayed
 fuzz samples FOLDER              the image and the listing beside each text of a folder
@@ -29,6 +30,8 @@ fn main() -> ExitCode {
                 std::process::exit(1);
             }
         }),
+        #[cfg(original)]
+        ["digest", first, count] => range(first, count).map(fuzz::judged::digest),
         #[cfg(original)]
         ["steps", first, count] => range(first, count).map(fuzz::judged::steps),
         #[cfg(original)]

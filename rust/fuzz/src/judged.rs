@@ -1,5 +1,6 @@
 //! What the original says of generated images.
 
+use crate::program::fold;
 use crate::rng::Rng;
 use crate::{Case, case, rich, small};
 use image::ast::{Expr, Stmt, StmtKind};
@@ -240,12 +241,20 @@ fn record((count, list): &mut (usize, Vec<u8>), file: &[u8]) {
 /// the listing. Nothing is padded.
 pub fn keep(seeds: Range<u64>, folder: &Path) {
     fs::create_dir_all(folder).expect("the folder can be made");
-    let mut sizes: Vec<(usize, u64)> = seeds.map(|s| (case(s).file.len(), s)).collect();
+    // Cases, and constants each alone, the smallest first.
+    let alone = |seed| Case {
+        file: fold(&mut Rng::new(seed)).to_bytes(),
+        group: "folds",
+    };
+    let of = |seed, is_fold| if is_fold { alone(seed) } else { case(seed) };
+    let mut sizes: Vec<(usize, u64, bool)> = seeds
+        .flat_map(|s| [false, true].map(|is_fold| (of(s, is_fold).file.len(), s, is_fold)))
+        .collect();
     sizes.sort_unstable();
     let mut lists: BTreeMap<&'static str, (usize, Vec<u8>)> = BTreeMap::new();
     let mut met: BTreeMap<String, usize> = BTreeMap::new();
-    for (size, seed) in sizes {
-        let Case { file, group } = case(seed);
+    for (size, seed, is_fold) in sizes {
+        let Case { file, group } = of(seed, is_fold);
         let answer = oracle::analyse_file(&file);
         // Large ones only for what the limits are about.
         let found: Vec<(String, usize)> = if size > 640 {
@@ -353,7 +362,7 @@ fn statement_shapes(stmt: &Stmt, resolved: &Stmt, a: &Analysis) -> Vec<String> {
                 .map(|r| r[2])
                 .collect();
             let codes: Vec<u32> = a.diagnostics.iter().map(oracle::code).collect();
-            // Only a program of its own says which answer is this constant's.
+            // Only alone is the answer this constant's.
             if ends.len() + codes.len() == 1 {
                 found.push(format!("fold {parts} {ends:?} {codes:?}"));
             }

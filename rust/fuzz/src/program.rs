@@ -24,14 +24,18 @@ pub fn any(rng: &mut Rng) -> (Raw, &'static str) {
         (Flavour::Mixed, "mixed"),
         (Flavour::Constants, "constants"),
         (Flavour::Folds, "folds"),
+        (Flavour::Folds, "folds"),
         (Flavour::Types, "types"),
         (Flavour::Arrays, "arrays"),
         (Flavour::Procedures, "procedures"),
         (Flavour::Calls, "calls"),
         (Flavour::Calls, "calls"),
         (Flavour::Uses, "uses"),
+        (Flavour::Uses, "uses"),
     ]);
     let statements = match rng.below(20) {
+        // A fold is small, and one program has space for many.
+        _ if flavour == Flavour::Folds => rng.within(5, 60),
         0..8 => rng.within(1, 6),
         8..15 => rng.within(4, 20),
         15..19 => rng.within(10, 60),
@@ -55,6 +59,11 @@ pub fn small(rng: &mut Rng) -> Raw {
     let mut maker = Maker::new(rng, flavour);
     maker.depth = depth;
     maker.image(statements)
+}
+
+/// One constant.
+pub fn fold(rng: &mut Rng) -> Raw {
+    Maker::new(rng, Flavour::Folds).image(1)
 }
 
 /// Names that a pool is drawn from: every suffix, built-in functions, dots, the longest.
@@ -602,7 +611,7 @@ impl<'a> Maker<'a> {
 
     fn lvalue(&mut self) -> LValue {
         LValue {
-            name: self.name(),
+            name: self.called(),
             indices: self.maybe(Self::args),
             fields: if self.rng.one_in(4) {
                 self.some(2, Self::name)
@@ -673,7 +682,14 @@ impl<'a> Maker<'a> {
         let name = self.name();
         let params = self.some(4, Self::param);
         let outer = std::mem::replace(&mut self.in_procedure, true);
+        let called = self.called.len();
+        if self.flavour == Flavour::Uses {
+            // The body subscripts the array parameters, in many ranks and places.
+            let arrays = params.iter().filter(|p| p.array);
+            self.called.extend(arrays.map(|p| p.name.clone()));
+        }
         let body = self.body();
+        self.called.truncate(called);
         self.in_procedure = outer;
         let is_static = self.rng.one_in(4);
         if self.coin() {
@@ -722,7 +738,8 @@ impl<'a> Maker<'a> {
             Flavour::Arrays => &[15, 15, 15, 19, 19, 28, 20, 21, 29, 2],
             Flavour::Procedures => &[20, 21, 20, 21, 15, 22, 29, 17, 18],
             Flavour::Calls => &[22, 22, 2, 3, 15, 20, 21, 6, 7, 44],
-            Flavour::Uses => &[20, 21, 2, 4, 5, 32, 24, 3, 44, 23, 51, 50],
+            Flavour::Uses if !self.in_procedure => &[20, 21],
+            Flavour::Uses => &[2, 4, 5, 32, 24, 24, 3, 3, 44, 23, 51, 50, 20],
         };
         let kind = *self.rng.pick(kinds);
         self.kind(kind)
@@ -734,7 +751,7 @@ impl<'a> Maker<'a> {
             0 => StmtKind::Label(self.number()),
             1 => StmtKind::LabelName(self.name()),
             2 => StmtKind::Let {
-                name: self.name(),
+                name: self.called(),
                 indices: self.maybe(Self::args),
                 value: self.expr(),
             },

@@ -1,0 +1,168 @@
+//! Document 01's rows, from the original's hash maps.
+
+use crate::ast::{Literal, TypeRef};
+use crate::sema::{NameSets, Original, Scope};
+use std::collections::HashMap;
+
+pub type Row = [u32; 6];
+
+/// The number of a string, by its text.
+pub type Numbers<'a> = HashMap<&'a str, u32>;
+
+fn scope_word(scope: &Scope, numbers: &Numbers<'_>) -> u32 {
+    match scope {
+        Scope::Module => 0,
+        Scope::Proc(name) => numbers[name.as_str()] + 1,
+    }
+}
+
+fn type_words(ty: &TypeRef, numbers: &Numbers<'_>) -> [u32; 2] {
+    match ty {
+        TypeRef::Integer => [40, 0],
+        TypeRef::Long => [41, 0],
+        TypeRef::Single => [42, 0],
+        TypeRef::Double => [43, 0],
+        TypeRef::FixedString(n) => [44, *n as u32],
+        TypeRef::Record(name) => [45, numbers[name.as_str()]],
+    }
+}
+
+fn optional_type(ty: &Option<TypeRef>, numbers: &Numbers<'_>) -> [u32; 2] {
+    ty.as_ref().map_or([0, 0], |ty| type_words(ty, numbers))
+}
+
+fn literal_words(value: &Literal, numbers: &Numbers<'_>) -> [u32; 3] {
+    let split = |kind: u32, bits: u64| [kind, bits as u32, (bits >> 32) as u32];
+    match value {
+        Literal::Integer(n) => split(24, *n as u64),
+        Literal::Long(n) => split(25, *n as u64),
+        Literal::Single(f) => split(26, f.to_bits()),
+        Literal::Float(f) => split(27, f.to_bits()),
+        Literal::String(s) => [28, numbers[s.as_str()], 0],
+    }
+}
+
+/// Names of SHARED or STATIC items, each with 1 for a variable plus 2 for an array.
+fn marks(sets: &NameSets) -> HashMap<&str, u32> {
+    let mut marks = HashMap::new();
+    for name in &sets.vars {
+        *marks.entry(name.as_str()).or_insert(0) += 1;
+    }
+    for name in &sets.arrays {
+        *marks.entry(name.as_str()).or_insert(0) += 2;
+    }
+    marks
+}
+
+/// All rows, rising by their first two words.
+pub fn rows(original: &Original, numbers: &Numbers<'_>) -> Vec<Row> {
+    let symbols = original.symbols();
+    let n = |name: &str| numbers[name];
+    let head = |kind: u32, payload: u32| kind << 24 | payload;
+    let mut rows: Vec<Row> = Vec::new();
+    for (line, scope) in &symbols.lines {
+        rows.push([head(128, *line), 0, scope_word(scope, numbers), 0, 0, 0]);
+    }
+    for (name, scope) in &symbols.labels {
+        rows.push([head(129, n(name)), 0, scope_word(scope, numbers), 0, 0, 0]);
+    }
+    for (name, record) in &symbols.records {
+        let words = record.words as u32;
+        rows.push([head(130, n(name)), 0, words, record.line, 0, 0]);
+        for (ordinal, (field, info)) in (0..).zip(&record.fields) {
+            let [ty, arg] = type_words(&info.ty, numbers);
+            let word = info.word as u32;
+            rows.push([head(131, n(name)), ordinal, n(field), word, ty, arg]);
+        }
+    }
+    for (name, value) in &symbols.consts {
+        let [kind, low, high] = literal_words(value, numbers);
+        rows.push([head(132, n(name)), 0, kind, low, high, 0]);
+    }
+    for ((scope, name), info) in &symbols.arrays {
+        let lower = u32::from(info.has_lower);
+        let scope = scope_word(scope, numbers);
+        rows.push([
+            head(133, n(name)),
+            scope,
+            info.rank as u32,
+            info.line,
+            lower,
+            0,
+        ]);
+    }
+    for ((scope, name), ty) in &symbols.typed_vars {
+        let [ty, arg] = type_words(ty, numbers);
+        rows.push([
+            head(134, n(name)),
+            scope_word(scope, numbers),
+            ty,
+            arg,
+            0,
+            0,
+        ]);
+    }
+    for (name, info) in &symbols.procs {
+        let [ty, arg] = optional_type(&info.ret_ty, numbers);
+        let function = u32::from(info.is_function);
+        rows.push([head(135, n(name)), 0, function, info.line, ty, arg]);
+        for (ordinal, p) in (0..).zip(&info.params) {
+            let [ty, arg] = optional_type(&p.ty, numbers);
+            let mark = u32::from(p.byval) + 2 * u32::from(p.array);
+            rows.push([head(136, n(name)), ordinal, n(&p.name), mark, ty, arg]);
+        }
+    }
+    for name in &symbols.shared_all.vars {
+        rows.push([head(137, n(name)), 0, 0, 0, 0, 0]);
+    }
+    for name in &symbols.shared_all.arrays {
+        rows.push([head(137, n(name)), 1, 0, 0, 0, 0]);
+    }
+    for (kind, procs) in [(138, &symbols.proc_shared), (139, &symbols.proc_static)] {
+        for (proc, sets) in procs {
+            for (name, mark) in marks(sets) {
+                rows.push([head(kind, n(name)), n(proc) + 1, mark, 0, 0, 0]);
+            }
+        }
+    }
+    for (kind, procs) in [(140, &symbols.static_procs), (141, &symbols.def_fns)] {
+        rows.extend(
+            procs
+                .iter()
+                .map(|name| [head(kind, n(name)), 0, 0, 0, 0, 0]),
+        );
+    }
+    for (proc, name) in original.unranked_array_params() {
+        rows.push([head(142, n(name)), n(proc) + 1, 0, 0, 0, 0]);
+    }
+    if original.seen_option_base() {
+        rows.push([head(143, 0), 0, symbols.option_base as u32, 0, 0, 0]);
+    }
+    rows.sort_unstable();
+    debug_assert!(rows.windows(2).all(|w| w[0][..2] < w[1][..2]));
+    rows
+}
+
+/// How many rows there are, without building them.
+pub fn row_count(original: &Original) -> usize {
+    let s = original.symbols();
+    let items = |sets: &NameSets| sets.vars.union(&sets.arrays).count();
+    s.lines.len()
+        + s.labels.len()
+        + s.records
+            .values()
+            .map(|r| 1 + r.fields.len())
+            .sum::<usize>()
+        + s.consts.len()
+        + s.arrays.len()
+        + s.typed_vars.len()
+        + s.procs.values().map(|p| 1 + p.params.len()).sum::<usize>()
+        + s.shared_all.vars.len()
+        + s.shared_all.arrays.len()
+        + s.proc_shared.values().map(items).sum::<usize>()
+        + s.proc_static.values().map(items).sum::<usize>()
+        + s.static_procs.len()
+        + s.def_fns.len()
+        + original.unranked_array_params().len()
+        + usize::from(original.seen_option_base())
+}

@@ -41,7 +41,7 @@ pub name-at : (i : ℕ) → i < 55 → nameAt i ≡ entryAt i .name
 unfolding nameAt entryAt
 name-at i h = map-at (λ (b : Builtin). b .name) builtins i absent [] (omega (arith, count))
 
--- each name has at most seven ascii
+-- each name has at most seven bytes
 short : List Builtin → Bool
 short [] = true
 short (b ∷ bs) = leb (length (b .name)) 7 && short bs

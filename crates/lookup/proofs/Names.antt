@@ -1,0 +1,143 @@
+-- The code's table of builtins is the definition's, cell by cell, and comparing two names goes byte by byte. Assumes nothing.
+use mathlib.Core.Path.{_≡_, refl, sym, ap, _∙_}
+use mathlib.Core.Bool.{Bool, true, false, _&&_}
+use mathlib.Core.List.{List, [], _∷_, map}
+use mathlib.Core.Option.{none, some}
+use Prim.Native.Nat.{ℕ, zero, suc, _+_, _-_, _≤_, _<_}
+use native.Mathlib.Omega.{arith}
+use native.Mathlib.Nat.{le-of-suc-le-suc, not-suc-le-zero}
+use native.Mathlib.Numerals.{add-one}
+use lib.Dec.{leb, eqb}
+use lib.ListN.{length, drop, getD, replicate, List·getD-append, drop-of-length-le}
+use lib.Seq.{drop-cons}
+use borrow.Author.Tests.{leb-true, eq-eqb, ne-eqb}
+use Rattle.words.specs.Word.{pick}
+use Rattle.table.specs.Laws.{pick-true, pick-false}
+use Rattle.text.specs.Text.{ascii}
+use Rattle.lookup.specs.Builtins.{Builtin, takes, builtins, same, entryOf, cellsOf, cells, nameAt}
+
+-- ---- the entries
+
+absent : Builtin
+absent = record { name = []; least = 0; most = 0 }
+
+pub entryAt : ℕ → Builtin
+entryAt i = getD builtins i absent
+
+pub count : length builtins ≡ 55
+unfolding builtins
+count = refl
+
+map-at : {A B : Type 0} (f : A → B) (l : List A) (i : ℕ) (d : A) (e : B) → i < length l → getD (map f l) i e ≡ f (getD l i d)
+map-at f [] i d e h = absurd (not-suc-le-zero h)
+map-at f (x ∷ xs) zero d e h = refl
+map-at f (x ∷ xs) (suc i) d e h = map-at f xs i d e (le-of-suc-le-suc h)
+
+pub cells-at : (i : ℕ) → i < 55 → getD cells i [] ≡ cellsOf (entryAt i)
+unfolding cells entryAt
+cells-at i h = map-at cellsOf builtins i absent [] (omega (arith, count))
+
+pub name-at : (i : ℕ) → i < 55 → nameAt i ≡ entryAt i .name
+unfolding nameAt entryAt
+name-at i h = map-at (λ (b : Builtin). b .name) builtins i absent [] (omega (arith, count))
+
+-- each name has at most seven bytes
+short : List Builtin → Bool
+short [] = true
+short (b ∷ bs) = leb (length (b .name)) 7 && short bs
+
+all-short : short builtins ≡ true
+unfolding short builtins takes ascii
+all-short = refl
+
+short-at : (l : List Builtin) → short l ≡ true → (i : ℕ) → i < length l → length (getD l i absent .name) ≤ 7
+unfolding short
+short-at [] e i h = absurd (not-suc-le-zero h)
+short-at (b ∷ bs) e i h = go (leb (length (b .name)) 7) refl e i h (short-at bs)
+  where
+    go : (t : Bool) → leb (length (b .name)) 7 ≡ t → (t && short bs) ≡ true → (i : ℕ) → i < suc (length bs)
+        → (short bs ≡ true → (i : ℕ) → i < length bs → length (getD bs i absent .name) ≤ 7) → length (getD (b ∷ bs) i absent .name) ≤ 7
+    go true q r zero h ih = leb-true (length (b .name)) 7 q
+    go true q r (suc i) h ih = ih r i (le-of-suc-le-suc h)
+    go false q r i h ih =
+        let z : _≡_ {A = ℕ} 0 1 = cc in
+        absurd (omega arith)
+
+-- ---- the cells of entry i
+
+module _ (i : ℕ) (h : i < 55) where
+  pub cell-length : getD (getD cells i []) 0 0 ≡ length (nameAt i)
+  unfolding cellsOf
+  cell-length = ap (λ (l : List ℕ). getD l 0 0) (cells-at i h) ∙ ap length (sym (name-at i h))
+
+  pub cell-least : getD (getD cells i []) 1 0 ≡ entryAt i .least
+  unfolding cellsOf
+  cell-least = ap (λ (l : List ℕ). getD l 1 0) (cells-at i h)
+
+  pub cell-most : getD (getD cells i []) 2 0 ≡ entryAt i .most
+  unfolding cellsOf
+  cell-most = ap (λ (l : List ℕ). getD l 2 0) (cells-at i h)
+
+  pub name-short : length (nameAt i) ≤ 7
+  unfolding entryAt
+  name-short =
+      let e : length (nameAt i) ≡ length (getD builtins i absent .name) = ap length (name-at i h) in
+      omega (arith, short-at builtins all-short i (omega (arith, count)))
+
+  pub cell-byte : (j : ℕ) → j < length (nameAt i) → getD (getD cells i []) (j + 3) 0 ≡ getD (nameAt i) j 0
+  unfolding cellsOf
+  cell-byte j k =
+      let s : j + 3 ≡ suc (suc (suc j)) = omega arith in
+      let l : j < length (entryAt i .name) = omega (arith, ap length (name-at i h)) in
+      ap (λ (x : List ℕ). getD x (j + 3) 0) (cells-at i h) ∙ ap (λ (m : ℕ). getD (cellsOf (entryAt i)) m 0) s
+      ∙ List·getD-append (entryAt i .name) (replicate (7 - length (entryAt i .name)) 0) 0 j l ∙ ap (λ (x : List ℕ). getD x j 0) (sym (name-at i h))
+
+-- ---- two names
+
+pub same-length : (a b : List ℕ) → (length a ≡ length b → ⊥) → same a b ≡ false
+unfolding same
+same-length [] [] n = absurd (n refl)
+same-length [] (y ∷ b) n = refl
+same-length (x ∷ a) [] n = refl
+same-length (x ∷ a) (y ∷ b) n = ap (λ (t : Bool). eqb x y && t) (same-length a b (λ (e : length a ≡ length b). n (ap suc e))) ∙ and-false (eqb x y)
+  where
+    and-false : (t : Bool) → (t && false) ≡ false
+    and-false true = refl
+    and-false false = refl
+
+module _ (a b : List ℕ) (j : ℕ) where
+  step : j < length a → j < length b → same (drop j a) (drop j b) ≡ (eqb (getD a j 0) (getD b j 0) && same (drop (j + 1) a) (drop (j + 1) b))
+  unfolding same
+  step h k = rw (drop-cons a j 0 h, drop-cons b j 0 k, add-one j)
+
+  pub same-more : j < length a → j < length b → getD a j 0 ≡ getD b j 0 → same (drop j a) (drop j b) ≡ same (drop (j + 1) a) (drop (j + 1) b)
+  same-more h k e = step h k ∙ ap (λ (t : Bool). t && same (drop (j + 1) a) (drop (j + 1) b)) (eq-eqb (getD a j 0) (getD b j 0) e)
+
+  pub same-no : j < length a → j < length b → (getD a j 0 ≡ getD b j 0 → ⊥) → same (drop j a) (drop j b) ≡ false
+  same-no h k e = step h k ∙ ap (λ (t : Bool). t && same (drop (j + 1) a) (drop (j + 1) b)) (ne-eqb (getD a j 0) (getD b j 0) e)
+
+  pub same-end : length a ≤ j → length b ≤ j → same (drop j a) (drop j b) ≡ true
+  unfolding same
+  same-end h k = rw (drop-of-length-le a h, drop-of-length-le b k)
+
+-- ---- the first entry of a name
+
+module _ (name : List ℕ) (i : ℕ) (h : i < 55) where
+  entry-step : entryOf name (drop i builtins) ≡ pick (same name (nameAt i)) (some (entryAt i)) (entryOf name (drop (i + 1) builtins))
+  unfolding entryOf entryAt
+  entry-step =
+      ap (entryOf name) (drop-cons builtins i absent (omega (arith, count)))
+      ∙ ap (λ (n : List ℕ). pick (same name n) (some (getD builtins i absent)) (entryOf name (drop (suc i) builtins))) (sym (name-at i h))
+      ∙ ap (λ (k : ℕ). pick (same name (nameAt i)) (some (getD builtins i absent)) (entryOf name (drop k builtins))) (sym (add-one i))
+
+  pub entry-here : same name (nameAt i) ≡ true → entryOf name (drop i builtins) ≡ some (entryAt i)
+  entry-here e = entry-step ∙ pick-true (some (entryAt i)) (entryOf name (drop (i + 1) builtins)) e
+
+  pub entry-next : same name (nameAt i) ≡ false → entryOf name (drop i builtins) ≡ entryOf name (drop (i + 1) builtins)
+  entry-next e = entry-step ∙ pick-false (some (entryAt i)) (entryOf name (drop (i + 1) builtins)) e
+
+pub entry-end : (name : List ℕ) (i : ℕ) → 55 ≤ i → entryOf name (drop i builtins) ≡ none
+unfolding entryOf
+entry-end name i h =
+    let l : length builtins ≤ i = omega (arith, count) in
+    rw (drop-of-length-le builtins l)

@@ -1,0 +1,12 @@
+-- `contains` by the kind of name. Assumes nothing.
+use Rattle.lookup.proofs.contains.Statement.{statement}
+use Rattle.lookup.proofs.contains.Tie as tie
+
+returns : tie.Need-returns
+returns c = rw (c .if1 .taken)
+
+returns-2 : tie.Need-returns-2
+returns-2 c = rw (c .if1 .left)
+
+pub contains-spec : {M : Type 1} → statement M
+contains-spec = tie.close (tie.spec returns returns-2)

@@ -1,0 +1,62 @@
+-- `visible` by its cases, which are laws of `LookupLaws`. Assumes nothing.
+use mathlib.Core.Path.{sym, ap, _∙_, subst}
+use mathlib.Core.List.{[]}
+use Prim.Native.Nat.{_<_}
+use lib.ListN.{getD}
+use Rattle.table.specs.Answers.{Within}
+use Rattle.table.specs.declared.Found.{Found}
+use Rattle.lookup.specs.Lookup.{shares}
+use Rattle.lookup.specs.Answers.{rowAt}
+use Rattle.lookup.specs.LookupLaws.{visible-module, visible-own, visible-shared, visible-hidden}
+use borrow.Author.Needs.{needs}
+use Rattle.lookup.proofs.visible.Statement.{statement}
+use Rattle.lookup.proofs.visible.Tie as tie
+
+-- the row that was found is one of the table's
+in-table : (c : tie.After-own) → c .own .given .0 .0 < c .before .before .before .before .before .args .count
+in-table c = subst (λ (f : Found). Within (c .before .before .before .before .before .args .count) f) (c .own .given .1) (c .before .before .before .find-entry .ensures .0)
+
+find-entry-requires : tie.Need-find-entry-requires
+find-entry-requires c κs = search needs
+
+returns : tie.Need-returns
+returns c = (c .before .find-entry .ensures .0, λ rows H. c .before .find-entry .ensures .1 rows H ∙ sym (visible-module rows (c .before .before .before .args .kind) (c .before .before .before .args .scope) (c .before .before .before .args .name) (c .before .before .before .args .array) (c .if1 .taken)))
+
+enum-known-own : tie.Need-enum-known-own
+enum-known-own c = search needs
+
+enum-told : tie.Need-enum-told
+enum-told c = search needs
+
+sub-shares : tie.Need-sub-shares
+sub-shares c = search needs
+
+shares-requires : tie.Need-shares-requires
+shares-requires c κs = search needs
+
+find-entry-requires-2 : tie.Need-find-entry-requires-2
+find-entry-requires-2 c κs = search needs
+
+returns-2 : tie.Need-returns-2
+returns-2 c = (in-table (c .before), λ rows H. sym (visible-own rows (c .before .before .before .before .before .before .args .kind) (c .before .before .before .before .before .before .args .scope) (c .before .before .before .before .before .before .args .name) (c .before .before .before .before .before .before .args .array) (c .before .before .before .if1 .left) (getD rows (c .before .own .given .0 .0) []) (sym (c .before .before .before .before .find-entry .ensures .1 rows H) ∙ ap (rowAt rows) (c .before .own .given .1))))
+
+returns-3 : tie.Need-returns-3
+returns-3 c = (c .find-entry2 .ensures .0, λ rows H. c .find-entry2 .ensures .1 rows H ∙ sym (visible-shared rows (c .before .before .before .before .before .before .before .before .args .kind) (c .before .before .before .before .before .before .before .before .args .scope) (c .before .before .before .before .before .before .before .before .args .name) (c .before .before .before .before .before .before .before .before .args .array) (c .before .before .before .before .before .if1 .left) (sym (c .before .before .before .before .before .before .find-entry .ensures .1 rows H) ∙ ap (rowAt rows) (c .before .before .before .enum-told .given .1)) (sym (c .before .before .shares .ensures rows H) ∙ c .before .if2 .taken)))
+
+returns-4 : tie.Need-returns-4
+returns-4 c = (tt, λ rows H. sym (visible-hidden rows (c .before .before .before .before .before .before .before .args .kind) (c .before .before .before .before .before .before .before .args .scope) (c .before .before .before .before .before .before .before .args .name) (c .before .before .before .before .before .before .before .args .array) (c .before .before .before .before .if1 .left) (sym (c .before .before .before .before .before .find-entry .ensures .1 rows H) ∙ ap (rowAt rows) (c .before .before .enum-told .given .1)) (sym (c .before .shares .ensures rows H) ∙ c .if2 .left)))
+
+pub visible-spec : {M : Type 1} → statement M
+visible-spec =
+    tie.close
+    (tie.spec
+    find-entry-requires
+    returns
+    enum-known-own
+    enum-told
+    sub-shares
+    shares-requires
+    find-entry-requires-2
+    returns-2
+    returns-3
+    returns-4)

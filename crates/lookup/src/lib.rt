@@ -1,0 +1,348 @@
+// The leaves of document 01 without checks: what is answered is said for every table that the buffer holds.
+use entries::bit;
+use entries::entry_key;
+use table::Found;
+ghost use mathlib.Core.Path.{_≡_};
+ghost use mathlib.Core.List.{List, []};
+ghost use Prim.Native.Nat.{_*_, _+_, _≤_, _<_};
+ghost use lib.ListN.{length, getD};
+ghost use Rattle.table.specs.Rows.{Row, width, find, Holds};
+ghost use Rattle.table.specs.Answers.{Within};
+ghost use Rattle.entries.specs.Entries.{entryKey, has as hasOf, rowWord};
+ghost use Rattle.lookup.specs.Lookup.{contains as containsOf, shares as sharesOf, isStatic, recordWords, typeWords, typeOf, arrayOf, visible as visibleOf, typedVar, typedVarIn, lookupArray, fromSuffix, fromTypeRef, declaredType};
+ghost use Rattle.lookup.specs.Builtins.{cells, nameAt, same, builtin as builtinOf};
+ghost use Rattle.lookup.specs.Answers.{rowAt, typed, array as arrayOf′, class, argumentsOf};
+
+// The row of an entry.
+pub fn find_entry(b: &[u32], count: usize, kind: u32, name: u32, second: u32) -> Found
+    requires { ⌜ (count * width ≤ length (now b)) × (kind < 144) × (name < 16777216) ⌝ }
+    ensures within { λ r. ⌜ Within count r ⌝ }
+    ensures found { λ r. ⌜ ((rows : List Row) → Holds rows count (now (b .entry)) → rowAt rows r ≡ find (entryKey kind name second) rows) ⌝ }
+{
+    table::find(b, count, entry_key(kind, name, second))
+}
+
+// Whether there is one.
+pub fn has(b: &[u32], count: usize, kind: u32, name: u32, second: u32) -> bool
+    requires { ⌜ (count * width ≤ length (now b)) × (kind < 144) × (name < 16777216) ⌝ }
+    ensures { λ r. ⌜ ((rows : List Row) → Holds rows count (now (b .entry)) → r ≡ hasOf rows kind name second) ⌝ }
+{
+    entries::has(b, count, entry_key(kind, name, second))
+}
+
+// Word j of it, 0 where there is none.
+pub fn word(b: &[u32], count: usize, kind: u32, name: u32, second: u32, j: usize) -> u32
+    requires { ⌜ (count * width ≤ length (now b)) × (kind < 144) × (name < 16777216) × (j < width) ⌝ }
+    ensures { λ r. ⌜ ((rows : List Row) → Holds rows count (now (b .entry)) → r ≡ rowWord j (find (entryKey kind name second) rows)) ⌝ }
+{
+    entries::word(b, count, entry_key(kind, name, second), j)
+}
+
+// Whether a mark is an array's, or a variable's.
+fn contains(mark: u32, array: bool) -> bool
+    ensures { λ r. ⌜ r ≡ containsOf mark array ⌝ }
+{
+    if array {
+        return 2 <= mark;
+    }
+    mark % 2 == 1
+}
+
+// Whether the procedure uses the module's name, an array or a variable, rather than one of its own.
+pub fn shares(b: &[u32], count: usize, proc: u32, name: u32, array: bool) -> bool
+    requires { ⌜ (count * width ≤ length (now b)) × (proc < 16777216) × (name < 16777216) ⌝ }
+    ensures { λ r. ⌜ ((rows : List Row) → Holds rows count (now (b .entry)) → r ≡ sharesOf rows proc name array) ⌝ }
+{
+    if has(b, count, 141, proc, 0) {
+        return true;
+    }
+    if has(b, count, 137, name, bit(array)) {
+        return true;
+    }
+    contains(word(b, count, 138, name, proc + 1, 2), array)
+}
+
+// Whether the procedure's own name keeps its value between calls.
+pub fn is_static(b: &[u32], count: usize, proc: u32, name: u32, array: bool) -> bool
+    requires { ⌜ (count * width ≤ length (now b)) × (proc < 16777216) × (name < 16777216) ⌝ }
+    ensures { λ r. ⌜ ((rows : List Row) → Holds rows count (now (b .entry)) → r ≡ isStatic rows proc name array) ⌝ }
+{
+    if has(b, count, 140, proc, 0) {
+        return true;
+    }
+    contains(word(b, count, 139, name, proc + 1, 2), array)
+}
+
+// The words of the record of that name.
+fn record_words(b: &[u32], count: usize, name: u32) -> u32
+    requires { ⌜ (count * width ≤ length (now b)) × (name < 16777216) ⌝ }
+    ensures { λ r. ⌜ ((rows : List Row) → Holds rows count (now (b .entry)) → r ≡ recordWords (find (entryKey 130 name 0) rows)) ⌝ }
+{
+    match find_entry(b, count, 130, name, 0) {
+        Found::At(i) => b[i * table::WIDTH + 2],
+        Found::Nothing => 1,
+    }
+}
+
+// The size of a type in words.
+pub fn type_words(b: &[u32], count: usize, head: u32, arg: u32) -> u32
+    requires { ⌜ (count * width ≤ length (now b)) × (arg < 16777216) ⌝ }
+    ensures { λ r. ⌜ ((rows : List Row) → Holds rows count (now (b .entry)) → r ≡ typeWords rows head arg) ⌝ }
+{
+    match head {
+        44 => 2,
+        45 => record_words(b, count, arg),
+        _ => 1,
+    }
+}
+
+// The row of a kind that a name has from a scope: in a procedure its own, else the module's if it is shared.
+pub fn visible(b: &[u32], count: usize, kind: u32, scope: u32, name: u32, array: bool) -> Found
+    requires { ⌜ (count * width ≤ length (now b)) × (kind < 144) × (scope ≤ 16777216) × (name < 16777216) ⌝ }
+    ensures within { λ r. ⌜ Within count r ⌝ }
+    ensures found { λ r. ⌜ ((rows : List Row) → Holds rows count (now (b .entry)) → rowAt rows r ≡ visibleOf rows kind scope name array) ⌝ }
+{
+    let own = find_entry(b, count, kind, name, scope);
+    if scope == 0 {
+        return own;
+    }
+    match own {
+        Found::At(i) => Found::At(i),
+        Found::Nothing => {
+            if shares(b, count, scope - 1, name, array) {
+                find_entry(b, count, kind, name, 0)
+            } else {
+                Found::Nothing
+            }
+        }
+    }
+}
+
+// A variable's declared type: none, or its head's kind and its argument.
+pub enum Typed {
+    Untyped,
+    As { head: u32, arg: u32 },
+}
+
+// The type in row 134.
+fn type_at(b: &[u32], count: usize, found: Found) -> Typed
+    requires { ⌜ (count * width ≤ length (now b)) × Within count found ⌝ }
+    ensures { λ r. ⌜ ((rows : List Row) → Holds rows count (now (b .entry)) → typed r ≡ typeOf (rowAt rows found)) ⌝ }
+{
+    match found {
+        Found::At(i) => {
+            let at = i * table::WIDTH;
+            Typed::As {
+                head: b[at + 2],
+                arg: b[at + 3],
+            }
+        }
+        Found::Nothing => Typed::Untyped,
+    }
+}
+
+// A variable's declared type, the scope's own first.
+pub fn typed_var(b: &[u32], count: usize, scope: u32, name: u32) -> Typed
+    requires { ⌜ (count * width ≤ length (now b)) × (scope ≤ 16777216) × (name < 16777216) ⌝ }
+    ensures { λ r. ⌜ ((rows : List Row) → Holds rows count (now (b .entry)) → typed r ≡ typedVar rows scope name) ⌝ }
+{
+    type_at(b, count, visible(b, count, 134, scope, name, false))
+}
+
+// The type of a variable of exactly this scope.
+pub fn typed_var_in(b: &[u32], count: usize, scope: u32, name: u32) -> Typed
+    requires { ⌜ (count * width ≤ length (now b)) × (name < 16777216) ⌝ }
+    ensures { λ r. ⌜ ((rows : List Row) → Holds rows count (now (b .entry)) → typed r ≡ typedVarIn rows scope name) ⌝ }
+{
+    type_at(b, count, find_entry(b, count, 134, name, scope))
+}
+
+// What is known of an array.
+pub enum Array {
+    NoArray,
+    Info { rank: u32, line: u32, lower: u32 },
+}
+
+// The array in row 133.
+fn array_at(b: &[u32], count: usize, found: Found) -> Array
+    requires { ⌜ (count * width ≤ length (now b)) × Within count found ⌝ }
+    ensures { λ r. ⌜ ((rows : List Row) → Holds rows count (now (b .entry)) → arrayOf′ r ≡ arrayOf (rowAt rows found)) ⌝ }
+{
+    match found {
+        Found::At(i) => {
+            let at = i * table::WIDTH;
+            Array::Info {
+                rank: b[at + 2],
+                line: b[at + 3],
+                lower: b[at + 4],
+            }
+        }
+        Found::Nothing => Array::NoArray,
+    }
+}
+
+// The array that a name is from a scope.
+pub fn lookup_array(b: &[u32], count: usize, scope: u32, name: u32) -> Array
+    requires { ⌜ (count * width ≤ length (now b)) × (scope ≤ 16777216) × (name < 16777216) ⌝ }
+    ensures { λ r. ⌜ ((rows : List Row) → Holds rows count (now (b .entry)) → arrayOf′ r ≡ lookupArray rows scope name) ⌝ }
+{
+    array_at(b, count, visible(b, count, 133, scope, name, true))
+}
+
+// The position in `DataType` that a name's last byte gives.
+pub fn from_suffix(last: u8) -> u32
+    ensures { λ r. ⌜ r ≡ fromSuffix last ⌝ }
+{
+    match last {
+        37 => 0,
+        38 => 1,
+        33 => 2,
+        36 => 4,
+        _ => 3,
+    }
+}
+
+// The position in `DataType` of a declared type.
+pub fn from_type_ref(head: u32) -> u32
+    ensures { λ r. ⌜ r ≡ fromTypeRef head ⌝ }
+{
+    match head {
+        40 => 0,
+        41 => 1,
+        42 => 2,
+        44 => 4,
+        _ => 3,
+    }
+}
+
+// The type that a variable or an array's elements hold: none for a record, or a position in `DataType`.
+pub enum Declared {
+    Record,
+    Class(u32),
+}
+
+// By the AS clause, else by the name's last byte.
+pub fn declared_type(b: &[u32], count: usize, last: u8, scope: u32, name: u32) -> Declared
+    requires { ⌜ (count * width ≤ length (now b)) × (scope ≤ 16777216) × (name < 16777216) ⌝ }
+    ensures { λ r. ⌜ ((rows : List Row) → Holds rows count (now (b .entry)) → class r ≡ declaredType rows last scope name) ⌝ }
+{
+    let t = typed_var(b, count, scope, name);
+    match t {
+        Typed::Untyped => Declared::Class(from_suffix(last)),
+        Typed::As { head, arg: _ } => {
+            if head == 45 {
+                Declared::Record
+            } else {
+                Declared::Class(from_type_ref(head))
+            }
+        }
+    }
+}
+
+// `BUILTINS` of sema.rs: the name's length, the least and most arguments, the name and zeros.
+const BUILTINS: [[u8; 10]; 55] = [
+    [3, 1, 1, b'A', b'B', b'S', 0, 0, 0, 0],
+    [3, 1, 1, b'A', b'S', b'C', 0, 0, 0, 0],
+    [3, 1, 1, b'A', b'T', b'N', 0, 0, 0, 0],
+    [4, 1, 1, b'C', b'D', b'B', b'L', 0, 0, 0],
+    [4, 1, 1, b'C', b'H', b'R', b'$', 0, 0, 0],
+    [4, 1, 1, b'C', b'I', b'N', b'T', 0, 0, 0],
+    [4, 1, 1, b'C', b'L', b'N', b'G', 0, 0, 0],
+    [3, 1, 1, b'C', b'O', b'S', 0, 0, 0, 0],
+    [4, 1, 1, b'C', b'S', b'N', b'G', 0, 0, 0],
+    [3, 1, 1, b'C', b'V', b'D', 0, 0, 0, 0],
+    [3, 1, 1, b'C', b'V', b'I', 0, 0, 0, 0],
+    [3, 1, 1, b'C', b'V', b'L', 0, 0, 0, 0],
+    [3, 1, 1, b'C', b'V', b'S', 0, 0, 0, 0],
+    [3, 1, 1, b'E', b'O', b'F', 0, 0, 0, 0],
+    [3, 1, 1, b'E', b'X', b'P', 0, 0, 0, 0],
+    [3, 1, 1, b'F', b'I', b'X', 0, 0, 0, 0],
+    [4, 1, 1, b'H', b'E', b'X', b'$', 0, 0, 0],
+    [5, 2, 3, b'I', b'N', b'S', b'T', b'R', 0, 0],
+    [3, 1, 1, b'I', b'N', b'T', 0, 0, 0, 0],
+    [6, 1, 2, b'L', b'B', b'O', b'U', b'N', b'D', 0],
+    [6, 1, 1, b'L', b'C', b'A', b'S', b'E', b'$', 0],
+    [5, 2, 2, b'L', b'E', b'F', b'T', b'$', 0, 0],
+    [3, 1, 1, b'L', b'E', b'N', 0, 0, 0, 0],
+    [3, 1, 1, b'L', b'O', b'C', 0, 0, 0, 0],
+    [3, 1, 1, b'L', b'O', b'F', 0, 0, 0, 0],
+    [6, 1, 1, b'L', b'T', b'R', b'I', b'M', b'$', 0],
+    [3, 1, 1, b'L', b'O', b'G', 0, 0, 0, 0],
+    [4, 2, 3, b'M', b'I', b'D', b'$', 0, 0, 0],
+    [4, 1, 1, b'M', b'K', b'D', b'$', 0, 0, 0],
+    [4, 1, 1, b'M', b'K', b'I', b'$', 0, 0, 0],
+    [4, 1, 1, b'M', b'K', b'L', b'$', 0, 0, 0],
+    [4, 1, 1, b'M', b'K', b'S', b'$', 0, 0, 0],
+    [4, 1, 1, b'O', b'C', b'T', b'$', 0, 0, 0],
+    [3, 1, 1, b'P', b'O', b'S', 0, 0, 0, 0],
+    [5, 0, 0, b'D', b'A', b'T', b'E', b'$', 0, 0],
+    [5, 0, 0, b'T', b'I', b'M', b'E', b'$', 0, 0],
+    [3, 1, 1, b'F', b'R', b'E', 0, 0, 0, 0],
+    [6, 2, 2, b'R', b'I', b'G', b'H', b'T', b'$', 0],
+    [6, 1, 1, b'R', b'T', b'R', b'I', b'M', b'$', 0],
+    [3, 0, 1, b'R', b'N', b'D', 0, 0, 0, 0],
+    [3, 1, 1, b'S', b'G', b'N', 0, 0, 0, 0],
+    [3, 1, 1, b'S', b'P', b'C', 0, 0, 0, 0],
+    [3, 1, 1, b'S', b'I', b'N', 0, 0, 0, 0],
+    [6, 1, 1, b'S', b'P', b'A', b'C', b'E', b'$', 0],
+    [3, 1, 1, b'S', b'Q', b'R', 0, 0, 0, 0],
+    [4, 1, 1, b'S', b'T', b'R', b'$', 0, 0, 0],
+    [7, 2, 2, b'S', b'T', b'R', b'I', b'N', b'G', b'$'],
+    [3, 1, 1, b'T', b'A', b'B', 0, 0, 0, 0],
+    [6, 1, 2, b'U', b'B', b'O', b'U', b'N', b'D', 0],
+    [6, 1, 1, b'U', b'C', b'A', b'S', b'E', b'$', 0],
+    [3, 1, 1, b'T', b'A', b'N', 0, 0, 0, 0],
+    [5, 0, 1, b'T', b'I', b'M', b'E', b'R', 0, 0],
+    [3, 0, 0, b'E', b'R', b'R', 0, 0, 0, 0],
+    [3, 0, 0, b'E', b'R', b'L', 0, 0, 0, 0],
+    [3, 1, 1, b'V', b'A', b'L', 0, 0, 0, 0],
+];
+
+fn cell(i: usize, j: usize) -> u8
+    requires { ⌜ (i < 55) × (j < 10) ⌝ }
+    ensures { λ r. ⌜ r ≡ getD (getD cells i []) j 0 ⌝ }
+{
+    BUILTINS[i][j]
+}
+
+// Whether it is the name of entry i.
+fn is_named(name: &[u8], i: usize) -> bool
+    requires { ⌜ i < 55 ⌝ }
+    ensures { λ r. ⌜ r ≡ same (now (name .entry)) (nameAt i) ⌝ }
+{
+    let n = cell(i, 0) as usize;
+    if name.len() != n {
+        return false;
+    }
+    let mut j = 0;
+    while j < n {
+        if name[j] != cell(i, j + 3) {
+            return false;
+        }
+        j += 1;
+    }
+    true
+}
+
+// A builtin function: unknown, or the least and most arguments that it takes.
+pub enum Arguments {
+    Unknown,
+    Takes { least: u8, most: u8 },
+}
+
+// The builtin function of that name.
+pub fn builtin(name: &[u8]) -> Arguments
+    ensures { λ r. ⌜ r ≡ argumentsOf (builtinOf (now (name .entry))) ⌝ }
+{
+    let mut i = 0;
+    while i < 55 {
+        if is_named(name, i) {
+            return Arguments::Takes {
+                least: cell(i, 1),
+                most: cell(i, 2),
+            };
+        }
+        i += 1;
+    }
+    Arguments::Unknown
+}

@@ -1,0 +1,2 @@
+pub mod ConstEval
+pub mod Evaluates

@@ -1,11 +1,10 @@
 -- Where an expression's children stand, its shape by the kind of its head, and what is left of them at each turn of stepping over it. Assumes nothing.
-use Prim.Native.Nat.{ℕ, zero, suc, _+_, _-_, _<_, _≤_}
+use Prim.Native.Nat.{ℕ, _+_, _-_, _<_, _≤_}
 use mathlib.Core.Path.{_≡_, refl, sym, ap, _∙_}
 use mathlib.Core.Logic.{_⊎_, inl, inr, ⊎-elim}
 use mathlib.Core.Bool.{Bool, true, false}
-use mathlib.Core.List.{List, [], _∷_, _++_}
+use mathlib.Core.List.{List, [], _∷_}
 use native.Mathlib.Omega.{arith}
-use native.Mathlib.Numerals.{add-one}
 use lib.ListN.{length, getD}
 use lib.Dec.{eqb}
 use Rattle.words.specs.Word.{wordOf, pick, kindOf, payOf}
@@ -13,7 +12,7 @@ use Rattle.expr.specs.Expr.{Strings, Literal, Integer, Long, Single, Float, Tex
 use Rattle.expr.specs.Stands.{Wrote, Stands, StandsAll}
 use Rattle.expr.proofs.Laws.{got-17}
 use Rattle.expr.proofs.Parts.{wrote-none, wrote-cat, wrote-first, wrote-left, wrote-right}
-use Rattle.expr.proofs.Nodes.{node, Within, within, kind-of, in-lit, in-elem, in-unary, in-binary, in-field}
+use Rattle.expr.proofs.Nodes.{node, within, kind-of, in-lit, in-elem, in-unary, in-binary, in-field}
 use Rattle.skip.specs.Shape.{SomeExpr, literalWords, front, children, back, Shaped}
 use Rattle.skip.specs.declared.Shape.{Shape}
 

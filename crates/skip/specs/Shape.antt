@@ -4,7 +4,7 @@ use mathlib.Core.Path.{_≡_}
 use mathlib.Core.List.{List}
 use lib.Dec.{eqb}
 use Rattle.words.specs.Word.{pick}
-use Rattle.expr.specs.Expr.{Strings, Literal, Expr, Exprs, Lit, Var, Elem, Unary, Binary, Call, Field, Paren, none, more, many, kindL}
+use Rattle.expr.specs.Expr.{Strings, Expr, Exprs, Lit, Var, Elem, Unary, Binary, Call, Field, Paren, none, more, many, kindL}
 use Rattle.expr.specs.Stands.{Stands}
 use Rattle.skip.specs.declared.Shape.{Shape}
 

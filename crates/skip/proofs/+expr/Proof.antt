@@ -1,6 +1,6 @@
 -- The proof of `expr`, which calls itself in a loop over the children: the number of words left falls. At each turn what is left of the children
 -- stands at the place, for whatever expression stands at the start. Assumes nothing.
-use Prim.Native.Nat.{ℕ, _+_, _-_, _<_, _≤_}
+use Prim.Native.Nat.{ℕ, _+_, _-_, _<_}
 use native.Mathlib.Omega.{arith}
 use borrow.Fn.Kinds.{In}
 use borrow.Fn.PlainCycle.{Measures, is, falls, and}

@@ -1,0 +1,71 @@
+-- What `const_eval` asks of the words and the rows, and what it promises. Definitions only.
+use Prim.Native.Nat.{ℕ, _<_}
+use mathlib.Core.Path.{_≡_}
+use mathlib.Core.Bool.{Bool, true, false}
+use mathlib.Core.List.{List}
+use mathlib.Core.Option.{some}
+use lib.ListN.{getD}
+use Rattle.words.specs.Word.{kindOf}
+use Rattle.expr.specs.Expr.{Strings, Expr}
+use Rattle.expr.specs.Stands.{Stands}
+use Rattle.skip.specs.Shape.{SomeExpr}
+use Rattle.table.specs.Rows.{Row, find, Holds}
+use Rattle.entries.specs.Entries.{entryKey}
+use Rattle.fold.specs.ValueLaws.{RowValue}
+use Rattle.fold.specs.declared.Fold.{Fold}
+use Rattle.fold.specs.declared.Fold.the-variants.{Is, Overflow, NotConstant}
+use Rattle.consteval.specs.ConstEval.{rowValue, constEval}
+use Rattle.consteval.specs.declared.Folded.{Folded}
+
+-- ---- what is asked
+
+-- every CONST row holds a value that meets its rule, with n strings
+pub record Consts (n : ℕ) (rows : List Row) : Type 0 where
+  pub good : (name : ℕ) → name < 16777216 → (r : Row) → find (entryKey 132 name 0) rows ≡ some r → RowValue n (rowValue r)
+
+-- the buffer holds such rows
+pub record HoldsConsts (buf : List ℕ) (count : ℕ) : Type 0 where
+  pub strings : ℕ
+  pub rows : List Row
+  pub holds : Holds rows count buf
+  pub consts : Consts strings rows
+
+-- some expression stands at the place, and the buffer holds rows whose CONST rows meet their rule
+pub record Ready (ws : List ℕ) (at : ℕ) (buf : List ℕ) (count : ℕ) : Type 0 where
+  pub strings : Strings
+  pub expr : Expr
+  pub end : ℕ
+  pub stands : Stands ws strings at expr end
+  pub rows : List Row
+  pub holds : Holds rows count buf
+  pub consts : Consts (strings .count) rows
+
+-- an expression with a literal's head stands there
+pub record LiteralAt (ws : List ℕ) (at : ℕ) : Type 0 where
+  pub some : SomeExpr ws at
+  pub kind : kindOf (getD ws at 0) ≡ 16
+
+-- ---- what is promised
+
+-- the answer, and the place past the expression
+pub record Evaluated (rows : List Row) (e : Expr) (end : ℕ) (r : Folded) : Type 0 where
+  pub answer : r .fold ≡ constEval rows e
+  pub past : r .next ≡ end
+
+-- for whatever stands there and whatever rows the buffer holds
+abbrev pub Evaluates : (ws : List ℕ) (at : ℕ) (buf : List ℕ) (count : ℕ) → Folded → Type 0
+Evaluates ws at buf count r = (n : Strings) (e : Expr) (end : ℕ) → Stands ws n at e end → (rows : List Row) → Holds rows count buf → Evaluated rows e end r
+
+-- the same where no row matters
+abbrev pub EvaluatesAlone : (ws : List ℕ) (at : ℕ) → Folded → Type 0
+EvaluatesAlone ws at r = (n : Strings) (e : Expr) (end : ℕ) → Stands ws n at e end → (rows : List Row) → Evaluated rows e end r
+
+-- the place past what stands there
+abbrev pub Past : (ws : List ℕ) (at : ℕ) → ℕ → Type 0
+Past ws at r = (n : Strings) (e : Expr) (end : ℕ) → Stands ws n at e end → r ≡ end
+
+-- whether folding went well
+abbrev pub isValue : Fold → Bool
+isValue (Is v) = true
+isValue Overflow = false
+isValue NotConstant = false

@@ -1,0 +1,3 @@
+pub mod ConstEval
+pub mod Evaluates
+pub mod EvalLaws

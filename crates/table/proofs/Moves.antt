@@ -1,0 +1,85 @@
+-- Moving words within a list: the steps of the loops. Assumes nothing.
+use mathlib.Core.Path.{_≡_, refl, sym, ap, _∙_}
+use mathlib.Core.List.{List, [], _∷_, _++_, append-assoc}
+use Prim.Native.Nat.{ℕ, zero, suc, _≤_, _<_, _-_, _+_}
+use native.Mathlib.Omega.{arith}
+use native.Mathlib.Numerals.{add-one}
+use native.Mathlib.Nat.{not-suc-le-zero}
+use lib.ListN.{length, getD, set, take, drop, take-append-drop, length-append, List·getD-append, length-replicate}
+use Rattle.table.specs.Rows.{zeros}
+use lib.Seq.{slice, slice-empty, slice-cons, set-at, take-suc, append-snoc, length-take-le, length-slice, getD-take, getD-drop, getD-append-add, drop-cons, drop-append-le}
+
+-- up by w: where the loop begins
+pub up-start : (l : List ℕ) (to w : ℕ) → l ≡ take (to + w) l ++ (slice to to l ++ drop (to + w) l)
+up-start l to w = rw (slice-empty to l) (sym (take-append-drop (to + w) l))
+
+-- what is read is still there
+pub up-read : (l : List ℕ) (i to w : ℕ) → i < to → to + w ≤ length l → (rest : List ℕ) → getD (take (suc i + w) l ++ rest) i 0 ≡ getD l i 0
+up-read l i to w h k rest =
+    List·getD-append (take (suc i + w) l) rest 0 i (omega (arith, length-take-le (suc i + w) l (omega arith)))
+    ∙ getD-take (suc i + w) l i 0 (omega arith)
+
+-- a turn
+up-step : (l : List ℕ) (i to w : ℕ) → i < to → to + w ≤ length l
+    → set (take (suc i + w) l ++ (slice (suc i) to l ++ drop (to + w) l)) (i + w) (getD l i 0) ≡ take (i + w) l ++ (slice i to l ++ drop (to + w) l)
+up-step l i to w h k =
+    let rest : List ℕ = slice (suc i) to l ++ drop (to + w) l in
+    let s : suc i + w ≡ suc (i + w) = omega arith in
+    let e : take (suc i + w) l ≡ take (i + w) l ++ (getD l (i + w) 0 ∷ []) = ap (λ (n : ℕ). take n l) s ∙ take-suc l (i + w) 0 (omega arith) in
+    ap (λ (x : List ℕ). set (x ++ rest) (i + w) (getD l i 0)) e
+    ∙ ap (λ (x : List ℕ). set x (i + w) (getD l i 0)) (append-snoc (take (i + w) l) (getD l (i + w) 0) rest)
+    ∙ set-at (take (i + w) l) (getD l (i + w) 0) rest (getD l i 0) (i + w) (length-take-le (i + w) l (omega arith))
+    ∙ ap (λ (x : List ℕ). take (i + w) l ++ (x ++ drop (to + w) l)) (sym (slice-cons i to l 0 h (omega arith)))
+
+pub up-turn : (l b : List ℕ) (i to w : ℕ) → 0 < i → i ≤ to → to + w ≤ length l → b ≡ take (i + w) l ++ (slice i to l ++ drop (to + w) l)
+    → set b (i - 1 + w) (getD b (i - 1) 0) ≡ take (i - 1 + w) l ++ (slice (i - 1) to l ++ drop (to + w) l)
+up-turn l b zero to w z h k e = absurd (not-suc-le-zero z)
+up-turn l b (suc i) to w z h k e =
+    let s : suc i - 1 ≡ i = omega arith in
+    rw (s, e, up-read l i to w h k (slice (suc i) to l ++ drop (to + w) l)) (up-step l i to w h k)
+
+-- down by w: where the loop begins
+pub down-start : (l : List ℕ) (from w : ℕ) → l ≡ take from l ++ (slice (from + w) (from + w) l ++ drop from l)
+down-start l from w = rw (slice-empty (from + w) l) (sym (take-append-drop from l))
+
+slice-suc : (f t : ℕ) (l : List ℕ) → f ≤ t → t < length l → slice f (suc t) l ≡ slice f t l ++ (getD l t 0 ∷ [])
+slice-suc f t l h k =
+    ap (λ (x : List ℕ). drop f x) (take-suc l t 0 k) ∙ drop-append-le f (take t l) (getD l t 0 ∷ []) (omega (arith, length-take-le t l (omega arith)))
+
+-- a turn
+pub down-turn : (l b : List ℕ) (from i w : ℕ) → from ≤ i → i + w < length l → b ≡ take from l ++ (slice (from + w) (i + w) l ++ drop i l)
+    → set b i (getD b (i + w) 0) ≡ take from l ++ (slice (from + w) (i + 1 + w) l ++ drop (i + 1) l)
+down-turn l b from i w h k e =
+    let m : List ℕ = slice (from + w) (i + w) l in
+    let p : List ℕ = take from l ++ m in
+    let lm : length m ≡ i + w - (from + w) = length-slice (from + w) (i + w) l (omega arith) in
+    let lp : length p ≡ i = length-append (take from l) m ∙ omega (arith, lm, length-take-le from l (omega arith)) in
+    let b-is : b ≡ p ++ drop i l = e ∙ sym (append-assoc (take from l) m (drop i l)) in
+    let v : getD b (i + w) 0 ≡ getD l (i + w) 0 =
+    ap (λ (x : List ℕ). getD x (i + w) 0) b-is ∙ ap (λ (n : ℕ). getD (p ++ drop i l) (n + w) 0) (sym lp) ∙ getD-append-add p (drop i l) w 0 ∙ getD-drop i l w 0 in
+    let s : i + 1 + w ≡ suc (i + w) = omega arith in
+    rw (v, b-is, drop-cons l i 0 (omega arith), set-at p (getD l i 0) (drop (suc i) l) (getD l (i + w) 0) i lp, s, add-one i, slice-suc (from + w) (i + w) l (omega arith) k) (
+    append-assoc (take from l) m (getD l (i + w) 0 ∷ drop (suc i) l)
+    ∙ ap (λ (x : List ℕ). take from l ++ x) (sym (append-snoc m (getD l (i + w) 0) (drop (suc i) l))))
+
+-- zeros, from `from` on: a turn
+pub clear-start : (l : List ℕ) (from : ℕ) → l ≡ take from l ++ (zeros (from - from) ++ drop from l)
+clear-start l from =
+    let e : from - from ≡ 0 = omega arith in
+    rw e (sym (take-append-drop from l))
+
+zeros-snoc : (n : ℕ) (x : List ℕ) → zeros n ++ (0 ∷ x) ≡ 0 ∷ (zeros n ++ x)
+zeros-snoc zero x = refl
+zeros-snoc (suc n) x = ap (λ (y : List ℕ). 0 ∷ y) (zeros-snoc n x)
+
+pub clear-turn : (l b : List ℕ) (from i : ℕ) → from ≤ i → i < length l → b ≡ take from l ++ (zeros (i - from) ++ drop i l)
+    → set b i 0 ≡ take from l ++ (zeros (i + 1 - from) ++ drop (i + 1) l)
+clear-turn l b from i h k e =
+    let z : List ℕ = zeros (i - from) in
+    let p : List ℕ = take from l ++ z in
+    let lp : length p ≡ i = length-append (take from l) z ∙ omega (arith, length-replicate {A = ℕ} (i - from) 0, length-take-le from l (omega arith)) in
+    let b-is : b ≡ p ++ drop i l = e ∙ sym (append-assoc (take from l) z (drop i l)) in
+    let s : i + 1 - from ≡ suc (i - from) = omega arith in
+    rw (b-is, drop-cons l i 0 (omega arith), set-at p (getD l i 0) (drop (suc i) l) 0 i lp, s, add-one i) (
+    append-assoc (take from l) z (0 ∷ drop (suc i) l)
+    ∙ ap (λ (x : List ℕ). take from l ++ x) (zeros-snoc (i - from) (drop (suc i) l)))

@@ -1,0 +1,111 @@
+// The text of an answer: the diagnostics' lines, T lines, the R line; or the line of a refusal.
+use message::Diag;
+use message::put_diag;
+use table::NOTE_WIDTH;
+use table::WIDTH;
+use text::put_byte;
+use text::put_bytes;
+use text::put_decimal;
+use text::put_word;
+ghost use mathlib.Core.Path.{_≡_};
+ghost use mathlib.Core.List.{flatMap};
+ghost use Prim.Native.Nat.{_+_, _*_, _≤_};
+ghost use lib.ListN.{length, take, drop};
+ghost use Rattle.text.specs.Wrote.{Wrote};
+ghost use Rattle.message.specs.Message.{lines};
+ghost use Rattle.table.specs.Rows.{width, noteWidth};
+ghost use Rattle.page.specs.Page.{line, diagOf, page, refusal};
+ghost use Rattle.page.specs.Chunks.{chunks};
+
+// n words from `from` on, as a line.
+fn put_line(out: &mut [u8], at: usize, letter: u8, words: &[u32], from: usize, n: usize) -> usize
+    requires { ⌜ from + n ≤ length (now words) ⌝ }
+    ensures { λ r. ⌜ Wrote (line letter (take n (drop from (now (words .entry))))) (now (out .entry)) (now (out .exit)) at r ⌝ }
+{
+    let mut next = put_byte(out, at, letter);
+    let mut i = 0;
+    while i < n {
+        next = put_word(out, next, words[from + i]);
+        i += 1;
+    }
+    put_byte(out, next, b'\n')
+}
+
+fn diag_at(notes: &[u32], i: usize) -> Diag
+    requires { ⌜ i * noteWidth + noteWidth ≤ length (now notes) ⌝ }
+    ensures { λ r. ⌜ r ≡ diagOf (take noteWidth (drop (i * noteWidth) (now (notes .entry)))) ⌝ }
+{
+    let at = i * NOTE_WIDTH;
+    Diag {
+        code: notes[at],
+        line: notes[at + 1],
+        first: notes[at + 2],
+        second: notes[at + 3],
+        number: notes[at + 4],
+        note: notes[at + 5],
+    }
+}
+
+fn put_notes(
+    out: &mut [u8],
+    at: usize,
+    bytes: &[u8],
+    ends: &[u32],
+    notes: &[u32],
+    n: usize,
+) -> usize
+    requires { ⌜ n * noteWidth ≤ length (now notes) ⌝ }
+    ensures { λ r. ⌜ Wrote (flatMap (λ d. lines (now (bytes .entry)) (now (ends .entry)) (diagOf d)) (chunks noteWidth n (now (notes .entry)))) (now (out .entry)) (now (out .exit)) at r ⌝ }
+{
+    let mut next = at;
+    let mut i = 0;
+    while i < n {
+        next = put_diag(out, next, bytes, ends, diag_at(notes, i));
+        i += 1;
+    }
+    next
+}
+
+fn put_rows(out: &mut [u8], at: usize, rows: &[u32], n: usize) -> usize
+    requires { ⌜ n * width ≤ length (now rows) ⌝ }
+    ensures { λ r. ⌜ Wrote (flatMap (line 84) (chunks width n (now (rows .entry)))) (now (out .entry)) (now (out .exit)) at r ⌝ }
+{
+    let mut next = at;
+    let mut i = 0;
+    while i < n {
+        next = put_line(out, next, b'T', rows, i * WIDTH, WIDTH);
+        i += 1;
+    }
+    next
+}
+
+// How many diagnostics and rows stand in their buffers.
+pub struct Counts {
+    pub notes: usize,
+    pub rows: usize,
+}
+
+pub fn put_page(
+    out: &mut [u8],
+    bytes: &[u8],
+    ends: &[u32],
+    notes: &[u32],
+    rows: &[u32],
+    words: &[u32],
+    n: Counts,
+) -> usize
+    requires { ⌜ (n .notes * noteWidth ≤ length (now notes)) × (n .rows * width ≤ length (now rows)) ⌝ }
+    ensures { λ r. ⌜ Wrote (page (now (bytes .entry)) (now (ends .entry)) (chunks noteWidth (n .notes) (now (notes .entry))) (chunks width (n .rows) (now (rows .entry))) (now (words .entry))) (now (out .entry)) (now (out .exit)) 0 r ⌝ }
+{
+    let shown = put_notes(out, 0, bytes, ends, notes, n.notes);
+    let next = put_rows(out, shown, rows, n.rows);
+    put_line(out, next, b'R', words, 0, words.len())
+}
+
+pub fn put_refusal(out: &mut [u8], n: u32) -> usize
+    ensures { λ r. ⌜ Wrote (refusal n) (now (out .entry)) (now (out .exit)) 0 r ⌝ }
+{
+    let mut next = put_bytes(out, 0, b"E ");
+    next = put_decimal(out, next, n);
+    put_byte(out, next, b'\n')
+}

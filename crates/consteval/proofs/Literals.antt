@@ -8,6 +8,7 @@ use borrow.Author.Tests.{lt-ltb, le-ltb}
 use lib.Dec.{T}
 use lib.IntN.{ℤ, pos, negsuc}
 use lib.ListN.{length, getD}
+use lib.Ieee.Scale.{finite as finite64}
 use lib.Ieee as Ieee
 use Rattle.words.specs.Word.{kindOf, payOf, pick}
 use Rattle.expr.specs.Expr.{Literal, wordsL, ValidL, kindL}

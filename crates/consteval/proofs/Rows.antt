@@ -44,9 +44,7 @@ module _ (name : ℕ) {buf : List ℕ} {count k : ℕ} {f : Found} (q : k ≡ en
     value-good t C h = subst Good (value-at (C .holds) i t) (C .consts .good name h (getD (C .rows) i []) (row-is (C .holds)) .good)
 
     pub value-is : i < count → {v : Value} → v ≡ valueAt buf i → (rows : List Row) → Holds rows count buf → Is v ≡ constant rows name
-    unfolding constant
     value-is t e rows H = ap Is (e ∙ sym (value-at H i t)) ∙ sym (ap ofRow (row-is H))
 
   pub value-none : f ≡ Nothing → (rows : List Row) → Holds rows count buf → NotConstant ≡ constant rows name
-  unfolding constant
   value-none F rows H = sym (ap ofRow (subst (λ (j : ℕ). find j rows ≡ none) q (found-none rows count buf H k (sym F ∙ E rows H))))

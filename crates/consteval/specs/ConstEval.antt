@@ -39,7 +39,7 @@ ofRow none = NotConstant
 ofRow (some r) = Is (rowValue r)
 
 -- Expr::Variable: its CONST row, whatever the scope
-unfoldable pub constant : List Row → ℕ → Fold
+abbrev pub constant : List Row → ℕ → Fold
 constant rows name = ofRow (find (entryKey 132 name 0) rows)
 
 -- UnaryOp::Neg is 0; UnaryOp::Not, elements, calls and fields are the Rust's `_`, and nothing in them is folded

@@ -10,6 +10,7 @@ use borrow.Author.Tests.{ltb-true, ltb-false}
 use lib.Dec.{T, eqb, ltb}
 use lib.IntN.{pos, negsuc}
 use lib.ListN.{getD}
+use lib.Ieee.Scale.{finite as finite64}
 use lib.Ieee.{binary64}
 use lib.Ieee.Bits.{ofBits-fits}
 use Rattle.words.specs.Word.{pick}
@@ -66,7 +67,6 @@ module _ (ws : List ℕ) (W : Words32 ws) where
 
   module _ (n : Strings) (rows : List Row) (C : Consts (n .count) rows) where
     constant-row : (name : ℕ) → name < 16777216 → RowFold (n .count) (constant rows name)
-    unfolding constant
     constant-row name h = go (find (entryKey 132 name 0) rows) refl
       where
         go : (o : Option Row) → find (entryKey 132 name 0) rows ≡ o → RowFold (n .count) (ofRow o)

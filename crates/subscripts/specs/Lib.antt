@@ -1,0 +1,3 @@
+pub mod Subscripts
+pub mod Blind
+pub mod Examples

@@ -1,0 +1,4 @@
+pub mod View
+pub mod Uses
+pub mod Strip
+pub mod Build

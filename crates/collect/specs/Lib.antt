@@ -1,0 +1,6 @@
+pub mod State
+pub mod Diagnostics
+pub mod Seen
+pub mod Collect
+pub mod Blind
+pub mod Examples

@@ -1,0 +1,4 @@
+pub mod Tables
+pub mod Resolve
+pub mod Strip
+pub mod Flags

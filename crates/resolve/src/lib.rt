@@ -1,0 +1,1 @@
+// Resolving: so far its definitions.

@@ -144,7 +144,7 @@ clear-kind getPut = refl
 clear-kind lock = refl
 
 -- every statement's head is a statement's kind
-number-small : (k : Kind) → numberOf k < 54
+pub number-small : (k : Kind) → numberOf k < 54
 unfolding numberOf
 number-small label = lit< tt
 number-small labelName = lit< tt

@@ -113,7 +113,7 @@ const PARTS: [[u8; 6]; 39] = [
 ];
 
 // the i-th field of a row, in numbers; 0 past its end
-fn sort(row: usize, i: usize) -> u8
+pub fn sort(row: usize, i: usize) -> u8
     requires { ⌜ i < 6 ⌝ }
     ensures { λ r. ⌜ r ≡ getD (codes row) i 0 ⌝ }
 {

@@ -1,0 +1,34 @@
+-- The tables that rows stand for. These are definitions.
+use Prim.Native.Nat.{ℕ, _%_}
+use mathlib.Core.Bool.{Bool, true, false, _&&_, not}
+use mathlib.Core.List.{List}
+use mathlib.Core.Option.{Option, none, some}
+use lib.Dec.{eqb, leb}
+use lib.ListN.{getD}
+use Rattle.table.specs.Rows.{Row, find}
+use Rattle.entries.specs.Entries.{entryKey, has}
+use Rattle.lookup.specs.Lookup.{ArrayInfo, lookupArray}
+use Rattle.resolve.specs.Tables.{Tables}
+
+-- a parameter with these marks, whose type has this head: by reference (no mark 1), no array (no mark 2) and no record (45, whether or
+-- not a row 130 has that TYPE)
+abbrev pub isScalar : (marks head : ℕ) → Bool
+isScalar marks head = not (eqb (marks % 2) 1) && (not (leb 2 marks) && not (eqb head 45))
+
+-- there is such a parameter
+abbrev pub byRef : Option Row → Bool
+byRef none = false
+byRef (some r) = isScalar (getD r 3 0) (getD r 4 0)
+
+-- `is_some`
+abbrev pub isSome : Option ArrayInfo → Bool
+isSome none = false
+isSome (some a) = true
+
+-- A procedure is known by its row 135; the parameter at a position is the row 136 of that ordinal.
+unfoldable pub tablesOf : List Row → Tables
+tablesOf rows = record {
+  procedure = λ f. has rows 135 f 0;
+  reference = λ f i. byRef (find (entryKey 136 f i) rows);
+  array = λ σ f. isSome (lookupArray rows σ f);
+}

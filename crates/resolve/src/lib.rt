@@ -1,0 +1,68 @@
+// What resolving asks of the rows: whether an argument keeps its pair of parentheses, and whether a call is an element.
+use lookup::Array;
+use table::Found;
+ghost use mathlib.Core.Path.{_≡_};
+ghost use mathlib.Core.List.{List};
+ghost use Prim.Native.Nat.{_*_, _≤_, _<_};
+ghost use lib.ListN.{length};
+ghost use Rattle.table.specs.Rows.{Row, width, Holds};
+ghost use Rattle.table.specs.Answers.{Within};
+ghost use Rattle.lookup.specs.Answers.{rowAt};
+ghost use Rattle.resolve.specs.Tables.{places, element};
+ghost use Rattle.resolve.specs.FromRows.{isScalar, byRef, tablesOf};
+
+// Whether a parameter with these marks and this type is by reference, and neither an array nor a record.
+fn is_scalar(marks: u32, head: u32) -> bool
+    ensures { λ r. ⌜ r ≡ isScalar marks head ⌝ }
+{
+    if marks % 2 == 1 {
+        return false;
+    }
+    if 2 <= marks {
+        return false;
+    }
+    head != 45
+}
+
+// Whether the argument at position i of f is for such a parameter. A procedure without a row of its own is not known.
+pub fn by_ref(b: &[u32], count: usize, f: u32, i: u32) -> bool
+    requires { ⌜ (count * width ≤ length (now b)) × (f < 16777216) ⌝ }
+    ensures { λ r. ⌜ ((rows : List Row) → Holds rows count (now (b .entry)) → r ≡ places (tablesOf rows) f i) ⌝ }
+{
+    if lookup::has(b, count, 135, f, 0) {
+        return takes(b, count, lookup::find_entry(b, count, 136, f, i));
+    }
+    false
+}
+
+// Whether a parameter's row was found, and it is such a parameter's.
+fn takes(b: &[u32], count: usize, found: Found) -> bool
+    requires { ⌜ (count * width ≤ length (now b)) × Within count found ⌝ }
+    ensures { λ r. ⌜ ((rows : List Row) → Holds rows count (now (b .entry)) → r ≡ byRef (rowAt rows found)) ⌝ }
+{
+    match found {
+        Found::At(j) => {
+            let at = j * table::WIDTH;
+            is_scalar(b[at + 3], b[at + 4])
+        }
+        Found::Nothing => false,
+    }
+}
+
+// Whether a call of f from the scope is an element: a visible array, and no procedure.
+pub fn is_element(b: &[u32], count: usize, scope: u32, f: u32) -> bool
+    requires { ⌜ (count * width ≤ length (now b)) × (scope ≤ 16777216) × (f < 16777216) ⌝ }
+    ensures { λ r. ⌜ ((rows : List Row) → Holds rows count (now (b .entry)) → r ≡ element (tablesOf rows) scope f) ⌝ }
+{
+    if lookup::has(b, count, 135, f, 0) {
+        return false;
+    }
+    match lookup::lookup_array(b, count, scope, f) {
+        Array::Info {
+            rank: _,
+            line: _,
+            lower: _,
+        } => true,
+        Array::NoArray => false,
+    }
+}

@@ -1,0 +1,223 @@
+-- What the calls inside `resolve_expr` and `resolve_args` require, and what they make together. Assumes nothing.
+use Prim.Native.Nat.{ℕ, suc, _+_, _-_, _*_, _≤_, _<_}
+use native.Mathlib.Nat.{add-zero}
+use native.Mathlib.Omega.{arith}
+use mathlib.Core.Path.{_≡_, refl, sym, ap, ap₂, subst, _∙_}
+use mathlib.Core.Bool.{Bool, true, false}
+use mathlib.Core.List.{List, [], _∷_, _++_, append-assoc}
+use lib.ListN.{length, take, drop, getD, length-append}
+use lib.Seq.{sets, take-append-seam}
+use Rattle.words.specs.Word.{wordOf, kindOf, payOf, pick}
+use Rattle.expr.specs.Expr.{Strings, Expr, Call, Exprs, many, words, wordsAll, kindE}
+use Rattle.expr.specs.Stands.{Wrote, Stands, StandsAll}
+use Rattle.expr.proofs.Parts.{pay-is}
+use Rattle.expr.proofs.Nodes.{kind-of}
+use Rattle.table.specs.Rows.{Row, Holds}
+use Rattle.resolve.specs.Tables.{Tables, Places, places, nowhere, element}
+use Rattle.resolve.specs.FromRows.{tablesOf}
+use Rattle.resolve.specs.Resolve.{resolveExpr, resolveArgs}
+use Rattle.resolve.specs.Keeps.{shorter-args}
+use Rattle.resolver.specs.Node.{front, kids, back, Shaped, pairOf, bare}
+use Rattle.resolver.specs.Post.{Room, Some, Ready, ReadyAll, Put, Resolved, ResolvedArgs, Paired, ShapedAt}
+use Rattle.resolver.proofs.Nodes.{node, front-some, inside, moves, in-call, in-pair, long-3, least-21}
+use Rattle.resolver.proofs.Writing.{sets-append, stands-bare, call-words, pair-words, node-words}
+use Rattle.resolver.proofs.Pairs.{unpaired}
+use Rattle.resolver.proofs.Lists.{Part, Walked, part-start, part-next, part-step, part-end}
+
+-- ---- one member of a list after another
+
+pub list-start : (m : Tables → Places) (k : ℕ) (ws buf out : List ℕ) (count scope at to : ℕ) → Walked m k ws buf out count scope at to at to 0 out
+list-start m k ws buf out count scope at to = record { gives = λ rows H n es end s q. part-start (tablesOf rows) scope (m (tablesOf rows)) to out s }
+
+-- where the next one stands
+pub record Here (ws : List ℕ) (at size a t : ℕ) : Type 0 where
+  pub some : Some ws a
+  pub from : at ≤ a
+  pub behind : t ≤ a
+  pub inside : a < length ws
+  pub room : t < size
+
+module _ {m : Tables → Places} {k : ℕ} {ws buf out : List ℕ} {count scope at to size a t i : ℕ} {now : List ℕ} (r : ReadyAll ws buf count scope at to size k) (w : Walked m k ws buf out count scope at to a t i now) where
+  own : Part (tablesOf (r .room .rows)) scope (m (tablesOf (r .room .rows))) ws (r .strings) (r .trees) at (r .end) to out a t i now
+  own = w .gives (r .room .rows) (r .room .holds) (r .strings) (r .trees) (r .end) (r .stands) (r .counted)
+
+  pub here : i < k → Here ws at size a t
+  here h =
+      let N = part-next own (omega (arith, r .counted)) in
+      let M = moves (N .there) in
+      let b : t ≤ a = omega (arith, own .upto, own .short, r .room .behind) in
+      let j : a < length ws = omega (arith, M) in
+      record { some = record { strings = r .strings; tree = N .head; end = N .mid; stands = N .there }; from = omega (arith, own .short); behind = b; inside = j; room = omega (arith, r .room .fits) }
+
+  -- what the resolver of expressions requires there, after the pair
+  pub ready-next : {mid : List ℕ} {h size′ : ℕ} → i < k → Paired (λ T. m T i) ws buf now mid count a t h → size′ ≡ size → Ready ws buf count scope (a + h) (t + h) size′
+  ready-next {mid} {h} {size′} z p q =
+      let N = part-next own (omega (arith, r .counted)) in
+      let d = p .gives (r .room .rows) (r .room .holds) (r .strings) (N .head) (N .mid) (N .there) in
+      let b = stands-bare (m (tablesOf (r .room .rows)) i) (N .there) in
+      let H = here z in
+      record {
+        some = record { strings = r .strings; tree = bare (m (tablesOf (r .room .rows)) i) (N .head); end = N .mid; stands = rw (d .0) b };
+        room = record { rows = r .room .rows; holds = r .room .holds; held = r .room .held; scoped = r .room .scoped; behind = omega (arith, H .behind); fits = omega (arith, r .room .fits) };
+      }
+
+  -- where the last one ends
+  pub ended : k ≤ i → (a ≡ r .end) × (t ≤ a)
+  ended h =
+      let d = part-end own (omega (arith, r .counted)) in
+      (d .past, omega (arith, own .upto, own .short, r .room .behind))
+
+-- the next one resolved
+pub list-step : {m : Tables → Places} {k : ℕ} {ws buf out : List ℕ} {count scope at to a t i : ℕ} {now : List ℕ} → Walked m k ws buf out count scope at to a t i now → {mid last : List ℕ} {h a′ t′ : ℕ} → i < k → Paired (λ T. m T i) ws buf now mid count a t h → Resolved ws buf mid last count scope (a + h) (t + h) a′ t′ → Walked m k ws buf out count scope at to a′ t′ (i + 1) last
+list-step {m} {k} {ws} {buf} {out} {count} {scope} {at} {to} {a} {t} {i} {now} w {mid} {last} {h} z p d = record {
+  gives = λ rows H n es end s q.
+      let P = w .gives rows H n es end s q in
+      let N = part-next P (omega (arith, q)) in
+      let e = p .gives rows H n (N .head) (N .mid) (N .there) in
+      let b = stands-bare (m (tablesOf rows) i) (N .there) in
+      part-step P N (e .0) (e .1) (d .gives rows H n (bare (m (tablesOf rows) i) (N .head)) (N .mid) (rw (e .0) b));
+}
+
+-- a member that is no argument has no pair
+pub ready-plain : {k : ℕ} {ws buf out : List ℕ} {count scope at to size size′ a t i : ℕ} {now : List ℕ} → ReadyAll ws buf count scope at to size k → Walked (λ T. nowhere) k ws buf out count scope at to a t i now → i < k → size′ ≡ size → Ready ws buf count scope a t size′
+ready-plain {ws = ws} {buf} {count = count} {scope} {size′ = size′} {a} {t} {i} {now} r w z q =
+    let x = ready-next r w z (unpaired i ws buf now count a t) q in
+    rw (add-zero a, add-zero t) at x
+
+pub plain-step : {k : ℕ} {ws buf out : List ℕ} {count scope at to a t i : ℕ} {now last : List ℕ} {a′ t′ : ℕ} → Walked (λ T. nowhere) k ws buf out count scope at to a t i now → i < k → Resolved ws buf now last count scope a t a′ t′ → Walked (λ T. nowhere) k ws buf out count scope at to a′ t′ (i + 1) last
+plain-step {ws = ws} {buf} {count = count} {a = a} {t} {i} {now} w z d = list-step w z (unpaired i ws buf now count a t) (rw (add-zero a, add-zero t) d)
+
+pub args-done : {f k : ℕ} {ws buf out : List ℕ} {count scope at to a t i : ℕ} {now : List ℕ} → Walked (λ T. places T f) k ws buf out count scope at to a t i now → k ≤ i → ResolvedArgs f k ws buf out now count scope at to a t
+args-done w h = record { gives = λ rows H n es end s q. part-end (w .gives rows H n es end s q) (omega (arith, q)) }
+
+-- ---- a pair that goes
+
+pub ready-pair : {ws buf : List ℕ} {count scope at to size size′ : ℕ} → Ready ws buf count scope at to size → kindOf (getD ws at 0) ≡ 23 → size′ ≡ size → Ready ws buf count scope (at + 1) to size′
+ready-pair r q z =
+    let P = in-pair q (r .some .stands) in
+    record {
+      some = record { strings = r .some .strings; tree = P .arg; end = r .some .end; stands = P .there };
+      room = record { rows = r .room .rows; holds = r .room .holds; held = r .room .held; scoped = r .room .scoped; behind = omega (arith, r .room .behind); fits = omega (arith, r .room .fits) };
+    }
+
+pub pair-done : {ws buf out last : List ℕ} {count scope at to a t : ℕ} → kindOf (getD ws at 0) ≡ 23 → Resolved ws buf out last count scope (at + 1) to a t → Resolved ws buf out last count scope at to a t
+pair-done {ws} {buf} {out} {last} {count} {scope} q d = record {
+  gives = λ rows H n e end s.
+      let P = in-pair q s in
+      rw (P .is, pair-words (tablesOf rows) scope (P .arg)) (d .gives rows H n (P .arg) end (P .there));
+}
+
+-- ---- a call
+
+pub ready-call : {ws buf : List ℕ} {count scope at to size size′ : ℕ} → Ready ws buf count scope at to size → kindOf (getD ws at 0) ≡ 21 → size′ ≡ size → ReadyAll ws buf count scope (at + 3) (to + 3) size′ (payOf (getD ws (at + 2) 0))
+ready-call r q z =
+    let C = in-call q (r .some .stands) in
+    record {
+      strings = r .some .strings;
+      trees = C .args;
+      end = r .some .end;
+      stands = C .there;
+      counted = sym (ap payOf (C .listed) ∙ pay-is 1 (many (C .args)) (C .few));
+      room = record { rows = r .room .rows; holds = r .room .holds; held = r .room .held; scoped = r .room .scoped; behind = omega (arith, r .room .behind); fits = omega (arith, r .room .fits) };
+    }
+
+pub call-room : {ws buf : List ℕ} {count scope at to size : ℕ} → Ready ws buf count scope at to size → kindOf (getD ws at 0) ≡ 21 → (at + 3 ≤ length ws) × (to + 3 ≤ size)
+call-room r q =
+    let l = long-3 21 q least-21 (r .some .stands) in
+    (l, omega (arith, r .room .behind, r .room .fits))
+
+pub call-done : {ws buf out mid last : List ℕ} {count scope at to a t h : ℕ} → kindOf (getD ws at 0) ≡ 21 → ((rows : List Row) → Holds rows count buf → h ≡ wordOf (pick (element (tablesOf rows) scope (payOf (getD ws (at + 1) 0))) 18 21) 0) → mid ≡ sets out to (h ∷ getD ws (at + 1) 0 ∷ getD ws (at + 2) 0 ∷ []) → ResolvedArgs (payOf (getD ws (at + 1) 0)) (payOf (getD ws (at + 2) 0)) ws buf mid last count scope (at + 3) (to + 3) a t → Resolved ws buf out last count scope at to a t
+call-done {ws} {buf} {out} {mid} {last} {count} {scope} {at} {to} {a} {t} {h} q hh b d = record { gives = λ rows H n e end s. go rows H n e end s }
+  where
+    go : (rows : List Row) → Holds rows count buf → (n : Strings) (e : Expr) (end : ℕ) → Stands ws n at e end → Put (words (resolveExpr (tablesOf rows) scope e)) out last to a t end
+    go rows H n e end s =
+        let C = in-call q s in
+        let T : Tables = tablesOf rows in
+        let f : ℕ = C .name in
+        let name : payOf (getD ws (at + 1) 0) ≡ f = ap payOf (C .called) ∙ pay-is 2 f (C .small) in
+        let args = d .gives rows H n (C .args) end (C .there) (sym (ap payOf (C .listed) ∙ pay-is 1 (many (C .args)) (C .few))) in
+        let y : List ℕ = wordsAll (resolveArgs T scope (places T f) (C .args)) in
+        let yy : wordsAll (resolveArgs T scope (places T (payOf (getD ws (at + 1) 0))) (C .args)) ≡ y = ap (λ (g : ℕ). wordsAll (resolveArgs T scope (places T g) (C .args))) name in
+        let head : h ≡ wordOf (pick (element T scope f) 18 21) 0 = hh rows H ∙ ap (λ (g : ℕ). wordOf (pick (element T scope g) 18 21) 0) name in
+        let x : List ℕ = wordOf (pick (element T scope f) 18 21) 0 ∷ wordOf 2 f ∷ wordOf 1 (many (C .args)) ∷ [] in
+        let xx : mid ≡ sets out to x = b ∙ ap (λ (g : ℕ). sets out to (g ∷ getD ws (at + 1) 0 ∷ getD ws (at + 2) 0 ∷ [])) head ∙ ap₂ (λ (g l : ℕ). sets out to (wordOf (pick (element T scope f) 18 21) 0 ∷ g ∷ l ∷ [])) (C .called) (C .listed) in
+        let whole : words (resolveExpr T scope e) ≡ x ++ y = ap (λ (g : Expr). words (resolveExpr T scope g)) (C .is) ∙ call-words T scope f (C .args) in
+        record {
+          past = args .past;
+          upto = rw whole (simp length-append (omega (arith, args .upto, ap length yy)));
+          now = rw whole (args .now ∙ ap (λ (l : List ℕ). sets mid (to + 3) l) yy ∙ ap (λ (l : List ℕ). sets l (to + 3) y) xx ∙ sym (sets-append x y out to));
+        }
+
+-- ---- any other node
+
+module _ {ws buf : List ℕ} {count scope at to size h k z : ℕ} (r : Ready ws buf count scope at to size) (g : ShapedAt ws at h k z) where
+  pub shape : Shaped (r .some .tree) h k z
+  shape = g .gives (r .some .strings) (r .some .tree) (r .some .end) (r .some .stands)
+
+  -- a node's children stand past it
+  pub beyond : 0 < h
+  beyond = omega (arith, shape .before, front-some (r .some .tree))
+
+  pub front-room : (at + h ≤ length ws) × (to + h ≤ size)
+  front-room =
+      let l = simp length-append at (ap length (node (r .some .tree))) in
+      let x : at + h ≤ length ws = omega (arith, shape .before, r .some .stands .wrote .span, r .some .stands .wrote .inside) in
+      (x, omega (arith, r .room .behind, r .room .fits))
+
+  unfoldable pub ready-kids : {size′ : ℕ} → size′ ≡ size → ReadyAll ws buf count scope (at + h) (to + h) size′ k
+  ready-kids q =
+      let I = inside (r .some .stands) in
+      let i = I .there in
+      record {
+        strings = r .some .strings;
+        trees = kids (r .some .tree);
+        end = I .mid;
+        stands = rw (shape .before) i;
+        counted = sym (shape .within);
+        room = record { rows = r .room .rows; holds = r .room .holds; held = r .room .held; scoped = r .room .scoped; behind = omega (arith, r .room .behind); fits = omega (arith, r .room .fits) };
+      }
+
+  pub back-room : {one now : List ℕ} {size′ a t i : ℕ} → size′ ≡ size → Walked (λ T. nowhere) k ws buf one count scope (at + h) (to + h) a t i now → k ≤ i → (a + z ≤ length ws) × (t + z ≤ size′)
+  unfolding ready-kids
+  back-room {one} {now} {size′} {a} {t} {i} q w e =
+      let K = ready-kids q in
+      let d = ended K w e in
+      let I = inside (r .some .stands) in
+      let b = I .behind in
+      let x : a + z ≤ length ws = omega (arith, d, shape .behind, b .span, b .inside) in
+      (x, omega (arith, d, K .room .fits))
+
+front-words : {ws : List ℕ} {n : Strings} {at : ℕ} {e : Expr} {end h : ℕ} → Stands ws n at e end → h ≡ length (front e) → take h (drop at ws) ≡ front e
+front-words {ws} {n} {at} {e} {end} {h} s q =
+    ap (λ (l : List ℕ). take h l) (s .wrote .is ∙ ap (λ (l : List ℕ). l ++ drop end ws) (node e) ∙ append-assoc (front e) (wordsAll (kids e) ++ back e) (drop end ws))
+    ∙ ap (λ (i : ℕ). take i (front e ++ ((wordsAll (kids e) ++ back e) ++ drop end ws))) q
+    ∙ take-append-seam (front e) ((wordsAll (kids e) ++ back e) ++ drop end ws)
+
+back-words : {ws : List ℕ} {at : ℕ} {xs : List ℕ} {end z : ℕ} → Wrote ws at xs end → z ≡ length xs → take z (drop at ws) ≡ xs
+back-words {ws} {at} {xs} {end} {z} w q = ap (λ (l : List ℕ). take z l) (w .is) ∙ ap (λ (i : ℕ). take i (xs ++ drop end ws)) q ∙ take-append-seam xs (drop end ws)
+
+pub node-done : {ws buf out one now last : List ℕ} {count scope at to h k z a t i : ℕ} → (kindOf (getD ws at 0) ≡ 21 → ⊥) → (kindOf (getD ws at 0) ≡ 23 → ⊥) → ShapedAt ws at h k z → one ≡ sets out to (take h (drop at ws)) → Walked (λ T. nowhere) k ws buf one count scope (at + h) (to + h) a t i now → k ≤ i → last ≡ sets now t (take z (drop a ws)) → Resolved ws buf out last count scope at to (a + z) (t + z)
+node-done {ws} {buf} {out} {one} {now} {last} {count} {scope} {at} {to} {h} {k} {z} {a} {t} {i} nc np g b w e c = record { gives = λ rows H n x end s. go rows H n x end s }
+  where
+    go : (rows : List Row) → Holds rows count buf → (n : Strings) (x : Expr) (end : ℕ) → Stands ws n at x end → Put (words (resolveExpr (tablesOf rows) scope x)) out last to (a + z) (t + z) end
+    go rows H n x end s =
+        let T : Tables = tablesOf rows in
+        let S = g .gives n x end s in
+        let I = inside s in
+        let j = I .there in
+        let d = part-end (w .gives rows H n (kids x) (I .mid) (rw (S .before) j) (sym (S .within))) (omega (arith, S .within)) in
+        let mid : List ℕ = wordsAll (resolveArgs T scope nowhere (kids x)) in
+        let bk : Wrote ws a (back x) end = rw (d .past) (I .behind) in
+        let whole : words (resolveExpr T scope x) ≡ front x ++ (mid ++ back x) = node-words T scope x (λ y. nc (kind-of s ∙ y)) (λ y. np (kind-of s ∙ y)) in
+        record {
+          past = omega (arith, bk .span, S .behind);
+          upto = rw whole (simp length-append (omega (arith, d .upto, S .before, S .behind)));
+          now = rw whole (c
+              ∙ ap (λ (l : List ℕ). sets now t l) (back-words bk (S .behind))
+              ∙ ap (λ (l : List ℕ). sets l t (back x)) (d .now)
+              ∙ ap (λ (p : ℕ). sets (sets one (to + h) mid) p (back x)) (d .upto)
+              ∙ sym (sets-append mid (back x) one (to + h))
+              ∙ ap (λ (l : List ℕ). sets l (to + h) (mid ++ back x)) (b ∙ ap (λ (l : List ℕ). sets out to l) (front-words s (S .before)))
+              ∙ ap (λ (p : ℕ). sets (sets out to (front x)) (to + p) (mid ++ back x)) (S .before)
+              ∙ sym (sets-append (front x) (mid ++ back x) out to));
+        }

@@ -1,0 +1,5 @@
+pub mod Nodes
+pub mod Writing
+pub mod Pairs
+pub mod Lists
+pub mod Calls

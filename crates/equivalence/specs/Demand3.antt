@@ -15,9 +15,11 @@ use Prim.Native.Nat.{ℕ}
 use mathlib.Core.Logic.{_↔_}
 use mathlib.Core.Path.{_≡_}
 use mathlib.Core.List.{List}
+use mathlib.Core.Option.{some}
 use Rattle.words.specs.Told.{gives}
-use Rattle.equivalence.specs.Analysis.{Analysis, Accepted, resolution}
+use Rattle.equivalence.specs.Analysis.{Analysis, analysis, Accepted, resolution}
 use Rattle.equivalence.specs.Step.{Steps}
+use Rattle.equivalence.specs.AcceptedLaws.{accepted}
 use Rattle.equivalence.specs.Demand3Laws.{known-of, exactly-so, same-rows, same-diagnostics, again}
 
 -- the tables and the diagnostics are equal, and either resolved tree, read and resolved again under those tables, gives its own words
@@ -45,3 +47,9 @@ demand-3 bytes ends erased words words′ first second a b =
             second-again = λ at. rw (same-rows k l e) (again l at);
           };
     }
+
+-- The same of what two runs give, each into lent buffers of whatever lengths for rows and diagnostics: a run that gives no number gives what an accepted
+-- program is given.
+pub demand-3-lent : (bytes ends erased words words′ : List ℕ) (first second : Analysis) (r d at r′ d′ at′ : ℕ) → analysis (some r) (some d) at bytes ends erased words ≡ gives first → analysis (some r′) (some d′) at′ bytes ends erased words′ ≡ gives second → Demand3 bytes ends first second
+demand-3-lent bytes ends erased words words′ first second r d at r′ d′ at′ a b =
+    demand-3 bytes ends erased words words′ first second (accepted bytes ends erased words r d at first a) (accepted bytes ends erased words′ r′ d′ at′ second b)

@@ -3,5 +3,8 @@ pub mod Step
 pub mod StepLaws
 pub mod Analysis
 pub mod AnalysisLaws
+pub mod Rooms
+pub mod CollectRooms
+pub mod AcceptedLaws
 pub mod Demand3Laws
 pub mod Demand3

@@ -1,4 +1,5 @@
 pub mod Rules
 pub mod Lent
 pub mod LentLaws
+pub mod Valid
 pub mod Examples

@@ -1,0 +1,182 @@
+-- Rows built from right parts are in order by themselves, and stay so when rows go in and out: a table that is only entered so is a lent table. By
+-- computation of the rules, kind by kind, and by induction on the rows. Assumes nothing.
+use mathlib.Core.Path.{_≡_, refl, sym, ap, _∙_}
+use mathlib.Core.Bool.{Bool, true, false}
+use mathlib.Core.Logic.{_⊎_, inl, inr}
+use mathlib.Core.List.{List, [], _∷_}
+use Prim.Native.Nat.{ℕ, _+_, _*_, _≤_, _<_}
+use native.Mathlib.Omega.{arith}
+use lib.Dec.{leb, ltb, eqb}
+use lib.ListN.{length}
+use borrow.Author.Tests.{lt-ltb}
+use Rattle.words.specs.Word.{kindOf, payOf, wordOf, pick}
+use Rattle.table.specs.Rows.{Row, key, insert, insertAll, remove, replace}
+use Rattle.table.specs.Laws.{order₃, zone, insert-lt, insert-eq, insert-gt, remove-low, remove-in, remove-high}
+use Rattle.entries.specs.Entries.{bit, lineRow, labelRow, typeRow, fieldRow, constRow, arrayRow, typedVarRow, procRow, paramRow, dimSharedRow, sharedRow, staticRow, staticProcRow, defFnRow, unrankedRow, optionBaseRow}
+use Rattle.lent.specs.Rules.{isName, scopeOk, typeOk, constOk, wordOk, wordsOk, kindOk, rowOk}
+use Rattle.lent.specs.Lent.{AllOk}
+
+-- ---- parts
+
+bit-flag : (b : Bool) → ltb (bit b) 2 ≡ true
+bit-flag true = refl
+bit-flag false = refl
+
+bits-mark : (a b : Bool) → ltb (bit a + 2 * bit b) 4 ≡ true
+bits-mark true true = refl
+bits-mark true false = refl
+bits-mark false true = refl
+bits-mark false false = refl
+
+-- a type, or none
+abbrev pub typeOrNone : List ℕ → (head arg : ℕ) → Bool
+typeOrNone names head arg = pick (eqb head 0) (eqb arg 0) (typeOk names head arg)
+
+-- an item's mark
+abbrev pub itemOk : ℕ → Bool
+itemOk mark = pick (eqb mark 0) false (ltb mark 4)
+
+-- ---- rows
+
+module _ (names : List ℕ) where
+  pub line-ok : (number scope : ℕ) → number < 16777216 → scopeOk names scope ≡ true → rowOk names (lineRow number scope) ≡ true
+  unfolding rowOk kindOk wordsOk wordOk
+  line-ok number scope h s =
+      let k : kindOf (wordOf 128 number) ≡ 128 = omega arith in
+      let p : payOf (wordOf 128 number) ≡ number = omega arith in
+      rw (k, p, lt-ltb number 16777216 h, s)
+
+  module _ (name : ℕ) (h : name < 16777216) (n : isName names name ≡ true) where
+    pub label-ok : (scope : ℕ) → scopeOk names scope ≡ true → rowOk names (labelRow name scope) ≡ true
+    unfolding rowOk kindOk wordsOk wordOk
+    label-ok scope s =
+        let k : kindOf (wordOf 129 name) ≡ 129 = omega arith in
+        let p : payOf (wordOf 129 name) ≡ name = omega arith in
+        rw (k, p, n, s)
+
+    pub type-ok : (words line : ℕ) → words < 65536 → line < 16777216 → rowOk names (typeRow name words line) ≡ true
+    unfolding rowOk kindOk wordsOk wordOk
+    type-ok words line w l =
+        let k : kindOf (wordOf 130 name) ≡ 130 = omega arith in
+        let p : payOf (wordOf 130 name) ≡ name = omega arith in
+        rw (k, p, n, lt-ltb words 65536 w, lt-ltb line 16777216 l)
+
+    pub field-ok : (ordinal field word head arg : ℕ) → ordinal < 16777216 → isName names field ≡ true → word < 65536 → typeOk names head arg ≡ true → rowOk names (fieldRow name ordinal field word head arg) ≡ true
+    unfolding rowOk kindOk wordsOk wordOk
+    field-ok ordinal field word head arg o f w t =
+        let k : kindOf (wordOf 131 name) ≡ 131 = omega arith in
+        let p : payOf (wordOf 131 name) ≡ name = omega arith in
+        rw (k, p, n, lt-ltb ordinal 16777216 o, f, lt-ltb word 65536 w, t)
+
+    pub const-ok : (kind low high : ℕ) → constOk names kind low high ≡ true → rowOk names (constRow name kind low high) ≡ true
+    unfolding rowOk kindOk wordsOk wordOk
+    const-ok kind low high c =
+        let k : kindOf (wordOf 132 name) ≡ 132 = omega arith in
+        let p : payOf (wordOf 132 name) ≡ name = omega arith in
+        rw (k, p, n, c)
+
+    pub array-ok : (scope rank line : ℕ) (lower : Bool) → scopeOk names scope ≡ true → rank < 16777216 → line < 16777216 → rowOk names (arrayRow name scope rank line lower) ≡ true
+    unfolding rowOk kindOk wordsOk wordOk
+    array-ok scope rank line lower s r l =
+        let k : kindOf (wordOf 133 name) ≡ 133 = omega arith in
+        let p : payOf (wordOf 133 name) ≡ name = omega arith in
+        rw (k, p, n, s, lt-ltb rank 16777216 r, lt-ltb line 16777216 l, bit-flag lower)
+
+    pub typed-var-ok : (scope head arg : ℕ) → scopeOk names scope ≡ true → typeOk names head arg ≡ true → rowOk names (typedVarRow name scope head arg) ≡ true
+    unfolding rowOk kindOk wordsOk wordOk
+    typed-var-ok scope head arg s t =
+        let k : kindOf (wordOf 134 name) ≡ 134 = omega arith in
+        let p : payOf (wordOf 134 name) ≡ name = omega arith in
+        rw (k, p, n, s, t)
+
+    pub proc-ok : (function : Bool) (line head arg : ℕ) → line < 16777216 → typeOrNone names head arg ≡ true → rowOk names (procRow name function line head arg) ≡ true
+    unfolding rowOk kindOk wordsOk wordOk
+    proc-ok function line head arg l t =
+        let k : kindOf (wordOf 135 name) ≡ 135 = omega arith in
+        let p : payOf (wordOf 135 name) ≡ name = omega arith in
+        rw (k, p, n, bit-flag function, lt-ltb line 16777216 l, t)
+
+    pub param-ok : (ordinal param : ℕ) (byval array : Bool) (head arg : ℕ) → ordinal < 16777216 → isName names param ≡ true → typeOrNone names head arg ≡ true
+        → rowOk names (paramRow name ordinal param byval array head arg) ≡ true
+    unfolding rowOk kindOk wordsOk wordOk
+    param-ok ordinal param byval array head arg o f t =
+        let k : kindOf (wordOf 136 name) ≡ 136 = omega arith in
+        let p : payOf (wordOf 136 name) ≡ name = omega arith in
+        rw (k, p, n, lt-ltb ordinal 16777216 o, f, bits-mark byval array, t)
+
+    pub dim-shared-ok : (array : Bool) → rowOk names (dimSharedRow name array) ≡ true
+    unfolding rowOk kindOk wordsOk wordOk
+    dim-shared-ok array =
+        let k : kindOf (wordOf 137 name) ≡ 137 = omega arith in
+        let p : payOf (wordOf 137 name) ≡ name = omega arith in
+        rw (k, p, n, bit-flag array)
+
+    pub shared-ok : (scope mark : ℕ) → scopeOk names scope ≡ true → itemOk mark ≡ true → rowOk names (sharedRow name scope mark) ≡ true
+    unfolding rowOk kindOk wordsOk wordOk
+    shared-ok scope mark s m =
+        let k : kindOf (wordOf 138 name) ≡ 138 = omega arith in
+        let p : payOf (wordOf 138 name) ≡ name = omega arith in
+        rw (k, p, n, s, m)
+
+    pub static-ok : (scope mark : ℕ) → scopeOk names scope ≡ true → itemOk mark ≡ true → rowOk names (staticRow name scope mark) ≡ true
+    unfolding rowOk kindOk wordsOk wordOk
+    static-ok scope mark s m =
+        let k : kindOf (wordOf 139 name) ≡ 139 = omega arith in
+        let p : payOf (wordOf 139 name) ≡ name = omega arith in
+        rw (k, p, n, s, m)
+
+    pub static-proc-ok : rowOk names (staticProcRow name) ≡ true
+    unfolding rowOk kindOk wordsOk wordOk
+    static-proc-ok =
+        let k : kindOf (wordOf 140 name) ≡ 140 = omega arith in
+        let p : payOf (wordOf 140 name) ≡ name = omega arith in
+        rw (k, p, n)
+
+    pub def-fn-ok : rowOk names (defFnRow name) ≡ true
+    unfolding rowOk kindOk wordsOk wordOk
+    def-fn-ok =
+        let k : kindOf (wordOf 141 name) ≡ 141 = omega arith in
+        let p : payOf (wordOf 141 name) ≡ name = omega arith in
+        rw (k, p, n)
+
+    pub unranked-ok : (scope : ℕ) → scopeOk names scope ≡ true → rowOk names (unrankedRow name scope) ≡ true
+    unfolding rowOk kindOk wordsOk wordOk
+    unranked-ok scope s =
+        let k : kindOf (wordOf 142 name) ≡ 142 = omega arith in
+        let p : payOf (wordOf 142 name) ≡ name = omega arith in
+        rw (k, p, n, s)
+
+  pub option-base-ok : (value : ℕ) → value < 16777216 → rowOk names (optionBaseRow value) ≡ true
+  unfolding rowOk kindOk wordsOk wordOk
+  option-base-ok value v = rw (lt-ltb value 16777216 v)
+
+  -- ---- tables
+
+  pub all-insert : (r : Row) (rows : List Row) → rowOk names r ≡ true → AllOk names rows → AllOk names (insert r rows)
+  unfolding AllOk insert
+  all-insert r [] o a = (o, tt)
+  all-insert r (x ∷ xs) o a = go (order₃ (key x) (key r)) (all-insert r xs o (a .1))
+    where
+      go : (key x < key r) ⊎ ((key x ≡ key r) ⊎ (key r < key x)) → AllOk names (insert r xs) → AllOk names (insert r (x ∷ xs))
+      go (inl q) ih = rw (insert-lt r x xs q) (a .0, ih)
+      go (inr (inl q)) ih = rw (insert-eq r x xs q) (o, a .1)
+      go (inr (inr q)) ih = rw (insert-gt r x xs q) (o, a)
+
+  pub all-insert-all : (new rows : List Row) → AllOk names new → AllOk names rows → AllOk names (insertAll new rows)
+  unfolding AllOk insertAll
+  all-insert-all [] rows n a = a
+  all-insert-all (r ∷ rs) rows n a = all-insert-all rs (insert r rows) (n .1) (all-insert r rows (n .0) a)
+
+  pub all-remove : (lo hi : ℕ) (rows : List Row) → lo ≤ hi → AllOk names rows → AllOk names (remove lo hi rows)
+  unfolding AllOk remove
+  all-remove lo hi [] h a = tt
+  all-remove lo hi (x ∷ xs) h a = go (all-remove lo hi xs h (a .1)) (zone lo hi (key x))
+    where
+      go : AllOk names (remove lo hi xs) → (key x < lo) ⊎ (((lo ≤ key x) × (key x < hi)) ⊎ (hi ≤ key x)) → AllOk names (remove lo hi (x ∷ xs))
+      go ih (inl q) = rw (remove-low lo hi x xs q) (a .0, ih)
+      go ih (inr (inl q)) = rw (remove-in lo hi x xs (q .0) (q .1)) ih
+      go ih (inr (inr q)) = rw (remove-high lo hi x xs h q) (a .0, ih)
+
+  pub all-replace : (lo hi : ℕ) (new rows : List Row) → lo ≤ hi → AllOk names new → AllOk names rows → AllOk names (replace lo hi new rows)
+  unfolding replace
+  all-replace lo hi new rows h n a = all-insert-all new (remove lo hi rows) n (all-remove lo hi rows h a)

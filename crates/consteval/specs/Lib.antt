@@ -1,3 +1,4 @@
 pub mod ConstEval
 pub mod Evaluates
 pub mod EvalLaws
+pub mod RowLaws

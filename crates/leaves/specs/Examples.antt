@@ -11,7 +11,7 @@ use Rattle.strings.specs.Name.{between, inner, suffix, rest, isName}
 use Rattle.strings.specs.Table.{startOf, stringAt, marksBelow, namesOf, rightAt, endRight, allPrintable, rises, lastRight, allBelow, sound}
 use Rattle.strings.specs.Order.{order}
 use Rattle.table.specs.Rows.{width, key, find, zeros, rowsOf}
-use Rattle.lent.specs.Rules.{scopeOk, typeOk, wholeOk, constOk, wordOk, wordsOk, kindOk, rowOk}
+use Rattle.lent.specs.Rules.{scopeOk, typeOk, constOk, wordOk, wordsOk, kindOk, rowOk}
 use Rattle.lent.specs.Lent.{allZero, endedAt, scan, checked, lentRows}
 use Rattle.lookup.specs.Lookup.{shares, visible, typedVar, lookupArray, fromSuffix, classOf, declaredType}
 use Rattle.lookup.specs.Builtins.{takes, builtins, same, entryOf, builtin}
@@ -48,7 +48,7 @@ pub stopped :
     × (typeWordsAt bytes ends rows 45 2 ≡ stops 11 0)
     × (lookupArrayAt bytes ends bad 0 9 ≡ stops 6 0)
     × (builtinAt bytes ends 3 ≡ stops 11 0)
-unfolding bytes ends rows bad ascii namesOf marksBelow stringAt startOf isName between inner suffix rest lookupArrayAt sharesAt typeWordsAt builtinAt asked ruled admits after unless refused lentRows checked scan endedAt allZero key rowOk kindOk wordsOk wordOk constOk wholeOk typeOk scopeOk
+unfolding bytes ends rows bad ascii namesOf marksBelow stringAt startOf isName between inner suffix rest lookupArrayAt sharesAt typeWordsAt builtinAt asked ruled admits after unless refused lentRows checked scan endedAt allZero key rowOk kindOk wordsOk wordOk constOk typeOk scopeOk
 stopped = (refl, refl, refl, refl, refl, refl, refl)
 
 pub answered :
@@ -57,5 +57,5 @@ pub answered :
     × (declaredTypeAt bytes ends rows 0 1 ≡ gives (some 0))
     × (declaredTypeAt bytes ends rows 0 0 ≡ gives (some 3))
     × (builtinAt bytes ends 0 ≡ gives Unknown)
-unfolding bytes ends rows bad ascii namesOf marksBelow stringAt startOf isName between inner suffix rest lookupArrayAt declaredTypeAt builtinAt asked ruled admits after unless lentRows checked scan endedAt allZero key rowOk kindOk wordsOk wordOk constOk wholeOk typeOk scopeOk rowsOf find lookupArray visible shares declaredType lastByte classOf fromSuffix typedVar builtin entryOf builtins takes same
+unfolding bytes ends rows bad ascii namesOf marksBelow stringAt startOf isName between inner suffix rest lookupArrayAt declaredTypeAt builtinAt asked ruled admits after unless lentRows checked scan endedAt allZero key rowOk kindOk wordsOk wordOk constOk typeOk scopeOk rowsOf find lookupArray visible shares declaredType lastByte classOf fromSuffix typedVar builtin entryOf builtins takes same
 answered = (refl, refl, refl, refl, refl)

@@ -7,7 +7,8 @@ use Prim.Native.Nat.{ℕ, _+_, _*_}
 use Rattle.words.specs.Word.{pick}
 use Rattle.table.specs.Rows.{Row, width, key, flatten, zeros}
 use Rattle.entries.specs.Entries.{row, lineRow, labelRow, typeRow, fieldRow, constRow, arrayRow, typedVarRow, procRow, paramRow, dimSharedRow, sharedRow, staticRow, staticProcRow, defFnRow, unrankedRow, optionBaseRow}
-use Rattle.lent.specs.Rules.{scopeOk, typeOk, wholeOk, constOk, wordOk, wordsOk, kindOk, rowOk}
+use Rattle.fold.specs.Value.{constRule}
+use Rattle.lent.specs.Rules.{scopeOk, typeOk, constOk, wordOk, wordsOk, kindOk, rowOk}
 use Rattle.lent.specs.Lent.{allZero, endedAt, scan, checked}
 use Rattle.lent.specs.declared.Checked.{Checked}
 use Rattle.lent.specs.declared.Checked.the-variants.{Bad, Rows}
@@ -98,7 +99,7 @@ outside =
     optionBaseRow 16777216 ∷ []
 
 pub bounds : (all (rowOk names) inside ≡ true) × (all (λ (r : Row). not (rowOk names r)) outside ≡ true)
-unfolding names all inside outside rowOk kindOk wordsOk wordOk constOk wholeOk typeOk scopeOk
+unfolding names all inside outside rowOk kindOk wordsOk wordOk constOk constRule typeOk scopeOk
 bounds = (refl, refl)
 
 -- a field and a parameter without their heads, with gaps, pass: no row is tested against another's meaning
@@ -114,5 +115,5 @@ pub tables :
     × (checked names (flatten (labelRow 2 0 ∷ labelRow 0 0 ∷ [])) ≡ Bad)
     × (checked names (zeros width ++ labelRow 2 0) ≡ Bad)
     × (checked names (labelRow 2 0 ++ (0 ∷ 1 ∷ [])) ≡ Bad)
-unfolding names gaps checked scan endedAt allZero flatten key rowOk kindOk wordsOk wordOk constOk wholeOk typeOk scopeOk
+unfolding names gaps checked scan endedAt allZero flatten key rowOk kindOk wordsOk wordOk constOk constRule typeOk scopeOk
 tables = (refl, refl, refl, refl, refl, refl, refl)

@@ -1,12 +1,13 @@
 -- What a row of a lent table may be by itself (document 01, "Rows"): for each kind, the rule of each word. `names` has one mark for each string, 1 where
 -- the string is a name. These are definitions.
-use mathlib.Core.Bool.{Bool, true, false, not}
+use mathlib.Core.Bool.{Bool, true, false}
 use mathlib.Core.List.{List, [], _∷_}
-use Prim.Native.Nat.{ℕ, _-_, _/_, _%_}
+use Prim.Native.Nat.{ℕ, _-_}
 use lib.Dec.{leb, ltb, eqb}
 use lib.ListN.{length, drop, getD}
 use Rattle.words.specs.Word.{kindOf, payOf, pick}
-use Rattle.table.specs.Rows.{Row, keyOf}
+use Rattle.table.specs.Rows.{Row}
+use Rattle.fold.specs.Value.{constRule}
 
 -- ---- what a word may be
 
@@ -91,22 +92,9 @@ scopeOk names w = pick (eqb w 0) true (isName names (w - 1))
 unfoldable pub typeOk : List ℕ → (head arg : ℕ) → Bool
 typeOk names head arg = pick (eqb head 44) (ltb arg 16777216) (pick (eqb head 45) (isName names arg) (pick (leb 40 head) (pick (leb head 43) (eqb arg 0) false) false))
 
--- a 64-bit two's complement number from -2147483648 to 2147483648
-unfoldable pub wholeOk : (low high : ℕ) → Bool
-wholeOk low high = pick (leb (keyOf high low) 2147483648) true (leb 18446744071562067968 (keyOf high low))
-
--- the high word of a finite float
-abbrev pub finite : ℕ → Bool
-finite high = not (eqb ((high / 1048576) % 2048) 2047)
-
--- a literal's kind and its value: Integer, Long; Single, Float; a string's number
+-- a literal's kind and its value: the rule of a folded value's words
 unfoldable pub constOk : List ℕ → (kind low high : ℕ) → Bool
-constOk names kind low high =
-    pick (eqb kind 24) (wholeOk low high) (
-    pick (eqb kind 25) (wholeOk low high) (
-    pick (eqb kind 26) (finite high) (
-    pick (eqb kind 27) (finite high) (
-    pick (eqb kind 28) (pick (eqb high 0) (ltb low (length names)) false) false))))
+constOk names kind low high = constRule (length names) kind low high
 
 -- a word w under a rule, with the two words after it
 unfoldable pub wordOk : List ℕ → (rule w next after : ℕ) → Bool

@@ -1,13 +1,14 @@
 // The rule of a lent table (number 6): row by row by a table of rules, the rising order, and zeros after the last row.
 ghost use mathlib.Core.Path.{_≡_};
-ghost use mathlib.Core.Bool.{false};
+ghost use mathlib.Core.Bool.{false, _&&_};
 ghost use mathlib.Core.List.{[]};
 ghost use lib.Dec.{leb, ltb, eqb};
 ghost use Rattle.words.specs.Word.{pick};
 ghost use Prim.Native.Nat.{_*_, _≤_, _<_};
 ghost use lib.ListN.{length, drop, getD};
 ghost use Rattle.table.specs.Rows.{width};
-ghost use Rattle.lent.specs.Rules.{rules, isName, scopeOk, typeOk, wholeOk, finite as finiteOf, constOk, wordOk, wordsOk, rowOk};
+ghost use Rattle.fold.specs.Value.{wholeRule, floatRule};
+ghost use Rattle.lent.specs.Rules.{rules, isName, scopeOk, typeOk, constOk, wordOk, wordsOk, rowOk};
 ghost use Rattle.lent.specs.Lent.{allZero, endedAt, checked};
 
 // What each word of a row may be, for each kind from 128 on, word 0 without its kind: 0 unused, 1 scope, 2 small, 3 half, 4 flag, 5 mark, 6 item, 7 name,
@@ -78,28 +79,30 @@ fn plain_type(head: u32, arg: u32) -> bool
 
 // Whether 64 bits are a whole number from -2147483648 to 2147483648.
 fn whole_ok(low: u32, high: u32) -> bool
-    ensures { λ r. ⌜ r ≡ wholeOk low high ⌝ }
+    ensures { λ r. ⌜ r ≡ wholeRule low high ⌝ }
 {
-    let v = table::key_of(high, low);
-    if v <= 2147483648 {
-        return true;
+    if high == 0 {
+        return low <= 2147483648;
     }
-    18446744071562067968 <= v
+    if high == 4294967295 {
+        return 2147483648 <= low;
+    }
+    false
 }
 
 // Whether it is the high word of a finite float.
 fn finite(high: u32) -> bool
-    ensures { λ r. ⌜ r ≡ finiteOf high ⌝ }
+    ensures { λ r. ⌜ r ≡ floatRule high ⌝ }
 {
     (high / 1048576) % 2048 != 2047
 }
 
 // Whether it is the number of a string, and the high word 0.
 fn string_ok(names: &[u8], low: u32, high: u32) -> bool
-    ensures { λ r. ⌜ r ≡ pick (eqb high 0) (ltb low (length (now (names .entry)))) false ⌝ }
+    ensures { λ r. ⌜ r ≡ (ltb low (length (now (names .entry))) && eqb high 0) ⌝ }
 {
-    if high == 0 {
-        return (low as usize) < names.len();
+    if (low as usize) < names.len() {
+        return high == 0;
     }
     false
 }

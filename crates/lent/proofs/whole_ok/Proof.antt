@@ -1,22 +1,23 @@
--- `whole_ok` by its test on the 64 bits. Assumes nothing.
-use borrow.Author.Needs.{needs}
+-- `whole_ok` by its tests on the high word. Assumes nothing.
+use mathlib.Core.Path.{_≡_, refl, sym, ap, _∙_}
+use mathlib.Core.Bool.{Bool, true, false, _&&_, _||_}
+use borrow.Author.Tests.{eq-eqb, ne-eqb}
+use lib.Dec.{leb, eqb}
 use Rattle.lent.proofs.whole_ok.Statement.{statement}
 use Rattle.lent.proofs.whole_ok.Tie as tie
-use borrow.Author.Tests.{le-leb, lt-leb}
-use Rattle.table.specs.Laws.{pick-true, pick-false}
-use mathlib.Core.Path.{sym}
-use Rattle.lent.specs.Rules.{wholeOk}
 
-key-of-requires : tie.Need-key-of-requires
-key-of-requires c κs = search needs
+or-false : (b : Bool) → (b || false) ≡ b
+or-false true = refl
+or-false false = refl
 
 returns : tie.Need-returns
-unfolding wholeOk
-returns c = rw (← c .before .key-of .ensures) (sym (pick-true _ _ (le-leb _ _ (c .if1 .taken))))
+returns c = rw (c .if1 .taken) (sym (or-false (leb (c .before .args .low) 2147483648)))
 
 returns-2 : tie.Need-returns-2
-unfolding wholeOk
-returns-2 c = rw (← c .before .key-of .ensures) (sym (pick-false _ _ (lt-leb _ _ (c .if1 .left))))
+returns-2 c = rw (c .if2 .taken) refl
+
+returns-3 : tie.Need-returns-3
+returns-3 c = rw (ne-eqb _ _ (c .before .if1 .left), ne-eqb _ _ (c .if2 .left)) refl
 
 pub whole-ok-spec : {M : Type 1} → statement M
-whole-ok-spec = tie.close (tie.spec key-of-requires returns returns-2)
+whole-ok-spec = tie.close (tie.spec returns returns-2 returns-3)

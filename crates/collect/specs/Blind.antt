@@ -14,7 +14,7 @@ use Rattle.consteval.specs.ConstEval.{constEval}
 use Rattle.subscripts.specs.Subscripts.{inExpr}
 use Rattle.subscripts.specs.Blind.{inExpr-strip}
 use Rattle.collect.specs.Seen.{Seen, see}
-use Rattle.collect.specs.State.{running}
+use Rattle.steps.specs.State.{running}
 use Rattle.collect.specs.Collect.{Given, collected, analysed, checkNameCollisions, collect}
 
 constEval-strip : (rows : List Row) (e : Expr) → constEval rows (stripE e) ≡ constEval rows e

@@ -21,7 +21,7 @@ use Rattle.entries.specs.Entries.{entryKey, rowWord, has, lineRow, labelRow, ty
 use Rattle.lookup.specs.Lookup.{typeWords, fromSuffix, fromTypeRef}
 use Rattle.lookup.specs.Builtins.{isBuiltin}
 use Rattle.subscripts.specs.Subscripts.{subscriptCount}
-use Rattle.collect.specs.State.{State, running, Step, _⨾_, nothing, when, asking, each, stop, change, enter, push}
+use Rattle.steps.specs.State.{State, running, Step, _⨾_, nothing, when, asking, each, stop, change, enter, push}
 use Rattle.collect.specs.Diagnostics.{duplicateLine, duplicateLabel, typeDefined, typeInside, fieldTwice, containsItself, fieldUndefined, optionBaseTwice, optionBaseLate, constDefined, constOverflow, notConstant, itemsOutside, dimSharedInside, suffixDiffers, undefinedType, declaredTwice, noDimension, arrayTwice, otherRank, fixedParam, fixedResult, procInside, procDefined, paramUndefined, arrayAndProc, arrayAndBuiltin}
 use Rattle.collect.specs.Seen.{Seen, see}
 

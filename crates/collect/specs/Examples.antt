@@ -20,8 +20,8 @@ use Rattle.text.specs.Text.{ascii}
 use Rattle.lookup.specs.Builtins as N
 use Rattle.consteval.specs.ConstEval.{literal, constEval}
 use Rattle.collect.specs.Seen.{Seen, see}
-use Rattle.collect.specs.State as T
-use Rattle.collect.specs.State.{State, running, stopped, Step}
+use Rattle.steps.specs.State as T
+use Rattle.steps.specs.State.{State, running, stopped, Step}
 use Rattle.collect.specs.Collect as C
 use Rattle.collect.specs.Collect.{Given, collect, checkNameCollisions}
 

@@ -1,4 +1,3 @@
-pub mod State
 pub mod Diagnostics
 pub mod Seen
 pub mod Collect

@@ -17,7 +17,7 @@ use Rattle.expr.specs.Got.{Got, got, wrong, deep}
 use Rattle.tree.specs.Reader.{programAt}
 use Rattle.reader.specs.Sized.{sizedProgram}
 use Rattle.reader.specs.Program.{Program, wholeOf, erasedFrom, programOf, acceptedOf}
-use Rattle.collect.specs.State.{State, running, stopped}
+use Rattle.steps.specs.State.{State, running, stopped}
 use Rattle.collect.specs.Collect.{analysed}
 use Rattle.equivalence.specs.Rooms.{Free, runs, nine, Full, seven, eight, Meets}
 use Rattle.equivalence.specs.CollectRooms.{analysed-meets}

@@ -11,7 +11,7 @@ use Rattle.tree.specs.Tree.{wordsT}
 use Rattle.reader.specs.Sized.{sizedTree, sizedProgram}
 use Rattle.reader.specs.Program.{Program, programOf, acceptedOf}
 use Rattle.table.specs.Rows.{Row}
-use Rattle.collect.specs.State.{State, running, stopped}
+use Rattle.steps.specs.State.{State, running, stopped}
 use Rattle.collect.specs.Collect.{Given, analysed}
 use Rattle.resolve.specs.FromRows.{tablesOf}
 use Rattle.resolve.specs.Resolve.{resolveArrayAccesses}

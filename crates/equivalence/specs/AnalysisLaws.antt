@@ -23,7 +23,7 @@ use Rattle.tree.proofs.Complete.{one-tree, clear, clearR, program-complete}
 use Rattle.reader.specs.Sized.{sizedStrings, sizedTree, sizedProgram}
 use Rattle.reader.specs.Program.{Program, wholeOf, erasedFrom, programOf, acceptedOf}
 use Rattle.table.specs.Rows.{Row}
-use Rattle.collect.specs.State.{State, running, stopped}
+use Rattle.steps.specs.State.{State, running, stopped}
 use Rattle.collect.specs.Collect.{analysed}
 use Rattle.resolve.specs.Tables.{Tables, nowhere}
 use Rattle.resolve.specs.FromRows.{tablesOf}

@@ -16,7 +16,7 @@ use Rattle.table.specs.Rows.{Row, find}
 use Rattle.entries.specs.Entries.{entryKey, has}
 use Rattle.lookup.specs.Builtins.{isBuiltin}
 use Rattle.subscripts.specs.Subscripts.{subscriptCount}
-use Rattle.collect.specs.State.{State, running, Step, enter}
+use Rattle.steps.specs.State.{State, running, Step, enter}
 use Rattle.collect.specs.Seen.{Seen, see}
 use Rattle.collect.specs.Collect as C
 use Rattle.collect.specs.Collect.{Given, Proc, RecordInfo, withField, rejected}

@@ -20,7 +20,7 @@ use Rattle.views.specs.Strip.{strip}
 use Rattle.reader.specs.Sized.{sizedStrings, sizedTree, sizedProgram}
 use Rattle.reader.specs.Program.{Program, programOf}
 use Rattle.table.specs.Rows.{Row}
-use Rattle.collect.specs.State.{State, running}
+use Rattle.steps.specs.State.{State, running}
 use Rattle.collect.specs.Collect.{Given, analysed}
 use Rattle.collect.specs.Blind.{analysed-strip}
 use Rattle.resolve.specs.Tables.{Tables, nowhere}

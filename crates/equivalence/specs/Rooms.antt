@@ -14,7 +14,7 @@ use lib.ListN.{length, getD}
 use borrow.Author.Tests.{le-leb}
 use Rattle.words.specs.Word.{pick}
 use Rattle.table.specs.Rows.{Row, width, noteWidth}
-use Rattle.collect.specs.State.{State, running, stopped, Step, when, asking, each, stop, fits, change, enter, push}
+use Rattle.steps.specs.State.{State, running, stopped, Step, when, asking, each, stop, fits, change, enter, push}
 
 -- what a run without limits can end in
 pub data Free : State → Type 0 where

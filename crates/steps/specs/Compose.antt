@@ -1,0 +1,173 @@
+-- How steps on the two buffers follow each other: in turn, under a test, over a list, with a fact read from the rows; rows replaced one by one; a whole
+-- run. Assumes nothing.
+use mathlib.Core.Path.{_≡_, refl, sym, ap, _∙_, subst}
+use mathlib.Core.Bool.{Bool, true, false}
+use mathlib.Core.List.{List, [], _∷_, _++_}
+use mathlib.Core.Option.{some}
+use Prim.Native.Nat.{ℕ, _*_, _≤_}
+use native.Mathlib.Omega.{arith}
+use lib.Dec.{leb}
+use lib.ListN.{length}
+use borrow.Author.Tests.{le-leb, lt-leb, leb-true, leb-false}
+use Rattle.words.specs.Word.{pick}
+use Rattle.table.specs.Rows.{Row, width, noteWidth, insert, insertAll, remove, replace, Holds}
+use Rattle.table.specs.Laws.{pick-true, pick-false, insert-all-len, remove-len}
+use Rattle.table.specs.Images.{holds-fits}
+use Rattle.steps.specs.State.{State, running, stopped, Step, _⨾_, nothing, when, asking, each, stop, fits, change, enter, push}
+use Rattle.steps.specs.declared.Counts.{Counts}
+use Rattle.steps.specs.Held.{Fit, Held, Sized, Does, Notes, Rows, Counted, changing, Left}
+
+-- ---- a step on one buffer is one on both
+
+pub notes-does : {f : Sized} {s r : Counts} {d d′ : List ℕ} → Notes f s r d d′ → (b : List ℕ) → s .rows * width ≤ length b → Does f s r b d b d′
+notes-does F b h = record { fit = (subst (λ (n : ℕ). n * width ≤ length b) (sym (F .kept)) h, F .fit); after = F .after b }
+
+pub rows-does : {f : Sized} {s r : Counts} {b b′ : List ℕ} → Rows f s r b b′ → (d : List ℕ) → s .notes * noteWidth ≤ length d → Does f s r b d b′ d
+rows-does F d h = record { fit = (F .fit, subst (λ (n : ℕ). n * noteWidth ≤ length d) (sym (F .kept)) h); after = F .after d }
+
+pub counted-does : {f : Sized} {s r : Counts} → Counted f s r → (b d : List ℕ) → Fit s (length b) (length d) → Does f s r b d b d
+counted-does F b d h =
+    record {
+      fit = (subst (λ (n : ℕ). n * width ≤ length b) (sym (F .rows-kept)) (h .0), subst (λ (n : ℕ). n * noteWidth ≤ length d) (sym (F .notes-kept)) (h .1));
+      after = F .after b d;
+    }
+
+-- ---- nothing, the same by another name, one after the other
+
+pub nothing-does : {s : Counts} {b d : List ℕ} → Fit s (length b) (length d) → Does (λ N D. nothing) s s b d b d
+nothing-does h = record { fit = h; after = λ N D st H. H }
+
+pub same : {f : Sized} (g : Sized) {s r : Counts} {b d b′ d′ : List ℕ} → ((N D : ℕ) (st : State) → f N D st ≡ g N D st) → Does f s r b d b′ d′ → Does g s r b d b′ d′
+same g {s} {r} {b} {d} {b′} {d′} e F = record { fit = F .fit; after = λ N D st H. subst (λ (x : State). Held N D x r b′ d′) (e N D st) (F .after N D st H) }
+
+pub then : {f g : Sized} {s r t : Counts} {b d b′ d′ b″ d″ : List ℕ} → Does f s r b d b′ d′ → Does g r t b′ d′ b″ d″ → Does (λ N D. f N D ⨾ g N D) s t b d b″ d″
+then {f} F G = record { fit = G .fit; after = λ N D st H. G .after N D (f N D st) (F .after N D st H) }
+
+-- ---- by a test
+
+pub when-yes : {f : Sized} {s r : Counts} {b d b′ d′ : List ℕ} (t : Bool) → t ≡ true → Does f s r b d b′ d′ → Does (λ N D. when t (f N D)) s r b d b′ d′
+when-yes t e F = record { fit = F .fit; after = λ N D st H. rw e (F .after N D st H) }
+
+pub when-no : (f : Sized) {s : Counts} {b d : List ℕ} (t : Bool) → t ≡ false → Fit s (length b) (length d) → Does (λ N D. when t (f N D)) s s b d b d
+when-no f t e h = record { fit = h; after = λ N D st H. rw e H }
+
+pub pick-yes : {f : Sized} (g : Sized) {s r : Counts} {b d b′ d′ : List ℕ} (t : Bool) → t ≡ true → Does f s r b d b′ d′ → Does (λ N D. pick t (f N D) (g N D)) s r b d b′ d′
+pick-yes g t e F = record { fit = F .fit; after = λ N D st H. rw e (F .after N D st H) }
+
+pub pick-no : (f : Sized) {g : Sized} {s r : Counts} {b d b′ d′ : List ℕ} (t : Bool) → t ≡ false → Does g s r b d b′ d′ → Does (λ N D. pick t (f N D) (g N D)) s r b d b′ d′
+pick-no f t e F = record { fit = F .fit; after = λ N D st H. rw e (F .after N D st H) }
+
+-- ---- over a list: a loop that has done the first of them does one more
+
+each-snoc : {A : Type 0} (f : A → Step) (xs : List A) (x : A) (st : State) → (each f xs ⨾ f x) st ≡ each f (xs ++ (x ∷ [])) st
+unfolding each
+each-snoc f [] x st = refl
+each-snoc f (y ∷ ys) x st = each-snoc f ys x (f y st)
+
+pub each-none : {A : Type 0} (f : A → Sized) {s : Counts} {b d : List ℕ} → Fit s (length b) (length d) → Does (λ N D. each (λ x. f x N D) []) s s b d b d
+unfolding each
+each-none f h = nothing-does h
+
+pub each-next : {A : Type 0} (f : A → Sized) (done : List A) (x : A) {s r t : Counts} {b d b′ d′ b″ d″ : List ℕ}
+    → Does (λ N D. each (λ x. f x N D) done) s r b d b′ d′ → Does (f x) r t b′ d′ b″ d″ → Does (λ N D. each (λ x. f x N D) (done ++ (x ∷ []))) s t b d b″ d″
+each-next f done x F G = same (λ N D. each (λ x. f x N D) (done ++ (x ∷ []))) (λ N D st. each-snoc (λ x. f x N D) done x st) (then F G)
+
+-- ---- a step that leaves a stopped run as it is
+
+abbrev pub Stays : Step → Type 0
+Stays f = (k : ℕ) → f (stopped k) ≡ stopped k
+
+pub stays-then : (f g : Step) → Stays f → Stays g → Stays (f ⨾ g)
+stays-then f g p q k = ap g (p k) ∙ q k
+
+pub stays-when : (t : Bool) (f : Step) → Stays f → Stays (when t f)
+stays-when true f p k = p k
+stays-when false f p k = refl
+
+pub stays-pick : (t : Bool) (f g : Step) → Stays f → Stays g → Stays (pick t f g)
+stays-pick true f g p q k = p k
+stays-pick false f g p q k = q k
+
+pub stays-each : {A : Type 0} (f : A → Step) (xs : List A) → ((x : A) → Stays (f x)) → Stays (each f xs)
+unfolding each
+stays-each f [] p k = refl
+stays-each f (x ∷ xs) p k = ap (each f xs) (p x k) ∙ stays-each f xs p k
+
+pub stays-asking : (f : List Row → Step) → Stays (asking f)
+unfolding asking
+stays-asking f k = refl
+
+pub stays-stop : (n : ℕ) → Stays (stop n)
+unfolding stop
+stays-stop n k = refl
+
+pub stays-change : (N : ℕ) (f : List Row → List Row) → Stays (change (some N) f)
+unfolding change
+stays-change N f k = refl
+
+pub stays-enter : (N : ℕ) (row : Row) → Stays (enter (some N) row)
+unfolding enter change
+stays-enter N row k = refl
+
+pub stays-push : (D : ℕ) (note : Row) → Stays (push (some D) note)
+unfolding push
+stays-push D note k = refl
+
+-- ---- with a value that the rows decide: the code asked for it before
+
+pub asked : {A : Type 0} (x : A) (f : List Row → A) (g : A → Sized) {s r : Counts} {b d b′ d′ : List ℕ} → ((a : A) (N D : ℕ) → Stays (g a N D))
+    → ((rows : List Row) → Holds rows (s .rows) b → x ≡ f rows) → Does (g x) s r b d b′ d′ → Does (λ N D. asking (λ rows. g (f rows) N D)) s r b d b′ d′
+unfolding asking
+asked {A} x f g {s} {r} {b} {d} {b′} {d′} stays told F = record { fit = F .fit; after = by }
+  where
+    by : (N D : ℕ) (st : State) → Held N D st s b d → Held N D (asking (λ rows. g (f rows) N D) st) r b′ d′
+    by N D (running rows notes) H = subst (λ (a : A). Held N D (g a N D (running rows notes)) r b′ d′) (told rows (H .inside .1)) (F .after N D (running rows notes) H)
+    by N D (stopped k) H = subst (λ (st : State). Held N D st r b′ d′) (stays x N D k) (F .after N D (stopped k) H)
+
+-- ---- rows replaced one by one: 7 where one has no room is 7 where all of them have none, for no row makes a table shorter
+
+module _ (N : ℕ) where
+  enter-next : (x : Row) (new rows notes : List Row)
+      → (length (insert x rows) * width ≤ N → each (enter (some N)) new (running (insert x rows) notes) ≡ change (some N) (insertAll new) (running (insert x rows) notes))
+      → (t : Bool) → leb (length (insert x rows) * width) N ≡ t
+      → each (enter (some N)) new (pick t (running (insert x rows) notes) (stopped 7)) ≡ change (some N) (insertAll new) (running (insert x rows) notes)
+  unfolding change fits
+  enter-next x new rows notes ih true e = ih (leb-true (length (insert x rows) * width) N e)
+  enter-next x new rows notes ih false e =
+      let last : List Row = insertAll new (insert x rows) in
+      let no : leb (length last * width) N ≡ false =
+      lt-leb (length last * width) N (omega (arith, leb-false (length (insert x rows) * width) N e, insert-all-len new (insert x rows))) in
+      stays-each (enter (some N)) new (λ r. stays-enter N r) 7 ∙ sym (pick-false (running last notes) (stopped 7) no)
+
+  enter-all : (new rows notes : List Row) → length rows * width ≤ N → each (enter (some N)) new (running rows notes) ≡ change (some N) (insertAll new) (running rows notes)
+  unfolding each enter change insertAll fits
+  enter-all [] rows notes h = sym (pick-true (running rows notes) (stopped 7) (le-leb (length rows * width) N h))
+  enter-all (x ∷ new) rows notes h = enter-next x new rows notes (λ k. enter-all new (insert x rows) notes k) (leb (length (insert x rows) * width) N) refl
+
+  replace-all : (lo hi : ℕ) (new rows notes : List Row) → length rows * width ≤ N
+      → (change (some N) (remove lo hi) ⨾ each (enter (some N)) new) (running rows notes) ≡ change (some N) (replace lo hi new) (running rows notes)
+  unfolding change replace fits
+  replace-all lo hi new rows notes h =
+      let fit : length (remove lo hi rows) * width ≤ N = omega (arith, remove-len lo hi rows) in
+      ap (each (enter (some N)) new) (pick-true (running (remove lo hi rows) notes) (stopped 7) (le-leb (length (remove lo hi rows) * width) N fit))
+      ∙ enter-all new (remove lo hi rows) notes fit
+
+pub replaced : (lo hi : ℕ) (new : List Row) {s r : Counts} {b d b′ d′ : List ℕ}
+    → Does (λ N D. changing (remove lo hi) N D ⨾ each (enter (some N)) new) s r b d b′ d′ → Does (changing (replace lo hi new)) s r b d b′ d′
+unfolding changing
+replaced lo hi new {s} {r} {b} {d} {b′} {d′} F = record { fit = F .fit; after = by }
+  where
+    by : (N D : ℕ) (st : State) → Held N D st s b d → Held N D (change (some N) (replace lo hi new) st) r b′ d′
+    by N D (running rows notes) H =
+        let fit : length rows * width ≤ N = omega (arith, holds-fits (H .inside .1 .filled), H .inside .1 .filled .count, H .rows-long) in
+        subst (λ (st : State). Held N D st r b′ d′) (replace-all N lo hi new rows notes fit) (F .after N D (running rows notes) H)
+    by N D (stopped k) H =
+        let e : each (enter (some N)) new (change (some N) (remove lo hi) (stopped k)) ≡ stopped k =
+        stays-then (change (some N) (remove lo hi)) (each (enter (some N)) new) (stays-change N (remove lo hi)) (stays-each (enter (some N)) new (λ row. stays-enter N row)) k in
+        subst (λ (st : State). Held N D st r b′ d′) (e ∙ sym (stays-change N (replace lo hi new) k)) (F .after N D (stopped k) H)
+
+-- ---- a whole run: begun, done, finished
+
+pub whole : {f : Sized} {N D : ℕ} {s r t : Counts} {b d b′ d′ b″ d″ : List ℕ} → Held N D (running [] []) s b d → Does f s r b d b′ d′
+    → ((N D : ℕ) (st : State) → Held N D st r b′ d′ → Left N D st t b″ d″) → Left N D (f N D (running [] [])) t b″ d″
+whole {f} {N} {D} H F L = L N D (f N D (running [] [])) (F .after N D (running [] []) H)

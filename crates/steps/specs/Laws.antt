@@ -1,0 +1,205 @@
+-- How steps on the two buffers are done, and how they follow each other. Assumes nothing.
+use mathlib.Core.Path.{_≡_, refl, sym, ap, _∙_, subst}
+use mathlib.Core.Bool.{Bool, true, false}
+use mathlib.Core.List.{List, [], _∷_, _++_}
+use mathlib.Core.Option.{Option, none, some}
+use Prim.Native.Nat.{ℕ, _+_, _*_, _≤_, _<_, zero-le}
+use native.Mathlib.Omega.{arith}
+use lib.Dec.{leb}
+use lib.ListN.{length, length-append}
+use borrow.Author.Tests.{le-leb, lt-leb, leb-true, leb-false}
+use Rattle.words.specs.Word.{pick}
+use Rattle.table.specs.Rows.{Row, width, noteWidth, Table, insert, insertAll, remove, replace, zeros, image, Filled, Holds}
+use Rattle.table.specs.Laws.{pick-true, pick-false, insert-table, insert-all-len, remove-table, remove-len}
+use Rattle.table.specs.Images.{holds-fits, holds-image}
+use Rattle.table.specs.Answers.{Fits, More, Inserted, Removed, Entered, Pushed}
+use Rattle.table.specs.Buffers.{removed-holds, pushed-filled, more-done, more-full}
+use Rattle.table.specs.Answers as Answers
+use Rattle.table.specs.declared.Put.{Put}
+use Rattle.table.specs.declared.Put.the-variants.{Full, Done}
+use Rattle.steps.specs.State.{State, running, stopped, Step, _⨾_, nothing, when, asking, each, stop, fits, change, enter, push}
+use Rattle.steps.specs.declared.Counts.{Counts}
+use Rattle.steps.specs.Held.{Fit, Inside, Held, Sized, Does, Notes, Rows, Counted, changing, entering, pushing, noting, rowsPut, notesPut, countsOf, rowsLeft, notesLeft, Left}
+
+-- a run that goes on is not stopped
+going : {A : Type 0} (k : ℕ) → 0 ≡ k → 0 < k → A
+going k e h = absurd (omega arith)
+
+-- ---- rows changed
+
+-- the answer of a change that fits, of one that doesn't
+put-done : (t : Bool) (m n : ℕ) → Done m ≡ pick t (Done n) Full → (t ≡ true) × (m ≡ n)
+put-done true m n e = (refl, cc)
+put-done false m n e =
+    let z : _≡_ {A = ℕ} 0 1 = cc in
+    absurd (omega arith)
+
+put-full : (t : Bool) (n : ℕ) → Full ≡ pick t (Done n) Full → t ≡ false
+put-full true n e =
+    let z : _≡_ {A = ℕ} 0 1 = cc in
+    absurd (omega arith)
+put-full false n e = refl
+
+-- one row put in is a change of the rows
+pub inserted-entered : {row : Row} {rows : List Row} {n : ℕ} {r : Put} {buf : List ℕ} → Inserted row rows n r buf → Entered (insert row rows) n r buf
+inserted-entered {row} {rows} {n} I = record { answer = I .answer; after = λ h. I .after ∙ ap (image width n) (pick-true (insert row rows) rows h) }
+
+module _ (s : Counts) (b : List ℕ) (f : List Row → List Row) where
+  change-stopped : (d : List ℕ) (N D : ℕ) (st : State) → (s .stop ≡ 0 → ⊥) → Held N D st s b d → Held N D (change (some N) f st) s b d
+  unfolding change
+  change-stopped d N D (running rows notes) h H = absurd (h (H .inside .0))
+  change-stopped d N D (stopped k) h H = H
+
+  pub stopped-change : s .rows * width ≤ length b → (s .stop ≡ 0 → ⊥) → Rows (changing f) s s b b
+  unfolding changing
+  stopped-change fit h = record { fit = fit; kept = refl; after = λ d N D st H. change-stopped d N D st h H }
+
+  module _ (go : s .stop ≡ 0) (b′ : List ℕ) (len : length b′ ≡ length b) (keeps : (rows : List Row) → Table 0 rows → Table 0 (f rows)) where
+    fits-is : (N : ℕ) (rows : List Row) → length b ≡ N → Fits (length b) rows ≡ fits width (some N) rows
+    unfolding fits
+    fits-is N rows e = ap (leb (length rows * width)) e
+
+    put-in : (r : Put) (d : List ℕ) (N D : ℕ) (st : State) → ((rows : List Row) → Holds rows (s .rows) b → Entered (f rows) (length b) r b′)
+        → Held N D st s b d → Held N D (change (some N) f st) (rowsPut s r) b′ d
+    unfolding change
+    put-in Full d N D (running rows notes) E H =
+        let no : fits width (some N) (f rows) ≡ false = sym (fits-is N (f rows) (H .rows-long)) ∙ put-full _ _ (E rows (H .inside .1) .answer) in
+        rw no (record { rows-long = len ∙ H .rows-long; notes-long = H .notes-long; inside = (refl, omega arith) })
+    put-in (Done m) d N D (running rows notes) E H =
+        let e = E rows (H .inside .1) in
+        let p : (Fits (length b) (f rows) ≡ true) × (m ≡ length (f rows)) = put-done _ _ _ (e .answer) in
+        let yes : fits width (some N) (f rows) ≡ true = sym (fits-is N (f rows) (H .rows-long)) ∙ p .0 in
+        let holds : Holds (f rows) (length (f rows)) (image width (length b) (f rows)) = holds-image (length b) (f rows) (keeps rows (H .inside .1 .table)) (leb-true _ _ (p .0)) in
+        rw yes (record { rows-long = len ∙ H .rows-long; notes-long = H .notes-long; inside = (refl, rw (p .1, e .after (p .0)) holds, H .inside .2) })
+    put-in r d N D (stopped k) E H = going k (sym go ∙ H .inside .0) (H .inside .1)
+
+    put-fits : (r : Put) → Answers.Fit width (length b) r → s .rows * width ≤ length b → rowsPut s r .rows * width ≤ length b′
+    put-fits Full h fit = omega arith
+    put-fits (Done m) h fit = omega arith
+
+    put-keeps : (r : Put) → rowsPut s r .notes ≡ s .notes
+    put-keeps Full = refl
+    put-keeps (Done m) = refl
+
+    pub put-change : s .rows * width ≤ length b → (r : Put) → Answers.Fit width (length b) r → ((rows : List Row) → Holds rows (s .rows) b → Entered (f rows) (length b) r b′)
+        → Rows (changing f) s (rowsPut s r) b b′
+    unfolding changing
+    put-change fit r h E = record { fit = put-fits r h fit; kept = put-keeps r; after = λ d N D st H. put-in r d N D st E H }
+
+pub entering-is : (row : Row) {s r : Counts} {b b′ : List ℕ} → Rows (changing (insert row)) s r b b′ → Rows (entering row) s r b b′
+unfolding changing entering enter
+entering-is row F = record { fit = F .fit; kept = F .kept; after = F .after }
+
+-- rows taken out: what is left always fits
+module _ (s : Counts) (b : List ℕ) (lo hi : ℕ) (h : lo ≤ hi) (go : s .stop ≡ 0) (b′ : List ℕ) (len : length b′ ≡ length b) (m : ℕ) where
+  remove-in : (d : List ℕ) (N D : ℕ) (st : State) → ((rows : List Row) → Holds rows (s .rows) b → Removed lo hi rows (length b) m b′)
+      → Held N D st s b d → Held N D (change (some N) (remove lo hi) st) (record { stop = 0; rows = m; notes = s .notes }) b′ d
+  unfolding change fits
+  remove-in d N D (running rows notes) R H =
+      let holds : Holds rows (s .rows) b = H .inside .1 in
+      let yes : leb (length (remove lo hi rows) * width) N ≡ true =
+      le-leb (length (remove lo hi rows) * width) N (omega (arith, remove-len lo hi rows, holds-fits (holds .filled), holds .filled .count, H .rows-long)) in
+      rw yes (record { rows-long = len ∙ H .rows-long; notes-long = H .notes-long; inside = (refl, removed-holds rows (s .rows) b holds lo hi m h b′ (R rows holds), H .inside .2) })
+  remove-in d N D (stopped k) R H = going k (sym go ∙ H .inside .0) (H .inside .1)
+
+  pub remove-change : s .rows * width ≤ length b → m ≤ s .rows → ((rows : List Row) → Holds rows (s .rows) b → Removed lo hi rows (length b) m b′)
+      → Rows (changing (remove lo hi)) s (record { stop = 0; rows = m; notes = s .notes }) b b′
+  unfolding changing
+  remove-change fit le R = record { fit = omega arith; kept = refl; after = λ d N D st H. remove-in d N D st R H }
+
+-- ---- one diagnostic
+
+module _ (s : Counts) (d : List ℕ) (note : Row) (fit : s .notes * noteWidth ≤ length d) where
+  note-stopped : (b : List ℕ) (N D : ℕ) (st : State) → (s .stop ≡ 0 → ⊥) → Held N D st s b d → Held N D (push (some D) note st) s b d
+  unfolding push
+  note-stopped b N D (running rows notes) h H = absurd (h (H .inside .0))
+  note-stopped b N D (stopped k) h H = H
+
+  pub stopped-note : (s .stop ≡ 0 → ⊥) → Notes (pushing note) s s d d
+  unfolding pushing
+  stopped-note h = record { fit = fit; kept = refl; after = λ b N D st H. note-stopped b N D st h H }
+
+  pub no-note : (t : Bool) → t ≡ false → Notes (noting t note) s s d d
+  unfolding noting
+  no-note t e = record { fit = fit; kept = refl; after = λ b N D st H. rw e H }
+
+  module _ (go : s .stop ≡ 0) (wide : length note ≡ noteWidth) (d′ : List ℕ) (len : length d′ ≡ length d) where
+    more-is : (D : ℕ) (notes : List Row) → length d ≡ D → More (length d) notes ≡ fits noteWidth (some D) (notes ++ (note ∷ []))
+    unfolding fits
+    more-is D notes e =
+        let l : length notes + 1 ≡ length (notes ++ (note ∷ [])) = sym (length-append notes (note ∷ [])) in
+        ap (λ (m : ℕ). leb (m * noteWidth) (length d)) l ∙ ap (leb (length (notes ++ (note ∷ [])) * noteWidth)) e
+
+    note-in : (r : Put) (b : List ℕ) (N D : ℕ) (st : State) → ((notes : List Row) → Filled noteWidth notes (s .notes) d → Pushed note notes (length d) r d′)
+        → Held N D st s b d → Held N D (push (some D) note st) (notesPut s r) b d′
+    unfolding push
+    note-in Full b N D (running rows notes) P H =
+        let no : fits noteWidth (some D) (notes ++ (note ∷ [])) ≡ false = sym (more-is D notes (H .notes-long)) ∙ more-full (length d) note notes d′ (P notes (H .inside .2)) in
+        rw no (record { rows-long = H .rows-long; notes-long = len ∙ H .notes-long; inside = (refl, omega arith) })
+    note-in (Done m) b N D (running rows notes) P H =
+        let p = P notes (H .inside .2) in
+        let yes : fits noteWidth (some D) (notes ++ (note ∷ [])) ≡ true = sym (more-is D notes (H .notes-long)) ∙ more-done (length d) note notes m d′ p in
+        rw yes (record { rows-long = H .rows-long; notes-long = len ∙ H .notes-long; inside = (refl, H .inside .1, pushed-filled notes (s .notes) d (H .inside .2) note wide m d′ p) })
+    note-in r b N D (stopped k) P H = going k (sym go ∙ H .inside .0) (H .inside .1)
+
+    note-fits : (r : Put) → Answers.Fit noteWidth (length d) r → notesPut s r .notes * noteWidth ≤ length d′
+    note-fits Full h = omega arith
+    note-fits (Done m) h = omega arith
+
+    note-keeps : (r : Put) → notesPut s r .rows ≡ s .rows
+    note-keeps Full = refl
+    note-keeps (Done m) = refl
+
+    pub put-note : (r : Put) → Answers.Fit noteWidth (length d) r → ((notes : List Row) → Filled noteWidth notes (s .notes) d → Pushed note notes (length d) r d′)
+        → Notes (pushing note) s (notesPut s r) d d′
+    unfolding pushing
+    put-note r h P = record { fit = note-fits r h; kept = note-keeps r; after = λ b N D st H. note-in r b N D st P H }
+
+pub noting-is : (note : Row) (t : Bool) {s r : Counts} {d d′ : List ℕ} → t ≡ true → Notes (pushing note) s r d d′ → Notes (noting t note) s r d d′
+unfolding pushing noting
+noting-is note t e F = record { fit = F .fit; kept = F .kept; after = λ b N D st H. rw e (F .after b N D st H) }
+
+-- ---- stop and finish
+
+module _ (s : Counts) (number : ℕ) where
+  pub stop-again : (s .stop ≡ 0 → ⊥) → Counted (λ N D. stop number) s s
+  unfolding stop
+  stop-again h = record { rows-kept = refl; notes-kept = refl; after = by }
+    where
+      by : (b d : List ℕ) (N D : ℕ) (st : State) → Held N D st s b d → Held N D (stop number st) s b d
+      by b d N D (running rows notes) H = absurd (h (H .inside .0))
+      by b d N D (stopped k) H = H
+
+  pub stop-now : s .stop ≡ 0 → 0 < number → Counted (λ N D. stop number) s (record { stop = number; rows = s .rows; notes = s .notes })
+  unfolding stop
+  stop-now go h = record { rows-kept = refl; notes-kept = refl; after = by }
+    where
+      by : (b d : List ℕ) (N D : ℕ) (st : State) → Held N D st s b d → Held N D (stop number st) (record { stop = number; rows = s .rows; notes = s .notes }) b d
+      by b d N D (running rows notes) H = record { rows-long = H .rows-long; notes-long = H .notes-long; inside = (refl, h) }
+      by b d N D (stopped k) H = going k (sym go ∙ H .inside .0) (H .inside .1)
+
+module _ {N D : ℕ} {s : Counts} {b d : List ℕ} where
+  -- a run that goes on leaves what it holds
+  pub left-running : (st : State) → Held N D st s b d → s .stop ≡ 0 → Left N D st s b d
+  unfolding countsOf rowsLeft notesLeft
+  left-running (running rows notes) H go =
+      record {
+        answer = ap (λ (k : ℕ). record { stop = k; rows = s .rows; notes = s .notes }) (H .inside .0)
+            ∙ ap (λ (k : ℕ). record { stop = 0; rows = k; notes = s .notes }) (sym (H .inside .1 .filled .count))
+            ∙ ap (λ (k : ℕ). record { stop = 0; rows = length rows; notes = k }) (sym (H .inside .2 .count));
+        rows = H .inside .1 .filled .words ∙ ap (λ (n : ℕ). image width n rows) (H .rows-long);
+        notes = H .inside .2 .words ∙ ap (λ (n : ℕ). image noteWidth n notes) (H .notes-long);
+      }
+  left-running (stopped k) H go = going k (sym go ∙ H .inside .0) (H .inside .1)
+
+  -- a stopped one zeros
+  pub left-stopped : (st : State) → Held N D st s b d → (s .stop ≡ 0 → ⊥) → (b′ d′ : List ℕ) → b′ ≡ zeros (length b) → d′ ≡ zeros (length d)
+      → Left N D st (record { stop = s .stop; rows = 0; notes = 0 }) b′ d′
+  unfolding countsOf rowsLeft notesLeft
+  left-stopped (running rows notes) H h b′ d′ e f = absurd (h (H .inside .0))
+  left-stopped (stopped k) H h b′ d′ e f =
+      record {
+        answer = ap (λ (n : ℕ). record { stop = n; rows = 0; notes = 0 }) (H .inside .0);
+        rows = e ∙ ap zeros (H .rows-long);
+        notes = f ∙ ap zeros (H .notes-long);
+      }

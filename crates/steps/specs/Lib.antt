@@ -1,0 +1,4 @@
+pub mod State
+pub mod Held
+pub mod Laws
+pub mod Compose

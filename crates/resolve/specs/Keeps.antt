@@ -25,6 +25,9 @@ unfolding count res
 count-res T σ m nothing = refl
 count-res T σ m (add r rs) = ap (λ (n : ℕ). n + 1) (count-res T σ (after m) rs)
 
+pub count-tree : (T : Tables) (σ : ℕ) (m : Places) {ss : Sorts} (rs : Tree Expr (rows ss)) → count (resolveTree T σ m rs) ≡ count rs
+count-tree T σ m rs = ap count (sym (res-is T σ m rs)) ∙ count-res T σ m rs
+
 -- ---- words
 
 len-called : (b : Bool) (f : ℕ) (es : Exprs) → length (words (called b f es)) ≡ 3 + length (wordsAll es)

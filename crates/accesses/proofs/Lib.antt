@@ -1,0 +1,4 @@
+pub mod Trees
+pub mod Fields
+pub mod Statements
+pub mod Walk

@@ -276,3 +276,17 @@ both-words ws = 0x01000003 ∷ 0x4f000001 ∷ 0x01000001 ∷ 0x02000003 ∷ 0x01
 array-and-procedure : Unlinked (both (called-1 3)) (both (element-1 3)) both-rows ((27 ∷ 1 ∷ 4 ∷ 0 ∷ 1 ∷ 2 ∷ []) ∷ []) (both-words (0x15000000 ∷ 0x02000003 ∷ 0x01000001 ∷ 0x10000000 ∷ 0x18000000 ∷ 1 ∷ [])) (both-words (0x12000000 ∷ 0x02000003 ∷ 0x01000001 ∷ 0x10000000 ∷ 0x18000000 ∷ 1 ∷ []))
 unfolding answer both element-1 called-1 both-rows both-words
 array-and-procedure = unlinked _ _ _ _ _ _ 25 refl refl refl
+
+-- ---- erased names are heard: DIM A(5) on lines 1 and 2 gives nothing where A is erased, else 19
+
+dim-twice : Program
+unfolding program dimS declarator
+dim-twice = program (dimS 1 (declarator 0 (some (Lit (Integer 5) ∷ [])) typeless ∷ []) 0 ∷ dimS 2 (declarator 0 (some (Lit (Integer 5) ∷ [])) typeless ∷ []) 0 ∷ [])
+
+dim-twice-given : List Row → Analysis
+unfolding dim-twice answer
+dim-twice-given notes = record { tree = dim-twice; rows = (0x85000000 ∷ 0 ∷ 1 ∷ 2 ∷ 0 ∷ 0 ∷ []) ∷ []; diagnostics = notes; resolved = wordsT dim-twice }
+
+erased-heard : Accepted bytes ends (0 ∷ []) (wordsT dim-twice) (dim-twice-given []) × Accepted bytes ends [] (wordsT dim-twice) (dim-twice-given ((19 ∷ 2 ∷ 1 ∷ 0 ∷ 0 ∷ 0 ∷ []) ∷ []))
+unfolding answer dim-twice dim-twice-given
+erased-heard = (refl, refl)

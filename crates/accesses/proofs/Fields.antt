@@ -24,6 +24,11 @@ use Rattle.resolve.specs.Resolve.{resolveTree}
 use Rattle.resolve.specs.Keeps.{count-tree}
 use Rattle.accesses.specs.Post.{SomeTree, Opened, Planned, Listed}
 
+-- a type's heads one after another
+pub is-type : {k : ℕ} → k ≡ 12 → sortAt k ≡ chain 40 (take 6 (drop 24 allRows))
+unfolding sortAt singles chain allRows parts
+is-type e = ap sortAt e
+
 -- the first word, as it is copied
 pub first-word : {ws : List ℕ} {at w end : ℕ} {xs : List ℕ} → Wrote ws at (w ∷ xs) end → take 1 (drop at ws) ≡ w ∷ []
 first-word w = ap (λ (l : List ℕ). take 1 l) (w .is)

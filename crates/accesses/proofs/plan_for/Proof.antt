@@ -1,9 +1,9 @@
 use Prim.Native.Nat.{_-_}
 use native.Mathlib.Omega.{arith}
 use mathlib.Core.Path.{refl}
-use Rattle.tree.proofs.Steps.{is-11, is-12, is-13, is-14, is-15, sort-opt, sort-many, sort-group}
+use Rattle.tree.proofs.Steps.{is-11, is-13, is-14, is-15, sort-opt, sort-many, sort-group}
 use Rattle.expr.proofs.Steps.{past}
-use Rattle.accesses.proofs.Fields.{as-sort, of-sort, relisted, down, plan-plain, plan-group}
+use Rattle.accesses.proofs.Fields.{is-type, as-sort, of-sort, relisted, down, plan-plain, plan-group}
 use borrow.Author.Needs.{needs}
 use Rattle.accesses.proofs.plan_for.Statement.{statement}
 use Rattle.accesses.proofs.plan_for.Tie as tie
@@ -19,7 +19,7 @@ chosen-requires c κs = (of-sort (c .before .before .args .sort) (is-11 (c .matc
 
 -- src/lib.rt:72:15
 chosen-requires-2 : tie.Need-chosen-requires-2
-chosen-requires-2 c κs = (of-sort (c .before .before .args .sort) (is-12 (c .match .keys2)) (c .before .before .pre .0), omega arith)
+chosen-requires-2 c κs = (of-sort (c .before .before .args .sort) (is-type (c .match .keys2)) (c .before .before .pre .0), omega arith)
 
 -- src/lib.rt:73:15
 chosen-requires-3 : tie.Need-chosen-requires-3
@@ -59,7 +59,7 @@ returns c = as-sort (c .before .before .before .args .sort) (is-11 (c .before .m
 
 -- src/lib.rt:66:1
 returns-2 : tie.Need-returns-2
-returns-2 c = as-sort (c .before .before .before .args .sort) (is-12 (c .before .match .keys2)) (c .chosen2 .ensures)
+returns-2 c = as-sort (c .before .before .before .args .sort) (is-type (c .before .match .keys2)) (c .chosen2 .ensures)
 
 -- src/lib.rt:66:1
 returns-3 : tie.Need-returns-3

@@ -1,0 +1,100 @@
+-- What the entry's answers tell, by the way that they took. No line here knows the code. Assumes nothing.
+use Prim.Native.Nat.{ℕ}
+use mathlib.Core.Path.{_≡_, refl, sym, ap, _∙_, subst}
+use mathlib.Core.List.{List}
+use native.Mathlib.Omega.{arith}
+use Rattle.words.specs.Sizes.{maxDepth}
+use Rattle.words.specs.Told.{Told, stops, gives, after}
+use Rattle.words.specs.Refusals.{refused}
+use Rattle.words.specs.declared.Refusal.{Refusal}
+use Rattle.words.specs.declared.Refusal.the-variants.{Word, Depth, Rows as RowsRefused}
+use Rattle.expr.specs.Expr.{Expr}
+use Rattle.expr.specs.Got.{Got, got, wrong, deep}
+use Rattle.expr.specs.Reader.{exprAt}
+use Rattle.expr.specs.Answer.{stepOf}
+use Rattle.expr.specs.declared.Cursor.{Cursor}
+use Rattle.expr.specs.declared.Step.{Step}
+use Rattle.expr.specs.declared.Step.the-variants.{Read, Wrong, Deep}
+use Rattle.expr.proofs.Complete.{stands}
+use Rattle.table.specs.Rows.{Row, rowsOf}
+use Rattle.lent.specs.Lent.{checked, told as toldRows, lentRows, Lent}
+use Rattle.lent.specs.LentLaws.{checked-sound}
+use Rattle.lent.specs.declared.Checked.{Checked}
+use Rattle.lent.specs.declared.Checked.the-variants.{Bad, Rows}
+use Rattle.consteval.specs.ConstEval.{constEval}
+use Rattle.consteval.specs.Evaluates.{Ready, Evaluates as Folds}
+use Rattle.consteval.specs.EvalLaws.{Words32}
+use Rattle.consteval.specs.RowLaws.{strings, lent-consts}
+use Rattle.consteval.specs.declared.Folded.{Folded as Answered}
+use Rattle.evaluate.specs.Outcome.{outcomeOf}
+use Rattle.evaluate.specs.Evaluate.{Past, underOf, readUnder, evalOf, toldAs, movedOf, Tells, WasRead}
+use Rattle.evaluate.specs.declared.Answer.the-variants.{Folded, Refused}
+use Rattle.evaluate.specs.declared.Evaluation.{Evaluation}
+
+-- ---- a refusal leaves the place
+
+pub refused-tells : (at : ℕ) (r : Refusal) → Tells at (record { answer = Refused r; at = at }) (refused r)
+unfolding toldAs movedOf refused
+refused-tells at r = record { told = refl; moved = refl }
+
+pub tells-as : {at : ℕ} {r : Evaluation} {d d′ : Told Past} → Tells at r d → d ≡ d′ → Tells at r d′
+tells-as {at} {r} t e = subst (Tells at r) e t
+
+-- the place goes by what is told
+pub moved-by : {at : ℕ} {r : Evaluation} {d : Told Past} → Tells at r d → r .at ≡ movedOf at (toldAs (r .at) (r .answer))
+moved-by {at} t = t .moved ∙ ap (movedOf at) (sym (t .told))
+
+module _ (ns ws : List ℕ) (at : ℕ) (buf : List ℕ) where
+  -- ---- what reading gave
+
+  read-is : (R : WasRead ns ws at) → evalOf ns ws at buf ≡ underOf ns buf (R .expr) (R .end)
+  unfolding evalOf readUnder
+  read-is R = ap (readUnder ns buf) (R .reads)
+
+  pub was-read : {s : Step} {c : Cursor} → s ≡ stepOf (exprAt ws (strings ns) maxDepth at) → s ≡ Read c → WasRead ns ws at
+  unfolding stepOf
+  was-read {s} {c} e q = go (exprAt ws (strings ns) maxDepth at) refl (sym q ∙ e)
+    where
+      go : (g : Got Expr) → exprAt ws (strings ns) maxDepth at ≡ g → Read c ≡ stepOf g → WasRead ns ws at
+      go (got x m) p f = record { expr = x; end = m; reads = p }
+      go (wrong p) q f = let z : _≡_ {A = ℕ} 0 1 = cc in absurd (omega arith)
+      go (deep p) q f = let z : _≡_ {A = ℕ} 0 1 = cc in absurd (omega arith)
+
+  pub wrong-is : {s : Step} {p : ℕ} → s ≡ stepOf (exprAt ws (strings ns) maxDepth at) → s ≡ Wrong p → refused (Word p) ≡ evalOf ns ws at buf
+  unfolding stepOf evalOf readUnder refused
+  wrong-is {s} {p} e q = go (exprAt ws (strings ns) maxDepth at) (sym q ∙ e)
+    where
+      go : (g : Got Expr) → Wrong p ≡ stepOf g → stops 2 p ≡ readUnder ns buf g
+      go (got x m) f = let z : _≡_ {A = ℕ} 0 1 = cc in absurd (omega arith)
+      go (wrong x) f = let r : p ≡ x = cc in ap (stops 2) r
+      go (deep x) f = let z : _≡_ {A = ℕ} 0 1 = cc in absurd (omega arith)
+
+  pub deep-is : {s : Step} {p : ℕ} → s ≡ stepOf (exprAt ws (strings ns) maxDepth at) → s ≡ Deep p → refused (Depth p) ≡ evalOf ns ws at buf
+  unfolding stepOf evalOf readUnder refused
+  deep-is {s} {p} e q = go (exprAt ws (strings ns) maxDepth at) (sym q ∙ e)
+    where
+      go : (g : Got Expr) → Deep p ≡ stepOf g → stops 3 p ≡ readUnder ns buf g
+      go (got x m) f = let z : _≡_ {A = ℕ} 0 1 = cc in absurd (omega arith)
+      go (wrong x) f = let z : _≡_ {A = ℕ} 0 1 = cc in absurd (omega arith)
+      go (deep x) f = let r : p ≡ x = cc in ap (stops 3) r
+
+  -- ---- under the rows
+
+  pub rows-bad : WasRead ns ws at → {k : Checked} → k ≡ checked ns buf → k ≡ Bad → refused RowsRefused ≡ evalOf ns ws at buf
+  unfolding underOf lentRows after refused
+  rows-bad R e q = sym (read-is R ∙ ap (λ (c : Checked). after (toldRows buf c) (λ (rows : List Row). gives (record { outcome = outcomeOf (constEval rows (R .expr)); end = R .end }))) (sym e ∙ q))
+
+  module _ (R : WasRead ns ws at) {k : Checked} {n : ℕ} (e : k ≡ checked ns buf) (q : k ≡ Rows n) where
+    lent : Lent ns (rowsOf n buf) n buf
+    lent = checked-sound ns n buf (sym e ∙ q)
+
+    pub rows-ready : Words32 buf → Ready ws at buf n
+    rows-ready W = record { strings = strings ns; expr = R .expr; end = R .end; stands = stands maxDepth (R .reads); rows = rowsOf n buf; holds = lent .holds; consts = lent-consts lent W }
+
+    pub rows-fine : {f : Answered} → Folds ws at buf n f → Tells at (record { answer = Folded (f .fold); at = f .next }) (evalOf ns ws at buf)
+    unfolding toldAs movedOf underOf lentRows after
+    rows-fine {f} E =
+        let i = E (strings ns) (R .expr) (R .end) (stands maxDepth (R .reads)) (rowsOf n buf) (lent .holds) in
+        let d : evalOf ns ws at buf ≡ gives (record { outcome = outcomeOf (constEval (rowsOf n buf) (R .expr)); end = R .end }) =
+        read-is R ∙ ap (λ (c : Checked). after (toldRows buf c) (λ (rows : List Row). gives (record { outcome = outcomeOf (constEval rows (R .expr)); end = R .end }))) (sym e ∙ q) in
+        tells-as (record { told = rw (i .answer, i .past) refl; moved = i .past }) (sym d)

@@ -14,7 +14,7 @@ use Rattle.expr.specs.Stands.{Wrote}
 use Rattle.expr.proofs.Parts.{wrote-first, kind-is, pay-is}
 use Rattle.tree.specs.Sorts.{Leaf, Sort, leaf, expr, stmt, many, group, either, never, Sorts, nil, _&_, opt, kinds, sorts, flag, whole, letter, oneOf, named, quoted, exprs, body, GotoTarget, TypeRef, PrintItem, CaseClause, ResumeTarget, LValue, Declarator, Param, ScopeItem, FieldDecl, FieldSlice, DataItem, Case}
 use Rattle.tree.specs.Tree.{Shape, one, row, rows, Tree, word, value, Stmt, list, part, this, that, done, cons, none, more, count, kindL, wordsT, Right}
-use Rattle.tree.specs.Stands.{Stands}
+use Rattle.tree.specs.Stands.{Stands, SomeTree}
 use Rattle.tree.specs.Reader.{isAt}
 use Rattle.tree.specs.Codes.{parts, allRows, rowOf, singles, sortAt, chain, codes, partCodes, stmtCodes}
 use Rattle.tree.proofs.Complete.{may, mayR, clear, clearR, clear-kind, not-first}
@@ -22,7 +22,7 @@ use Rattle.tree.proofs.Steps.{sizeS, sizeR, size-many, size-group, size-opt, sm
 use Rattle.resolve.specs.Tables.{Tables, nowhere, after}
 use Rattle.resolve.specs.Resolve.{resolveTree}
 use Rattle.resolve.specs.Keeps.{count-tree}
-use Rattle.accesses.specs.Post.{SomeTree, Opened, Planned, Listed}
+use Rattle.accesses.specs.Post.{Opened, Planned, Listed}
 
 -- a type's heads one after another
 pub is-type : {k : ℕ} → k ≡ 12 → sortAt k ≡ chain 40 (take 6 (drop 24 allRows))

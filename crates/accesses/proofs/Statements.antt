@@ -13,14 +13,14 @@ use Rattle.expr.specs.Stands.{Wrote, StandsAll}
 use Rattle.expr.proofs.Parts.{wrote-first, kind-is, pay-is}
 use Rattle.tree.specs.Sorts.{Sort, expr, stmt, Sorts, nil, _&_, Kind, sorts, numberOf, kindAt, kinds, call, sub, function}
 use Rattle.tree.specs.Tree.{strings, Shape, one, row, rows, Tree, word, value, Stmt, list, done, cons, none as nothing, more as add, count, wordsT, Right}
-use Rattle.tree.specs.Stands.{Stands}
+use Rattle.tree.specs.Stands.{Stands, SomeTree}
 use Rattle.tree.specs.Codes.{rowOf}
 use Rattle.tree.proofs.Complete.{number-small, kind-number}
 use Rattle.tree.proofs.Steps.{row-kind}
 use Rattle.resolve.specs.Tables.{Tables, Places, nowhere, places, after}
 use Rattle.resolve.specs.Resolve.{passed, resolveExpr, resolveArgs, first, inside, argued, resolveTree}
 use Rattle.resolve.specs.Keeps.{count-tree}
-use Rattle.accesses.specs.Post.{SomeTree, InsideAt}
+use Rattle.accesses.specs.Post.{InsideAt}
 
 -- ---- a list of expressions in a row of a statement, as the list that it is
 

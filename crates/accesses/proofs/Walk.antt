@@ -11,10 +11,10 @@ use Rattle.words.specs.Word.{wordOf, kindOf, payOf}
 use Rattle.expr.specs.Expr.{Strings, Expr, Exprs, many, words, wordsAll}
 use Rattle.expr.specs.Stands as W
 use Rattle.expr.proofs.Parts.{wrote-first, pay-is}
-use Rattle.tree.specs.Sorts.{Sort, expr, stmt, Sorts, nil, _&_, Kind, sorts}
+use Rattle.tree.specs.Sorts.{Sort, expr, stmt, Sorts, nil, _&_, body, Kind, sorts}
 use Rattle.tree.specs.Tree.{strings, Shape, one, row, rows, Tree, value, Stmt, count, wordsT, Right}
-use Rattle.tree.specs.Stands.{Stands}
-use Rattle.tree.specs.Codes.{codes, decode, sortAt, rowOf}
+use Rattle.tree.specs.Stands.{Stands, SomeTree}
+use Rattle.tree.specs.Codes.{codes, partCodes, parts, allRows, decode, sortAt, rowOf}
 use Rattle.tree.proofs.Steps.{decode-stop, decode-go, decode-over, decode-row}
 use Rattle.table.specs.Rows.{Row, Holds}
 use Rattle.resolve.specs.Tables.{Tables, nowhere, places}
@@ -23,7 +23,7 @@ use Rattle.resolve.specs.Resolve.{resolveExpr, resolveArgs, first, inside, reso
 use Rattle.resolve.specs.Flags.{passed-false}
 use Rattle.resolver.specs.Post.{Room, Ready, ReadyAll, Put, Resolved, ResolvedArgs}
 use Rattle.resolver.proofs.Writing.{sets-append}
-use Rattle.accesses.specs.Post.{SomeTree, ReadyTree, ReadyRows, ResolvedTree, ResolvedRows, Planned, Listed, InsideAt}
+use Rattle.accesses.specs.Post.{ReadyTree, ReadyRows, ResolvedTree, ResolvedRows, Planned, Listed, InsideAt}
 use Rattle.accesses.proofs.Trees.{plain, Rest, Split, rest-start, rest-step, rest-end, split-row, split-rows, split-count, row-over, rows-over}
 use Rattle.accesses.proofs.Statements.{head-kind, stmt-row, fields, stmt-words, InCall, in-call}
 
@@ -269,3 +269,13 @@ call-done {ws} {buf} {out} {mid} {last} {count} {scope} {at} {to} {a} {t} q h b 
           upto = rw whole (simp length-append (omega (arith, e .upto, ap length yy)));
           now = rw whole (e .now ∙ ap (λ (l : List ℕ). sets mid (to + 3) l) yy ∙ ap (λ (l : List ℕ). sets l (to + 3) y) one ∙ sym (sets-append x y out to));
         }
+
+-- ---- a list of statements
+
+pub body-sort : sortAt 68 ≡ body
+unfolding sortAt rowOf allRows parts
+body-sort = refl
+
+pub body-listed : Listed 68
+unfolding codes partCodes
+body-listed = record { row = 5; place = 0; is = refl }

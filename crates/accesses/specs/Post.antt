@@ -6,7 +6,7 @@ use lib.ListN.{take, drop, getD}
 use Rattle.expr.specs.Expr.{Expr}
 use Rattle.tree.specs.Sorts.{Sort, stmt, Sorts, Kind, sorts}
 use Rattle.tree.specs.Tree.{Shape, one, row, rows, Tree, Stmt, count, wordsT}
-use Rattle.tree.specs.Stands.{Stands}
+use Rattle.tree.specs.Stands.{Stands, SomeTree}
 use Rattle.tree.specs.Codes.{codes, rowOf}
 use Rattle.tree.proofs.Steps.{sizeS, sizeR}
 use Rattle.table.specs.Rows.{Row, Holds}
@@ -14,14 +14,6 @@ use Rattle.resolve.specs.Tables.{Tables, nowhere}
 use Rattle.resolve.specs.FromRows.{tablesOf}
 use Rattle.resolve.specs.Resolve.{first, inside, resolveTree}
 use Rattle.resolver.specs.Post.{Room, Put}
-
--- some tree of the shape stands there
-pub record SomeTree (i : Shape) (ws : List ℕ) (at : ℕ) : Type 0 where
-  pub names : List ℕ
-  pub strings : ℕ
-  pub tree : Tree Expr i
-  pub end : ℕ
-  pub stands : Stands ws names strings at tree end
 
 pub record ReadyTree (i : Shape) (ws buf : List ℕ) (count scope at to size : ℕ) : Type 0 where
   pub some : SomeTree i ws at

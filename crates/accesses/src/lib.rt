@@ -4,10 +4,11 @@ ghost use mathlib.Core.Path.{_≡_};
 ghost use Prim.Native.Nat.{_+_, _≤_, _<_};
 ghost use mathlib.Core.Logic.{_≢_};
 ghost use lib.ListN.{length, take, drop};
-ghost use Rattle.tree.specs.Sorts.{stmt as stmtSort, many, opt};
+ghost use Rattle.tree.specs.Sorts.{stmt as stmtSort, many, opt, body};
 ghost use Rattle.tree.specs.Tree.{one, row as rowShape};
 ghost use Rattle.tree.specs.Codes.{sortAt, rowOf, chain, allRows};
-ghost use Rattle.accesses.specs.Post.{SomeTree, ReadyTree, ReadyRows, ResolvedTree, ResolvedRows, Planned, Listed, InsideAt};
+ghost use Rattle.tree.specs.Stands.{SomeTree};
+ghost use Rattle.accesses.specs.Post.{ReadyTree, ReadyRows, ResolvedTree, ResolvedRows, Planned, Listed, InsideAt};
 
 // What a field is: so many words as they are, and then so many times a row of fields.
 pub struct Plan {
@@ -217,4 +218,20 @@ fn row(
         i += 1;
     }
     Spot { at: a, to: t }
+}
+
+// Resolves the list of statements at `at` into `out` from `to` on.
+pub fn resolve_array_accesses(
+    words: &[u32],
+    rows: &[u32],
+    count: usize,
+    scope: u32,
+    out: &mut [u32],
+    at: usize,
+    to: usize,
+) -> Spot
+    requires { ⌜ ReadyTree (one body) (now words) (now rows) count scope at to (length (now out)) ⌝ }
+    ensures { λ r. ⌜ ResolvedTree (one body) (now (words .entry)) (now (rows .entry)) (now (out .entry)) (now (out .exit)) count scope at to (r .at) (r .to) ⌝ }
+{
+    field(words, rows, count, scope, out, at, to, 68)
 }

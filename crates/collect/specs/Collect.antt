@@ -8,6 +8,7 @@ use lib.Dec.{eqb, leb}
 use lib.ListN.{length, getD}
 use Rattle.words.specs.Word.{kindOf, payOf, pick}
 use Rattle.strings.specs.Name.{suffix}
+use Rattle.strings.specs.Table.{stringAt}
 use Rattle.expr.specs.Expr.{Expr}
 use Rattle.tree.specs.Sorts.{body}
 use Rattle.tree.specs.Tree.{Shape, one, Tree, over}
@@ -31,6 +32,10 @@ pub record Given : Type 0 where
   pub note-room : Option ℕ
   pub string : ℕ → List ℕ
   pub erased : List ℕ
+
+-- the same from the lent strings
+abbrev pub given : (rows notes : Option ℕ) (bytes ends erased : List ℕ) → Given
+given rows notes bytes ends erased = record { row-room = rows; note-room = notes; string = λ n. stringAt bytes ends n; erased = erased }
 
 -- ---- questions
 

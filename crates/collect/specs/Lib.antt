@@ -3,3 +3,4 @@ pub mod Seen
 pub mod Collect
 pub mod Blind
 pub mod Examples
+pub mod Code

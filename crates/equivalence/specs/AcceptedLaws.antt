@@ -18,10 +18,10 @@ use Rattle.tree.specs.Reader.{programAt}
 use Rattle.reader.specs.Sized.{sizedProgram}
 use Rattle.reader.specs.Program.{Program, wholeOf, erasedFrom, programOf, acceptedOf}
 use Rattle.steps.specs.State.{State, running, stopped}
-use Rattle.collect.specs.Collect.{analysed}
+use Rattle.collect.specs.Collect.{given, analysed}
 use Rattle.equivalence.specs.Rooms.{Free, runs, nine, Full, seven, eight, Meets}
 use Rattle.equivalence.specs.CollectRooms.{analysed-meets}
-use Rattle.equivalence.specs.Analysis.{Analysis, given, resultOf, analysis, Accepted}
+use Rattle.equivalence.specs.Analysis.{Analysis, resultOf, analysis, Accepted}
 use Rattle.equivalence.specs.AnalysisLaws.{known, accepts}
 
 -- ---- the numbers

@@ -5,14 +5,14 @@ use mathlib.Core.Path.{_≡_}
 use mathlib.Core.List.{List}
 use mathlib.Core.Option.{Option, none}
 use Rattle.words.specs.Told.{Told, stops, gives, after}
-use Rattle.strings.specs.Table.{stringAt, namesOf}
+use Rattle.strings.specs.Table.{namesOf}
 use Rattle.strings.specs.Open.{entryOf}
 use Rattle.tree.specs.Tree.{wordsT}
 use Rattle.reader.specs.Sized.{sizedTree, sizedProgram}
 use Rattle.reader.specs.Program.{Program, programOf, acceptedOf}
 use Rattle.table.specs.Rows.{Row}
 use Rattle.steps.specs.State.{State, running, stopped}
-use Rattle.collect.specs.Collect.{Given, analysed}
+use Rattle.collect.specs.Collect.{given, analysed}
 use Rattle.resolve.specs.FromRows.{tablesOf}
 use Rattle.resolve.specs.Resolve.{resolveArrayAccesses}
 
@@ -26,15 +26,12 @@ pub record Analysis : Type 0 where
 abbrev pub resolvedUnder : List Row → Program → List ℕ
 resolvedUnder rows p = wordsT (resolveArrayAccesses (tablesOf rows) 0 p)
 
--- what collecting is given beside the tree; a room is the words that a lent buffer has, `none` where there is no limit
-abbrev pub given : (rows notes : Option ℕ) (bytes ends erased : List ℕ) → Given
-given rows notes bytes ends erased = record { row-room = rows; note-room = notes; string = λ n. stringAt bytes ends n; erased = erased }
-
 -- after `collect` and `check_name_collisions`: stopped, or resolved under the rows that they gave
 unfoldable pub resultOf : Program → State → Told Analysis
 resultOf p (running rows notes) = gives (record { tree = p; rows = rows; diagnostics = notes; resolved = resolvedUnder rows p })
 resultOf p (stopped n) = stops n 0
 
+-- a room is the words that a lent buffer has, `none` where there is no limit.
 -- 5, then 1 (at a place that is left open), then 2 or 3, then 4; then collecting and the collision check, which may stop; then resolving
 unfoldable pub analysis : (rows notes : Option ℕ) (at : ℕ) (bytes ends erased words : List ℕ) → Told Analysis
 unfolding resultOf

@@ -24,12 +24,12 @@ use Rattle.reader.specs.Sized.{sizedStrings, sizedTree, sizedProgram}
 use Rattle.reader.specs.Program.{Program, wholeOf, erasedFrom, programOf, acceptedOf}
 use Rattle.table.specs.Rows.{Row}
 use Rattle.steps.specs.State.{State, running, stopped}
-use Rattle.collect.specs.Collect.{analysed}
+use Rattle.collect.specs.Collect.{given, analysed}
 use Rattle.resolve.specs.Tables.{Tables, nowhere}
 use Rattle.resolve.specs.FromRows.{tablesOf}
 use Rattle.resolve.specs.Resolve.{resolveArrayAccesses}
 use Rattle.resolve.specs.Keeps.{shorter-tree, right-tree, deep-tree}
-use Rattle.equivalence.specs.Analysis.{Analysis, resolvedUnder, given, resultOf, analysis}
+use Rattle.equivalence.specs.Analysis.{Analysis, resolvedUnder, resultOf, analysis}
 
 -- ---- what gives no number passes every check
 

@@ -21,7 +21,7 @@ use Rattle.reader.specs.Sized.{sizedStrings, sizedTree, sizedProgram}
 use Rattle.reader.specs.Program.{Program, programOf}
 use Rattle.table.specs.Rows.{Row}
 use Rattle.steps.specs.State.{State, running}
-use Rattle.collect.specs.Collect.{Given, analysed}
+use Rattle.collect.specs.Collect.{given, Given, analysed}
 use Rattle.collect.specs.Blind.{analysed-strip}
 use Rattle.resolve.specs.Tables.{Tables, nowhere}
 use Rattle.resolve.specs.FromRows.{tablesOf}
@@ -31,7 +31,7 @@ use Rattle.resolve.specs.Keeps.{shorter-tree, right-tree, deep-tree}
 use Rattle.equivalence.specs.Chain.{Chain, then, back, same, keeps}
 use Rattle.equivalence.specs.Step.{StepP, Steps}
 use Rattle.equivalence.specs.StepLaws.{undo, step, reach, strip-res}
-use Rattle.equivalence.specs.Analysis.{Analysis, resolvedUnder, given, Accepted, resolution}
+use Rattle.equivalence.specs.Analysis.{Analysis, resolvedUnder, Accepted, resolution}
 use Rattle.equivalence.specs.AnalysisLaws.{Known, known, accepts, Reads, reads, read-back, unique}
 
 -- ---- on trees, under any rows

@@ -94,7 +94,7 @@ name-below names x e = go (order x (length names))
         let one : getD names x 0 ≡ 1 = eqb-true (getD names x 0) 1 e in
         absurd (omega (arith, one, List·getD-eq-default names 0 h))
 
-scope-below : (names : List ℕ) (w : ℕ) → scopeOk names w ≡ true → w ≤ length names
+pub scope-below : (names : List ℕ) (w : ℕ) → scopeOk names w ≡ true → w ≤ length names
 unfolding scopeOk
 scope-below names w e = go (eqb w 0) refl e
   where

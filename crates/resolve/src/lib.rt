@@ -54,7 +54,8 @@ pub fn is_element(b: &[u32], count: usize, scope: u32, f: u32) -> bool
     requires { ⌜ (count * width ≤ length (now b)) × (scope ≤ 16777216) × (f < 16777216) ⌝ }
     ensures { λ r. ⌜ ((rows : List Row) → Holds rows count (now (b .entry)) → r ≡ element (tablesOf rows) scope f) ⌝ }
 {
-    if lookup::has(b, count, 135, f, 0) {
+    let procedure = lookup::has(b, count, 135, f, 0);
+    if procedure {
         return false;
     }
     match lookup::lookup_array(b, count, scope, f) {

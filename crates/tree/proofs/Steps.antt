@@ -486,3 +486,8 @@ stmt-go ws ns n (suc d) at {r} z a b c h =
 pub program-is : (ws ns : List ℕ) (n : ℕ) {s : Step} → s ≡ stepOf (fieldAt ws ns n (exprAt ws (strings ns n) 100) (stmtAt ws ns n 100) (many (rowOf 4)) 0) → s ≡ stepOf (programAt ws ns n)
 unfolding programAt rowOf allRows parts
 program-is ws ns n e = e
+
+-- so is any body
+pub body-is : (ws ns : List ℕ) (n left at : ℕ) {s : Step} → s ≡ stepOf (fieldAt ws ns n (exprAt ws (strings ns n) left) (stmtAt ws ns n left) (many (rowOf 4)) at) → s ≡ stepOf (fieldAt ws ns n (exprAt ws (strings ns n) left) (stmtAt ws ns n left) (many (stmt & nil)) at)
+unfolding rowOf allRows parts
+body-is ws ns n left at e = e

@@ -6,7 +6,7 @@ ghost use Prim.Native.Nat.{ℕ, _<_, _≤_, _+_};
 ghost use lib.ListN.{getD, take, drop};
 ghost use lib.Dec.{eqb};
 ghost use mathlib.Core.List.{List};
-ghost use Rattle.tree.specs.Sorts.{Sort, many, group, opt, nil, TypeRef};
+ghost use Rattle.tree.specs.Sorts.{Sort, many, group, opt, nil, body as bodySort, TypeRef};
 ghost use Rattle.tree.specs.Tree.{between, strings};
 ghost use Rattle.tree.specs.Codes.{codes, sortAt, rowOf, chain, allRows};
 ghost use Rattle.tree.specs.Reader.{wordAt, neverAt, fieldAt, rowAt, stmtAt, programAt};
@@ -365,4 +365,11 @@ pub fn program(words: &[u32], names: &[u8], n: u32) -> Step
     ensures { λ r. ⌜ r ≡ stepOf (programAt (now (words .entry)) (now (names .entry)) n) ⌝ }
 {
     rows(Cursor { at: 0 }, words, names, n, 100, 4)
+}
+
+// A body: a list of statements, with so many levels left.
+pub fn body(c: Cursor, words: &[u32], names: &[u8], n: u32, left: usize) -> Step
+    ensures { λ r. ⌜ r ≡ stepOf (fieldAt (now (words .entry)) (now (names .entry)) n (exprAt (now (words .entry)) (strings (now (names .entry)) n) left) (stmtAt (now (words .entry)) (now (names .entry)) n left) bodySort (c .at)) ⌝ }
+{
+    rows(c, words, names, n, left, 4)
 }

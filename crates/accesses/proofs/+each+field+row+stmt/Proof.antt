@@ -1,3 +1,5 @@
+-- The cycle of `field`, `stmt`, `each` and `row`: each cites the laws of `Walk`. The measure is the words left from the reading place, and
+-- behind them the size of the sort. Assumes nothing.
 use Rattle.words.specs.Word.{kindOf}
 use Prim.Native.Nat.{ℕ, _+_, _-_, _*_, _≤_, _<_}
 use mathlib.Core.Path.{_≡_, refl, sym, ap, _∙_}
@@ -69,13 +71,21 @@ stmt-at t = and 3 stmt-kinds.ps (is 3 stmt-kinds.ps μ-stmt t) stmt.Pre
 abbrev stmt-below : ℕ → In 3 stmt-kinds.ps
 stmt-below t = and 3 stmt-kinds.ps (falls 3 stmt-kinds.ps _<_ μ-stmt t) stmt.Pre
 
+abbrev K-stmt : ℕ → stmt-lts.Claims
+K-stmt t = (copy-reads.Asked, copy-reads.Learnt, resolve-args-reads.Asked, resolve-args-reads.Learnt, inside-reads.Asked, inside-reads.Learnt, row-below t, row.Post)
+
+abbrev K-row : ℕ → row-lts.Claims
+K-row t = (sort-reads.Asked, sort-reads.Learnt, field-below t, field.Post)
+
+abbrev K-field : ℕ → field-lts.Claims
+K-field t = (resolve-expr-reads.Asked, resolve-expr-reads.Learnt, stmt-below t, stmt.Post, plan-for-reads.Asked, plan-for-reads.Learnt, copy-reads.Asked, copy-reads.Learnt, each-below t, each.Post)
+
 abbrev each-Inv-loop : each-lts.InvT-loop
 each-Inv-loop words rows count scope out₀ at to r n a₀ t₀ i₀ out a t i = (length out ≡ length out₀) × WalkedRows (rowOf r) n words rows out₀ count scope at to a t i out
 
 abbrev each-μ-loop : each-lts.MeasureT-loop
 each-μ-loop words rows count scope out₀ at to r n a₀ t₀ i₀ out a t i = n - i
 
--- src/lib.rt:183:5
 each-loop-holds :
     (t : ℕ) →
     each-lts.Need-loop-holds
@@ -86,7 +96,6 @@ each-loop-holds :
     each-μ-loop
 each-loop-holds t c = (refl, rows-start (rowOf (c .before .before .before .args .r)) (c .before .before .before .args .n) (c .before .before .before .args .words .now) (c .before .before .before .args .rows .now) (c .before .before .before .args .out .now) (c .before .before .before .args .count) (c .before .before .before .args .scope) (c .before .before .before .args .at) (c .before .before .before .args .to))
 
--- src/lib.rt:184:13
 each-row-requires :
     (t : ℕ) →
     each-lts.Need-row-requires
@@ -97,13 +106,11 @@ each-row-requires :
     each-μ-loop
 each-row-requires t c κs = (omega (arith, c .before .before .before .before .before .before .pre .0, next-row (c .before .before .before .before .before .before .pre .1) (c .before .before .loop .inv .1) (c .before .loop-test .taken) refl .from), next-row (c .before .before .before .before .before .before .pre .1) (c .before .before .loop .inv .1) (c .before .loop-test .taken) (c .before .before .loop .inv .0) .ready)
 
--- src/lib.rt:187:9
 each-add-i :
     (t : ℕ) →
     each-lts.Need-add-i (row-below t, row.Post) (each-at t) each.Post each-Inv-loop each-μ-loop
 each-add-i t c = omega (arith, c .before .before .before .before .loop-test .taken)
 
--- src/lib.rt:183:5
 each-loop-less :
     (t : ℕ) →
     each-lts.Need-loop-less
@@ -114,7 +121,6 @@ each-loop-less :
     each-μ-loop
 each-loop-less t c = omega (arith, c .before .before .before .before .loop-test .taken)
 
--- src/lib.rt:183:5
 each-loop-again :
     (t : ℕ) →
     each-lts.Need-loop-again
@@ -125,7 +131,6 @@ each-loop-again :
     each-μ-loop
 each-loop-again t c = (c .before .before .row .kept .1 .1 .1 .1 .0 ∙ c .before .before .before .before .before .loop .inv .0, rows-step (c .before .before .before .before .before .loop .inv .1) (c .before .before .before .before .loop-test .taken) (c .before .before .row .ensures))
 
--- src/lib.rt:166:1
 each-same-length :
     (t : ℕ) →
     each-lts.Need-same-length
@@ -136,205 +141,48 @@ each-same-length :
     each-μ-loop
 each-same-length t c = c .before .loop .inv .0
 
--- src/lib.rt:166:1
 each-returns :
     (t : ℕ) →
     each-lts.Need-returns (row-below t, row.Post) (each-at t) each.Post each-Inv-loop each-μ-loop
 each-returns t c = rows-over-done (c .before .loop .inv .1) (c .loop-test .left)
 
--- src/lib.rt:118:9
-field-resolve-expr-requires : (t : ℕ) → field-lts.Need-resolve-expr-requires (
-  resolve-expr-reads.Asked,
-  resolve-expr-reads.Learnt,
-  stmt-below t,
-  stmt.Post,
-  plan-for-reads.Asked,
-  plan-for-reads.Learnt,
-  copy-reads.Asked,
-  copy-reads.Learnt,
-  each-below t,
-  each.Post,
-) (field-at t) field.Post
+field-resolve-expr-requires : (t : ℕ) → field-lts.Need-resolve-expr-requires (K-field t) (field-at t) field.Post
 field-resolve-expr-requires t c κs = ready-value (ready-as (ap one (is-9 (c .before .if1 .taken))) (c .before .before .before .before .before .pre .1 .0))
 
--- src/lib.rt:118:9
-field-same-length : (t : ℕ) → field-lts.Need-same-length (
-  resolve-expr-reads.Asked,
-  resolve-expr-reads.Learnt,
-  stmt-below t,
-  stmt.Post,
-  plan-for-reads.Asked,
-  plan-for-reads.Learnt,
-  copy-reads.Asked,
-  copy-reads.Learnt,
-  each-below t,
-  each.Post,
-) (field-at t) field.Post
+field-same-length : (t : ℕ) → field-lts.Need-same-length (K-field t) (field-at t) field.Post
 field-same-length t c = c .before .before .resolve-expr .kept .1 .1 .1 .1 .0
 
--- src/lib.rt:118:9
-field-returns : (t : ℕ) → field-lts.Need-returns (
-  resolve-expr-reads.Asked,
-  resolve-expr-reads.Learnt,
-  stmt-below t,
-  stmt.Post,
-  plan-for-reads.Asked,
-  plan-for-reads.Learnt,
-  copy-reads.Asked,
-  copy-reads.Learnt,
-  each-below t,
-  each.Post,
-) (field-at t) field.Post
+field-returns : (t : ℕ) → field-lts.Need-returns (K-field t) (field-at t) field.Post
 field-returns t c = resolved-as (ap one (is-9 (c .before .before .before .before .if1 .taken))) (value-done (c .before .before .resolve-expr .ensures))
 
--- src/lib.rt:121:9
-field-stmt-requires : (t : ℕ) → field-lts.Need-stmt-requires (
-  resolve-expr-reads.Asked,
-  resolve-expr-reads.Learnt,
-  stmt-below t,
-  stmt.Post,
-  plan-for-reads.Asked,
-  plan-for-reads.Learnt,
-  copy-reads.Asked,
-  copy-reads.Learnt,
-  each-below t,
-  each.Post,
-) (field-at t) field.Post
+field-stmt-requires : (t : ℕ) → field-lts.Need-stmt-requires (K-field t) (field-at t) field.Post
 field-stmt-requires t c κs = (omega (arith, c .before .before .before .before .before .before .pre .0), ready-as (ap one (is-10 (c .before .if2 .taken))) (c .before .before .before .before .before .before .pre .1 .0))
 
--- src/lib.rt:121:9
-field-same-length-2 : (t : ℕ) → field-lts.Need-same-length-2 (
-  resolve-expr-reads.Asked,
-  resolve-expr-reads.Learnt,
-  stmt-below t,
-  stmt.Post,
-  plan-for-reads.Asked,
-  plan-for-reads.Learnt,
-  copy-reads.Asked,
-  copy-reads.Learnt,
-  each-below t,
-  each.Post,
-) (field-at t) field.Post
+field-same-length-2 : (t : ℕ) → field-lts.Need-same-length-2 (K-field t) (field-at t) field.Post
 field-same-length-2 t c = c .before .before .stmt .kept .1 .1 .1 .1 .0
 
--- src/lib.rt:121:9
-field-returns-2 : (t : ℕ) → field-lts.Need-returns-2 (
-  resolve-expr-reads.Asked,
-  resolve-expr-reads.Learnt,
-  stmt-below t,
-  stmt.Post,
-  plan-for-reads.Asked,
-  plan-for-reads.Learnt,
-  copy-reads.Asked,
-  copy-reads.Learnt,
-  each-below t,
-  each.Post,
-) (field-at t) field.Post
+field-returns-2 : (t : ℕ) → field-lts.Need-returns-2 (K-field t) (field-at t) field.Post
 field-returns-2 t c = resolved-as (ap one (is-10 (c .before .before .before .before .if2 .taken))) (c .before .before .stmt .ensures)
 
--- src/lib.rt:123:9
-field-plan-for-requires : (t : ℕ) → field-lts.Need-plan-for-requires (
-  resolve-expr-reads.Asked,
-  resolve-expr-reads.Learnt,
-  stmt-below t,
-  stmt.Post,
-  plan-for-reads.Asked,
-  plan-for-reads.Learnt,
-  copy-reads.Asked,
-  copy-reads.Learnt,
-  each-below t,
-  each.Post,
-) (field-at t) field.Post
+field-plan-for-requires : (t : ℕ) → field-lts.Need-plan-for-requires (K-field t) (field-at t) field.Post
 field-plan-for-requires t c κs = (c .before .before .before .before .before .pre .1 .0 .some, c .before .before .before .before .before .pre .1 .1, c .before .if1 .left, c .if2 .left)
 
--- src/lib.rt:127:5
-field-copy-requires : (t : ℕ) → field-lts.Need-copy-requires (
-  resolve-expr-reads.Asked,
-  resolve-expr-reads.Learnt,
-  stmt-below t,
-  stmt.Post,
-  plan-for-reads.Asked,
-  plan-for-reads.Learnt,
-  copy-reads.Asked,
-  copy-reads.Learnt,
-  each-below t,
-  each.Post,
-) (field-at t) field.Post
+field-copy-requires : (t : ℕ) → field-lts.Need-copy-requires (K-field t) (field-at t) field.Post
 field-copy-requires t c κs = open-room (c .before .before .before .before .before .before .before .pre .1 .0) (c .before .plan-for .ensures)
 
--- src/lib.rt:128:42
-field-add-each : (t : ℕ) → field-lts.Need-add-each (
-  resolve-expr-reads.Asked,
-  resolve-expr-reads.Learnt,
-  stmt-below t,
-  stmt.Post,
-  plan-for-reads.Asked,
-  plan-for-reads.Learnt,
-  copy-reads.Asked,
-  copy-reads.Learnt,
-  each-below t,
-  each.Post,
-) (field-at t) field.Post
+field-add-each : (t : ℕ) → field-lts.Need-add-each (K-field t) (field-at t) field.Post
 field-add-each t c = omega (arith, open-room (c .before .before .before .before .before .before .before .before .before .before .before .pre .1 .0) (c .before .before .before .before .before .plan-for .ensures))
 
--- src/lib.rt:128:50
-field-add-each-2 : (t : ℕ) → field-lts.Need-add-each-2 (
-  resolve-expr-reads.Asked,
-  resolve-expr-reads.Learnt,
-  stmt-below t,
-  stmt.Post,
-  plan-for-reads.Asked,
-  plan-for-reads.Learnt,
-  copy-reads.Asked,
-  copy-reads.Learnt,
-  each-below t,
-  each.Post,
-) (field-at t) field.Post
+field-add-each-2 : (t : ℕ) → field-lts.Need-add-each-2 (K-field t) (field-at t) field.Post
 field-add-each-2 t c = omega (arith, open-room (c .before .before .before .before .before .before .before .before .before .before .before .pre .1 .0) (c .before .before .before .before .before .plan-for .ensures), c .before .before .before .before .before .before .before .before .before .before .before .pre .1 .0 .room .behind)
 
--- src/lib.rt:128:5
-field-each-requires : (t : ℕ) → field-lts.Need-each-requires (
-  resolve-expr-reads.Asked,
-  resolve-expr-reads.Learnt,
-  stmt-below t,
-  stmt.Post,
-  plan-for-reads.Asked,
-  plan-for-reads.Learnt,
-  copy-reads.Asked,
-  copy-reads.Learnt,
-  each-below t,
-  each.Post,
-) (field-at t) field.Post
+field-each-requires : (t : ℕ) → field-lts.Need-each-requires (K-field t) (field-at t) field.Post
 field-each-requires t c κs = (omega (arith, c .before .before .before .before .before .before .before .before .before .before .before .pre .0, c .before .before .before .before .before .plan-for .ensures .falls, open-room (c .before .before .before .before .before .before .before .before .before .before .before .pre .1 .0) (c .before .before .before .before .before .plan-for .ensures)), ready-rows (c .before .before .before .before .before .before .before .before .before .before .before .pre .1 .0) (c .before .before .before .before .before .plan-for .ensures) (c .before .before .before .copy .kept .1 .0))
 
--- src/lib.rt:104:1
-field-same-length-3 : (t : ℕ) → field-lts.Need-same-length-3 (
-  resolve-expr-reads.Asked,
-  resolve-expr-reads.Learnt,
-  stmt-below t,
-  stmt.Post,
-  plan-for-reads.Asked,
-  plan-for-reads.Learnt,
-  copy-reads.Asked,
-  copy-reads.Learnt,
-  each-below t,
-  each.Post,
-) (field-at t) field.Post
+field-same-length-3 : (t : ℕ) → field-lts.Need-same-length-3 (K-field t) (field-at t) field.Post
 field-same-length-3 t c = c .before .before .each .kept .1 .1 .1 .1 .0 ∙ c .before .before .before .before .before .before .copy .kept .1 .0
 
--- src/lib.rt:104:1
-field-returns-3 : (t : ℕ) → field-lts.Need-returns-3 (
-  resolve-expr-reads.Asked,
-  resolve-expr-reads.Learnt,
-  stmt-below t,
-  stmt.Post,
-  plan-for-reads.Asked,
-  plan-for-reads.Learnt,
-  copy-reads.Asked,
-  copy-reads.Learnt,
-  each-below t,
-  each.Post,
-) (field-at t) field.Post
+field-returns-3 : (t : ℕ) → field-lts.Need-returns-3 (K-field t) (field-at t) field.Post
 field-returns-3 t c = rows-done (c .before .before .before .before .before .before .before .before .plan-for .ensures) (open-room (c .before .before .before .before .before .before .before .before .before .before .before .before .before .before .pre .1 .0) (c .before .before .before .before .before .before .before .before .plan-for .ensures) .0) (c .before .before .before .before .before .before .copy .ensures) (c .before .before .each .ensures)
 
 abbrev row-Inv-loop : row-lts.InvT-loop
@@ -343,406 +191,106 @@ row-Inv-loop words rows count scope out₀ at to r a₀ t₀ i₀ out a t i = (s
 abbrev row-μ-loop : row-lts.MeasureT-loop
 row-μ-loop words rows count scope out₀ at to r a₀ t₀ i₀ out a t i = 6 - i
 
--- src/lib.rt:209:5
-row-loop-holds : (t : ℕ) → row-lts.Need-loop-holds (
-  sort-reads.Asked,
-  sort-reads.Learnt,
-  field-below t,
-  field.Post,
-) (row-at t) row.Post row-Inv-loop row-μ-loop
+row-loop-holds : (t : ℕ) → row-lts.Need-loop-holds (K-row t) (row-at t) row.Post row-Inv-loop row-μ-loop
 row-loop-holds t c = (size-start (c .before .before .before .args .r), refl, row-start (c .before .before .before .args .r) (c .before .before .before .args .words .now) (c .before .before .before .args .rows .now) (c .before .before .before .args .out .now) (c .before .before .before .args .count) (c .before .before .before .args .scope) (c .before .before .before .args .at) (c .before .before .before .args .to))
 
--- src/lib.rt:210:13
-row-sort-requires : (t : ℕ) → row-lts.Need-sort-requires (
-  sort-reads.Asked,
-  sort-reads.Learnt,
-  field-below t,
-  field.Post,
-) (row-at t) row.Post row-Inv-loop row-μ-loop
+row-sort-requires : (t : ℕ) → row-lts.Need-sort-requires (K-row t) (row-at t) row.Post row-Inv-loop row-μ-loop
 row-sort-requires t c κs = c .loop-test .taken
 
--- src/lib.rt:212:13
-row-same-length : (t : ℕ) → row-lts.Need-same-length (
-  sort-reads.Asked,
-  sort-reads.Learnt,
-  field-below t,
-  field.Post,
-) (row-at t) row.Post row-Inv-loop row-μ-loop
+row-same-length : (t : ℕ) → row-lts.Need-same-length (K-row t) (row-at t) row.Post row-Inv-loop row-μ-loop
 row-same-length t c = c .before .before .before .loop .inv .1
 
--- src/lib.rt:212:13
-row-returns : (t : ℕ) → row-lts.Need-returns (
-  sort-reads.Asked,
-  sort-reads.Learnt,
-  field-below t,
-  field.Post,
-) (row-at t) row.Post row-Inv-loop row-μ-loop
+row-returns : (t : ℕ) → row-lts.Need-returns (K-row t) (row-at t) row.Post row-Inv-loop row-μ-loop
 row-returns t c = row-stop (c .before .before .before .loop .inv .2) (c .before .sort .ensures) (c .if1 .taken)
 
--- src/lib.rt:214:13
-row-field-requires : (t : ℕ) → row-lts.Need-field-requires (
-  sort-reads.Asked,
-  sort-reads.Learnt,
-  field-below t,
-  field.Post,
-) (row-at t) row.Post row-Inv-loop row-μ-loop
+row-field-requires : (t : ℕ) → row-lts.Need-field-requires (K-row t) (row-at t) row.Post row-Inv-loop row-μ-loop
 row-field-requires t c κs = (omega (arith, c .before .before .before .before .before .before .before .before .pre .0, c .before .before .before .before .loop .inv .0, size-step (c .before .before .before .before .before .before .before .before .args .r) _ _ (c .before .before .sort .ensures) (c .before .if1 .left), next-field (c .before .before .before .before .before .before .before .before .pre .1) (c .before .before .before .before .loop .inv .2) (c .before .before .sort .ensures) (c .before .if1 .left) refl .from), (next-field (c .before .before .before .before .before .before .before .before .pre .1) (c .before .before .before .before .loop .inv .2) (c .before .before .sort .ensures) (c .before .if1 .left) (c .before .before .before .before .loop .inv .1) .ready, record { row = (c .before .before .before .before .before .before .before .before .args .r); place = c .before .before .before .before .loop .i; is = c .before .before .sort .ensures }))
 
--- src/lib.rt:217:9
-row-add-i : (t : ℕ) → row-lts.Need-add-i (
-  sort-reads.Asked,
-  sort-reads.Learnt,
-  field-below t,
-  field.Post,
-) (row-at t) row.Post row-Inv-loop row-μ-loop
+row-add-i : (t : ℕ) → row-lts.Need-add-i (K-row t) (row-at t) row.Post row-Inv-loop row-μ-loop
 row-add-i t c = omega (arith, c .before .before .before .before .before .before .loop-test .taken)
 
--- src/lib.rt:209:5
-row-loop-less : (t : ℕ) → row-lts.Need-loop-less (
-  sort-reads.Asked,
-  sort-reads.Learnt,
-  field-below t,
-  field.Post,
-) (row-at t) row.Post row-Inv-loop row-μ-loop
+row-loop-less : (t : ℕ) → row-lts.Need-loop-less (K-row t) (row-at t) row.Post row-Inv-loop row-μ-loop
 row-loop-less t c = omega (arith, c .before .before .before .before .before .before .loop-test .taken)
 
--- src/lib.rt:209:5
-row-loop-again : (t : ℕ) → row-lts.Need-loop-again (
-  sort-reads.Asked,
-  sort-reads.Learnt,
-  field-below t,
-  field.Post,
-) (row-at t) row.Post row-Inv-loop row-μ-loop
+row-loop-again : (t : ℕ) → row-lts.Need-loop-again (K-row t) (row-at t) row.Post row-Inv-loop row-μ-loop
 row-loop-again t c = (omega (arith, c .before .before .before .before .before .before .before .loop .inv .0, size-step (c .before .before .before .before .before .before .before .before .before .before .before .args .r) _ _ (c .before .before .before .before .before .sort .ensures) (c .before .before .before .before .if1 .left)), c .before .before .field .kept .1 .1 .1 .1 .0 ∙ c .before .before .before .before .before .before .before .loop .inv .1, row-step (c .before .before .before .before .before .before .before .loop .inv .2) (c .before .before .before .before .before .sort .ensures) (c .before .before .before .before .if1 .left) (c .before .before .field .ensures))
 
--- src/lib.rt:193:1
-row-same-length-2 : (t : ℕ) → row-lts.Need-same-length-2 (
-  sort-reads.Asked,
-  sort-reads.Learnt,
-  field-below t,
-  field.Post,
-) (row-at t) row.Post row-Inv-loop row-μ-loop
+row-same-length-2 : (t : ℕ) → row-lts.Need-same-length-2 (K-row t) (row-at t) row.Post row-Inv-loop row-μ-loop
 row-same-length-2 t c = c .before .loop .inv .1
 
--- src/lib.rt:193:1
-row-returns-2 : (t : ℕ) → row-lts.Need-returns-2 (
-  sort-reads.Asked,
-  sort-reads.Learnt,
-  field-below t,
-  field.Post,
-) (row-at t) row.Post row-Inv-loop row-μ-loop
+row-returns-2 : (t : ℕ) → row-lts.Need-returns-2 (K-row t) (row-at t) row.Post row-Inv-loop row-μ-loop
 row-returns-2 t c = row-full (c .before .loop .inv .2) (c .loop-test .left)
 
--- src/lib.rt:144:13
-stmt-mul-k : (t : ℕ) → stmt-lts.Need-mul-k (
-  copy-reads.Asked,
-  copy-reads.Learnt,
-  resolve-args-reads.Asked,
-  resolve-args-reads.Learnt,
-  inside-reads.Asked,
-  inside-reads.Learnt,
-  row-below t,
-  row.Post,
-) (stmt-at t) stmt.Post
+stmt-mul-k : (t : ℕ) → stmt-lts.Need-mul-k (K-stmt t) (stmt-at t) stmt.Post
 stmt-mul-k t c = omega (arith, head-range (c .before .before .before .pre .1 .some .stands))
 
--- src/lib.rt:144:13
-stmt-shared-slice-read-k : (t : ℕ) → stmt-lts.Need-shared-slice-read-k (
-  copy-reads.Asked,
-  copy-reads.Learnt,
-  resolve-args-reads.Asked,
-  resolve-args-reads.Learnt,
-  inside-reads.Asked,
-  inside-reads.Learnt,
-  row-below t,
-  row.Post,
-) (stmt-at t) stmt.Post
+stmt-shared-slice-read-k : (t : ℕ) → stmt-lts.Need-shared-slice-read-k (K-stmt t) (stmt-at t) stmt.Post
 stmt-shared-slice-read-k t c = omega (arith, head-range (c .before .before .before .before .pre .1 .some .stands))
 
--- src/lib.rt:146:23
-stmt-add-f : (t : ℕ) → stmt-lts.Need-add-f (
-  copy-reads.Asked,
-  copy-reads.Learnt,
-  resolve-args-reads.Asked,
-  resolve-args-reads.Learnt,
-  inside-reads.Asked,
-  inside-reads.Learnt,
-  row-below t,
-  row.Post,
-) (stmt-at t) stmt.Post
+stmt-add-f : (t : ℕ) → stmt-lts.Need-add-f (K-stmt t) (stmt-at t) stmt.Post
 stmt-add-f t c = omega (arith, call-room (c .before .before .before .before .before .pre .1) (c .if1 .taken))
 
--- src/lib.rt:146:17
-stmt-mul-f : (t : ℕ) → stmt-lts.Need-mul-f (
-  copy-reads.Asked,
-  copy-reads.Learnt,
-  resolve-args-reads.Asked,
-  resolve-args-reads.Learnt,
-  inside-reads.Asked,
-  inside-reads.Learnt,
-  row-below t,
-  row.Post,
-) (stmt-at t) stmt.Post
+stmt-mul-f : (t : ℕ) → stmt-lts.Need-mul-f (K-stmt t) (stmt-at t) stmt.Post
 stmt-mul-f t c = omega (arith, call-room (c .before .before .before .before .before .pre .1) (c .if1 .taken))
 
--- src/lib.rt:146:17
-stmt-shared-slice-read-f : (t : ℕ) → stmt-lts.Need-shared-slice-read-f (
-  copy-reads.Asked,
-  copy-reads.Learnt,
-  resolve-args-reads.Asked,
-  resolve-args-reads.Learnt,
-  inside-reads.Asked,
-  inside-reads.Learnt,
-  row-below t,
-  row.Post,
-) (stmt-at t) stmt.Post
+stmt-shared-slice-read-f : (t : ℕ) → stmt-lts.Need-shared-slice-read-f (K-stmt t) (stmt-at t) stmt.Post
 stmt-shared-slice-read-f t c = omega (arith, call-room (c .before .before .before .before .before .before .pre .1) (c .before .if1 .taken))
 
--- src/lib.rt:147:23
-stmt-add-n : (t : ℕ) → stmt-lts.Need-add-n (
-  copy-reads.Asked,
-  copy-reads.Learnt,
-  resolve-args-reads.Asked,
-  resolve-args-reads.Learnt,
-  inside-reads.Asked,
-  inside-reads.Learnt,
-  row-below t,
-  row.Post,
-) (stmt-at t) stmt.Post
+stmt-add-n : (t : ℕ) → stmt-lts.Need-add-n (K-stmt t) (stmt-at t) stmt.Post
 stmt-add-n t c = omega (arith, call-room (c .before .before .before .before .before .before .pre .1) (c .before .if1 .taken))
 
--- src/lib.rt:147:17
-stmt-mul-n : (t : ℕ) → stmt-lts.Need-mul-n (
-  copy-reads.Asked,
-  copy-reads.Learnt,
-  resolve-args-reads.Asked,
-  resolve-args-reads.Learnt,
-  inside-reads.Asked,
-  inside-reads.Learnt,
-  row-below t,
-  row.Post,
-) (stmt-at t) stmt.Post
+stmt-mul-n : (t : ℕ) → stmt-lts.Need-mul-n (K-stmt t) (stmt-at t) stmt.Post
 stmt-mul-n t c = omega (arith, call-room (c .before .before .before .before .before .before .pre .1) (c .before .if1 .taken))
 
--- src/lib.rt:147:17
-stmt-shared-slice-read-n : (t : ℕ) → stmt-lts.Need-shared-slice-read-n (
-  copy-reads.Asked,
-  copy-reads.Learnt,
-  resolve-args-reads.Asked,
-  resolve-args-reads.Learnt,
-  inside-reads.Asked,
-  inside-reads.Learnt,
-  row-below t,
-  row.Post,
-) (stmt-at t) stmt.Post
+stmt-shared-slice-read-n : (t : ℕ) → stmt-lts.Need-shared-slice-read-n (K-stmt t) (stmt-at t) stmt.Post
 stmt-shared-slice-read-n t c = omega (arith, call-room (c .before .before .before .before .before .before .before .pre .1) (c .before .before .if1 .taken))
 
--- src/lib.rt:148:9
-stmt-copy-requires : (t : ℕ) → stmt-lts.Need-copy-requires (
-  copy-reads.Asked,
-  copy-reads.Learnt,
-  resolve-args-reads.Asked,
-  resolve-args-reads.Learnt,
-  inside-reads.Asked,
-  inside-reads.Learnt,
-  row-below t,
-  row.Post,
-) (stmt-at t) stmt.Post
+stmt-copy-requires : (t : ℕ) → stmt-lts.Need-copy-requires (K-stmt t) (stmt-at t) stmt.Post
 stmt-copy-requires t c κs = call-room (c .before .before .before .before .before .before .before .before .pre .1) (c .before .before .before .if1 .taken)
 
--- src/lib.rt:149:71
-stmt-add-resolve-args : (t : ℕ) → stmt-lts.Need-add-resolve-args (
-  copy-reads.Asked,
-  copy-reads.Learnt,
-  resolve-args-reads.Asked,
-  resolve-args-reads.Learnt,
-  inside-reads.Asked,
-  inside-reads.Learnt,
-  row-below t,
-  row.Post,
-) (stmt-at t) stmt.Post
+stmt-add-resolve-args : (t : ℕ) → stmt-lts.Need-add-resolve-args (K-stmt t) (stmt-at t) stmt.Post
 stmt-add-resolve-args t c = omega (arith, call-room (c .before .before .before .before .before .before .before .before .before .before .before .before .pre .1) (c .before .before .before .before .before .before .before .if1 .taken))
 
--- src/lib.rt:149:79
-stmt-add-resolve-args-2 : (t : ℕ) → stmt-lts.Need-add-resolve-args-2 (
-  copy-reads.Asked,
-  copy-reads.Learnt,
-  resolve-args-reads.Asked,
-  resolve-args-reads.Learnt,
-  inside-reads.Asked,
-  inside-reads.Learnt,
-  row-below t,
-  row.Post,
-) (stmt-at t) stmt.Post
+stmt-add-resolve-args-2 : (t : ℕ) → stmt-lts.Need-add-resolve-args-2 (K-stmt t) (stmt-at t) stmt.Post
 stmt-add-resolve-args-2 t c = omega (arith, call-room (c .before .before .before .before .before .before .before .before .before .before .before .before .pre .1) (c .before .before .before .before .before .before .before .if1 .taken), c .before .before .before .before .before .before .before .before .before .before .before .before .pre .1 .room .behind)
 
--- src/lib.rt:149:9
-stmt-resolve-args-requires : (t : ℕ) → stmt-lts.Need-resolve-args-requires (
-  copy-reads.Asked,
-  copy-reads.Learnt,
-  resolve-args-reads.Asked,
-  resolve-args-reads.Learnt,
-  inside-reads.Asked,
-  inside-reads.Learnt,
-  row-below t,
-  row.Post,
-) (stmt-at t) stmt.Post
+stmt-resolve-args-requires : (t : ℕ) → stmt-lts.Need-resolve-args-requires (K-stmt t) (stmt-at t) stmt.Post
 stmt-resolve-args-requires t c κs = (ready-call (c .before .before .before .before .before .before .before .before .before .before .before .before .pre .1) (c .before .before .before .before .before .before .before .if1 .taken) (c .before .before .before .copy .kept .1 .0), omega arith)
 
--- src/lib.rt:149:9
-stmt-same-length : (t : ℕ) → stmt-lts.Need-same-length (
-  copy-reads.Asked,
-  copy-reads.Learnt,
-  resolve-args-reads.Asked,
-  resolve-args-reads.Learnt,
-  inside-reads.Asked,
-  inside-reads.Learnt,
-  row-below t,
-  row.Post,
-) (stmt-at t) stmt.Post
+stmt-same-length : (t : ℕ) → stmt-lts.Need-same-length (K-stmt t) (stmt-at t) stmt.Post
 stmt-same-length t c = c .before .before .resolve-args .kept .1 .1 .1 .1 .0 ∙ c .before .before .before .before .before .before .copy .kept .1 .0
 
--- src/lib.rt:149:9
-stmt-returns : (t : ℕ) → stmt-lts.Need-returns (
-  copy-reads.Asked,
-  copy-reads.Learnt,
-  resolve-args-reads.Asked,
-  resolve-args-reads.Learnt,
-  inside-reads.Asked,
-  inside-reads.Learnt,
-  row-below t,
-  row.Post,
-) (stmt-at t) stmt.Post
+stmt-returns : (t : ℕ) → stmt-lts.Need-returns (K-stmt t) (stmt-at t) stmt.Post
 stmt-returns t c = call-done (c .before .before .before .before .before .before .before .before .before .before .if1 .taken) (call-room (c .before .before .before .before .before .before .before .before .before .before .before .before .before .before .before .pre .1) (c .before .before .before .before .before .before .before .before .before .before .if1 .taken) .0) (c .before .before .before .before .before .before .copy .ensures) (c .before .before .resolve-args .ensures)
 
--- src/lib.rt:151:5
-stmt-copy-requires-2 : (t : ℕ) → stmt-lts.Need-copy-requires-2 (
-  copy-reads.Asked,
-  copy-reads.Learnt,
-  resolve-args-reads.Asked,
-  resolve-args-reads.Learnt,
-  inside-reads.Asked,
-  inside-reads.Learnt,
-  row-below t,
-  row.Post,
-) (stmt-at t) stmt.Post
+stmt-copy-requires-2 : (t : ℕ) → stmt-lts.Need-copy-requires-2 (K-stmt t) (stmt-at t) stmt.Post
 stmt-copy-requires-2 t c κs = (omega (arith, head-range (c .before .before .before .before .before .before .pre .1 .some .stands)), omega (arith, head-range (c .before .before .before .before .before .before .pre .1 .some .stands), c .before .before .before .before .before .before .pre .1 .room .behind, c .before .before .before .before .before .before .pre .1 .room .fits))
 
--- src/lib.rt:152:9
-stmt-inside-requires : (t : ℕ) → stmt-lts.Need-inside-requires (
-  copy-reads.Asked,
-  copy-reads.Learnt,
-  resolve-args-reads.Asked,
-  resolve-args-reads.Learnt,
-  inside-reads.Asked,
-  inside-reads.Learnt,
-  row-below t,
-  row.Post,
-) (stmt-at t) stmt.Post
+stmt-inside-requires : (t : ℕ) → stmt-lts.Need-inside-requires (K-stmt t) (stmt-at t) stmt.Post
 stmt-inside-requires t c κs = (c .before .before .before .before .before .before .before .before .before .pre .1 .some, c .before .before .before .before .before .before .before .before .before .pre .1 .room .scoped)
 
--- src/lib.rt:159:9
-stmt-add-row : (t : ℕ) → stmt-lts.Need-add-row (
-  copy-reads.Asked,
-  copy-reads.Learnt,
-  resolve-args-reads.Asked,
-  resolve-args-reads.Learnt,
-  inside-reads.Asked,
-  inside-reads.Learnt,
-  row-below t,
-  row.Post,
-) (stmt-at t) stmt.Post
+stmt-add-row : (t : ℕ) → stmt-lts.Need-add-row (K-stmt t) (stmt-at t) stmt.Post
 stmt-add-row t c = omega (arith, head-range (c .before .before .before .before .before .before .before .before .before .before .before .pre .1 .some .stands))
 
--- src/lib.rt:160:9
-stmt-add-row-2 : (t : ℕ) → stmt-lts.Need-add-row-2 (
-  copy-reads.Asked,
-  copy-reads.Learnt,
-  resolve-args-reads.Asked,
-  resolve-args-reads.Learnt,
-  inside-reads.Asked,
-  inside-reads.Learnt,
-  row-below t,
-  row.Post,
-) (stmt-at t) stmt.Post
+stmt-add-row-2 : (t : ℕ) → stmt-lts.Need-add-row-2 (K-stmt t) (stmt-at t) stmt.Post
 stmt-add-row-2 t c = omega (arith, head-range (c .before .before .before .before .before .before .before .before .before .before .before .pre .1 .some .stands), c .before .before .before .before .before .before .before .before .before .before .before .pre .1 .room .behind)
 
--- src/lib.rt:161:10
-stmt-sub-row : (t : ℕ) → stmt-lts.Need-sub-row (
-  copy-reads.Asked,
-  copy-reads.Learnt,
-  resolve-args-reads.Asked,
-  resolve-args-reads.Learnt,
-  inside-reads.Asked,
-  inside-reads.Learnt,
-  row-below t,
-  row.Post,
-) (stmt-at t) stmt.Post
+stmt-sub-row : (t : ℕ) → stmt-lts.Need-sub-row (K-stmt t) (stmt-at t) stmt.Post
 stmt-sub-row t c = head-range (c .before .before .before .before .before .before .before .before .before .before .before .pre .1 .some .stands) .0
 
--- src/lib.rt:161:9
-stmt-cast-row : (t : ℕ) → stmt-lts.Need-cast-row (
-  copy-reads.Asked,
-  copy-reads.Learnt,
-  resolve-args-reads.Asked,
-  resolve-args-reads.Learnt,
-  inside-reads.Asked,
-  inside-reads.Learnt,
-  row-below t,
-  row.Post,
-) (stmt-at t) stmt.Post
+stmt-cast-row : (t : ℕ) → stmt-lts.Need-cast-row (K-stmt t) (stmt-at t) stmt.Post
 stmt-cast-row t c = omega (arith, head-range (c .before .before .before .before .before .before .before .before .before .before .before .pre .1 .some .stands))
 
--- src/lib.rt:161:9
-stmt-add-row-3 : (t : ℕ) → stmt-lts.Need-add-row-3 (
-  copy-reads.Asked,
-  copy-reads.Learnt,
-  resolve-args-reads.Asked,
-  resolve-args-reads.Learnt,
-  inside-reads.Asked,
-  inside-reads.Learnt,
-  row-below t,
-  row.Post,
-) (stmt-at t) stmt.Post
+stmt-add-row-3 : (t : ℕ) → stmt-lts.Need-add-row-3 (K-stmt t) (stmt-at t) stmt.Post
 stmt-add-row-3 t c = omega (arith, head-range (c .before .before .before .before .before .before .before .before .before .before .before .pre .1 .some .stands))
 
--- src/lib.rt:153:5
-stmt-row-requires : (t : ℕ) → stmt-lts.Need-row-requires (
-  copy-reads.Asked,
-  copy-reads.Learnt,
-  resolve-args-reads.Asked,
-  resolve-args-reads.Learnt,
-  inside-reads.Asked,
-  inside-reads.Learnt,
-  row-below t,
-  row.Post,
-) (stmt-at t) stmt.Post
+stmt-row-requires : (t : ℕ) → stmt-lts.Need-row-requires (K-stmt t) (stmt-at t) stmt.Post
 stmt-row-requires t c κs = (omega (arith, c .before .before .before .before .before .before .before .before .before .before .before .pre .0, head-range (c .before .before .before .before .before .before .before .before .before .before .before .pre .1 .some .stands), small-row (kindOf (getD (c .before .before .before .before .before .before .before .before .before .before .before .args .words .now) (c .before .before .before .before .before .before .before .before .before .before .before .args .at) 0) - 64 + 39)), ready-fields (c .before .before .before .before .before .before .before .before .before .before .before .pre .1) (c .before .inside .ensures) (c .before .before .before .before .copy2 .kept .1 .0))
 
--- src/lib.rt:132:1
-stmt-same-length-2 : (t : ℕ) → stmt-lts.Need-same-length-2 (
-  copy-reads.Asked,
-  copy-reads.Learnt,
-  resolve-args-reads.Asked,
-  resolve-args-reads.Learnt,
-  inside-reads.Asked,
-  inside-reads.Learnt,
-  row-below t,
-  row.Post,
-) (stmt-at t) stmt.Post
+stmt-same-length-2 : (t : ℕ) → stmt-lts.Need-same-length-2 (K-stmt t) (stmt-at t) stmt.Post
 stmt-same-length-2 t c = c .before .before .row .kept .1 .1 .1 .1 .0 ∙ c .before .before .before .before .before .before .before .copy2 .kept .1 .0
 
--- src/lib.rt:132:1
-stmt-returns-2 : (t : ℕ) → stmt-lts.Need-returns-2 (
-  copy-reads.Asked,
-  copy-reads.Learnt,
-  resolve-args-reads.Asked,
-  resolve-args-reads.Learnt,
-  inside-reads.Asked,
-  inside-reads.Learnt,
-  row-below t,
-  row.Post,
-) (stmt-at t) stmt.Post
+stmt-returns-2 : (t : ℕ) → stmt-lts.Need-returns-2 (K-stmt t) (stmt-at t) stmt.Post
 stmt-returns-2 t c = fields-done (c .before .before .before .before .before .before .before .before .before .if1 .left) (head-range (c .before .before .before .before .before .before .before .before .before .before .before .before .before .before .pre .1 .some .stands) .2) (c .before .before .before .before .inside .ensures) (c .before .before .before .before .before .before .before .copy2 .ensures) (c .before .before .row .ensures)
 
 pub +each+field+row+stmt-spec : {M : Type 1} → statement M
@@ -761,18 +309,7 @@ pub +each+field+row+stmt-spec : {M : Type 1} → statement M
     (each-loop-again t)
     (each-same-length t)
     (each-returns t))
-    (λ t. field-lts.spec (
-      resolve-expr-reads.Asked,
-      resolve-expr-reads.Learnt,
-      stmt-below t,
-      stmt.Post,
-      plan-for-reads.Asked,
-      plan-for-reads.Learnt,
-      copy-reads.Asked,
-      copy-reads.Learnt,
-      each-below t,
-      each.Post,
-    )
+    (λ t. field-lts.spec (K-field t)
     (field-at t)
     field.Post
     (field-resolve-expr-requires t)
@@ -789,7 +326,7 @@ pub +each+field+row+stmt-spec : {M : Type 1} → statement M
     (field-same-length-3 t)
     (field-returns-3 t))
     (λ t. row-lts.spec
-    (sort-reads.Asked, sort-reads.Learnt, field-below t, field.Post)
+    (K-row t)
     (row-at t)
     row.Post
     row-Inv-loop
@@ -804,16 +341,7 @@ pub +each+field+row+stmt-spec : {M : Type 1} → statement M
     (row-loop-again t)
     (row-same-length-2 t)
     (row-returns-2 t))
-    λ t. stmt-lts.spec (
-      copy-reads.Asked,
-      copy-reads.Learnt,
-      resolve-args-reads.Asked,
-      resolve-args-reads.Learnt,
-      inside-reads.Asked,
-      inside-reads.Learnt,
-      row-below t,
-      row.Post,
-    )
+    λ t. stmt-lts.spec (K-stmt t)
     (stmt-at t)
     stmt.Post
     (stmt-mul-k t)

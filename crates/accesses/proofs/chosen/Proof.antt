@@ -1,32 +1,25 @@
+-- `chosen`: the head's kind tells which row follows it. Assumes nothing.
 use native.Mathlib.Omega.{arith}
 use Rattle.accesses.proofs.Fields.{choice-inside, plan-choice}
 use borrow.Author.Needs.{needs}
 use Rattle.accesses.proofs.chosen.Statement.{statement}
 use Rattle.accesses.proofs.chosen.Tie as tie
-use Rattle.accesses.proofs.chosen.Reads as reads
-use Rattle.accesses.proofs.chosen.Lts as lts
 
--- src/lib.rt:24:13
 mul-k : tie.Need-mul-k
 mul-k c = search needs
 
--- src/lib.rt:24:13
 shared-slice-read-k : tie.Need-shared-slice-read-k
 shared-slice-read-k c = choice-inside (c .before .args .words .now) (c .before .args .at) (c .before .args .first) (c .before .args .count) (c .before .args .r) (c .before .pre .0) .0
 
--- src/lib.rt:27:19
 sub-t9 : tie.Need-sub-t9
 sub-t9 c = choice-inside (c .before .args .words .now) (c .before .args .at) (c .before .args .first) (c .before .args .count) (c .before .args .r) (c .before .pre .0) .1
 
--- src/lib.rt:27:18
 cast-t7 : tie.Need-cast-t7
 cast-t7 c = omega (arith, c .shared-slice-known .given (c .before .args .at))
 
--- src/lib.rt:27:14
 add-t10 : tie.Need-add-t10
 add-t10 c = omega (arith, c .shared-slice-known .given (c .before .args .at), c .before .pre .1)
 
--- src/lib.rt:20:1
 returns : tie.Need-returns
 returns c = plan-choice (c .before .args .words .now) (c .before .args .at) (c .before .args .first) (c .before .args .count) (c .before .args .r) (c .before .pre .1)
 

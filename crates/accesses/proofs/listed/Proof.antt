@@ -1,19 +1,15 @@
+-- `listed`: the head's payload tells how many rows follow. Assumes nothing.
 use Rattle.accesses.proofs.Fields.{many-inside, plan-many}
 use borrow.Author.Needs.{needs}
 use Rattle.accesses.proofs.listed.Statement.{statement}
 use Rattle.accesses.proofs.listed.Tie as tie
-use Rattle.accesses.proofs.listed.Reads as reads
-use Rattle.accesses.proofs.listed.Lts as lts
 
--- src/lib.rt:61:16
 mul-t4 : tie.Need-mul-t4
 mul-t4 c = search needs
 
--- src/lib.rt:61:16
 shared-slice-read-t6 : tie.Need-shared-slice-read-t6
 shared-slice-read-t6 c = many-inside (c .before .args .words .now) (c .before .args .at) (c .before .args .r) (c .before .pre)
 
--- src/lib.rt:54:1
 returns : tie.Need-returns
 returns c = plan-many (c .before .args .words .now) (c .before .args .at) (c .before .args .r)
 

@@ -1,28 +1,22 @@
+-- `optional`: the word 0, or a row, which never begins with it. Assumes nothing.
 use Rattle.tree.proofs.Steps.{zero-end, zero-not}
 use Rattle.accesses.proofs.Fields.{clear-opt, plan-absent, plan-present}
 use borrow.Author.Needs.{needs}
 use Rattle.accesses.proofs.optional.Statement.{statement}
 use Rattle.accesses.proofs.optional.Tie as tie
-use Rattle.accesses.proofs.optional.Reads as reads
-use Rattle.accesses.proofs.optional.Lts as lts
 
--- src/lib.rt:38:12
 mul-if2 : tie.Need-mul-if2
 mul-if2 c = search needs
 
--- src/lib.rt:38:12
 shared-slice-read-if2 : tie.Need-shared-slice-read-if2
 shared-slice-read-if2 c = search needs
 
--- src/lib.rt:39:13
 returns : tie.Need-returns
 returns c = plan-absent (c .before .before .before .args .words .now) (c .before .before .before .args .at) (c .before .before .before .args .r) (clear-opt (c .before .before .before .args .r) (c .before .before .before .pre .0) (c .before .before .before .pre .1)) (c .before .before .if1 .taken) (c .if2 .taken)
 
--- src/lib.rt:33:1
 returns-2 : tie.Need-returns-2
 returns-2 c = plan-present (c .before .before .before .args .words .now) (c .before .before .before .args .at) (c .before .before .before .args .r) (zero-not (c .before .before .before .args .words .now) (c .before .before .before .args .at) (c .before .before .if1 .taken) (c .if2 .left))
 
--- src/lib.rt:33:1
 returns-3 : tie.Need-returns-3
 returns-3 c = plan-present (c .before .args .words .now) (c .before .args .at) (c .before .args .r) (zero-end (c .before .args .words .now) (c .before .args .at) (c .if1 .left))
 

@@ -1,3 +1,4 @@
+-- `plan_for`, arm by arm: what a sort's number means, and the plan of such a sort. Assumes nothing.
 use Prim.Native.Nat.{_-_}
 use native.Mathlib.Omega.{arith}
 use mathlib.Core.Path.{refl}
@@ -7,85 +8,61 @@ use Rattle.accesses.proofs.Fields.{is-type, as-sort, of-sort, relisted,
 use borrow.Author.Needs.{needs}
 use Rattle.accesses.proofs.plan_for.Statement.{statement}
 use Rattle.accesses.proofs.plan_for.Tie as tie
-use Rattle.accesses.proofs.plan_for.Reads as reads
-use Rattle.accesses.proofs.plan_for.Lts as lts
-use Rattle.accesses.proofs.chosen.Reads as chosen-reads
-use Rattle.accesses.proofs.listed.Reads as listed-reads
-use Rattle.accesses.proofs.optional.Reads as optional-reads
 
--- src/lib.rt:71:15
 chosen-requires : tie.Need-chosen-requires
 chosen-requires c κs = (of-sort (c .before .before .args .sort) (is-11 (c .match .keys1)) (c .before .before .pre .0), omega arith)
 
--- src/lib.rt:72:15
 chosen-requires-2 : tie.Need-chosen-requires-2
 chosen-requires-2 c κs = (of-sort (c .before .before .args .sort) (is-type (c .match .keys2)) (c .before .before .pre .0), omega arith)
 
--- src/lib.rt:73:15
 chosen-requires-3 : tie.Need-chosen-requires-3
 chosen-requires-3 c κs = (of-sort (c .before .before .args .sort) (is-13 (c .match .keys3)) (c .before .before .pre .0), omega arith)
 
--- src/lib.rt:74:15
 chosen-requires-4 : tie.Need-chosen-requires-4
 chosen-requires-4 c κs = (of-sort (c .before .before .args .sort) (is-14 (c .match .keys4)) (c .before .before .pre .0), omega arith)
 
--- src/lib.rt:75:15
 chosen-requires-5 : tie.Need-chosen-requires-5
 chosen-requires-5 c κs = (of-sort (c .before .before .args .sort) (is-15 (c .match .keys5)) (c .before .before .pre .0), omega arith)
 
--- src/lib.rt:76:40
 sub-optional : tie.Need-sub-optional
 sub-optional c = past 15 _ (past 14 _ (past 13 _ (past 12 _ (past 11 _ (c .before .if1 .left) (c .before .before .match .rest .0 .0 .0 .0 .1)) (c .before .before .match .rest .0 .0 .0 .1)) (c .before .before .match .rest .0 .0 .1)) (c .before .before .match .rest .0 .1)) (c .before .before .match .rest .1)
 
--- src/lib.rt:76:20
 optional-requires : tie.Need-optional-requires
 optional-requires c κs = (relisted (past 15 _ (past 14 _ (past 13 _ (past 12 _ (past 11 _ (c .before .if1 .left) (c .before .before .match .rest .0 .0 .0 .0 .1)) (c .before .before .match .rest .0 .0 .0 .1)) (c .before .before .match .rest .0 .0 .1)) (c .before .before .match .rest .0 .1)) (c .before .before .match .rest .1)) refl (c .before .before .before .before .pre .1), omega (arith, c .if2 .taken))
 
--- src/lib.rt:77:39
 sub-listed : tie.Need-sub-listed
 sub-listed c = search needs
 
--- src/lib.rt:77:21
 listed-requires : tie.Need-listed-requires
 listed-requires c κs = of-sort (c .before .before .before .before .before .args .sort) (sort-many (c .before .before .before .before .before .args .sort) (c .before .if2 .left) (c .if3 .taken)) (c .before .before .before .before .before .pre .0)
 
--- src/lib.rt:80:18
 sub-t11 : tie.Need-sub-t11
 sub-t11 c = search needs
 
--- src/lib.rt:66:1
 returns : tie.Need-returns
 returns c = as-sort (c .before .before .before .args .sort) (is-11 (c .before .match .keys1)) (c .chosen .ensures)
 
--- src/lib.rt:66:1
 returns-2 : tie.Need-returns-2
 returns-2 c = as-sort (c .before .before .before .args .sort) (is-type (c .before .match .keys2)) (c .chosen2 .ensures)
 
--- src/lib.rt:66:1
 returns-3 : tie.Need-returns-3
 returns-3 c = as-sort (c .before .before .before .args .sort) (is-13 (c .before .match .keys3)) (c .chosen3 .ensures)
 
--- src/lib.rt:66:1
 returns-4 : tie.Need-returns-4
 returns-4 c = as-sort (c .before .before .before .args .sort) (is-14 (c .before .match .keys4)) (c .chosen4 .ensures)
 
--- src/lib.rt:66:1
 returns-5 : tie.Need-returns-5
 returns-5 c = as-sort (c .before .before .before .args .sort) (is-15 (c .before .match .keys5)) (c .chosen5 .ensures)
 
--- src/lib.rt:66:1
 returns-6 : tie.Need-returns-6
 returns-6 c = plan-plain (c .before .before .before .args .words .now) (c .before .before .before .args .at) (c .before .before .before .args .sort) (down 9 (down 10 (c .if1 .taken) (c .before .before .before .pre .3)) (c .before .before .before .pre .2))
 
--- src/lib.rt:66:1
 returns-7 : tie.Need-returns-7
 returns-7 c = as-sort (c .before .before .before .before .before .args .sort) (sort-opt (c .before .before .before .before .before .args .sort) (past 15 _ (past 14 _ (past 13 _ (past 12 _ (past 11 _ (c .before .before .if1 .left) (c .before .before .before .match .rest .0 .0 .0 .0 .1)) (c .before .before .before .match .rest .0 .0 .0 .1)) (c .before .before .before .match .rest .0 .0 .1)) (c .before .before .before .match .rest .0 .1)) (c .before .before .before .match .rest .1)) (c .before .if2 .taken)) (c .optional .ensures)
 
--- src/lib.rt:66:1
 returns-8 : tie.Need-returns-8
 returns-8 c = as-sort (c .before .before .before .before .before .before .args .sort) (sort-many (c .before .before .before .before .before .before .args .sort) (c .before .before .if2 .left) (c .before .if3 .taken)) (c .listed .ensures)
 
--- src/lib.rt:66:1
 returns-9 : tie.Need-returns-9
 returns-9 c = as-sort (c .before .before .before .before .before .args .sort) (sort-group (c .before .before .before .before .before .args .sort) (c .if3 .left)) (plan-group (c .before .before .before .before .before .args .words .now) (c .before .before .before .before .before .args .at) ((c .before .before .before .before .before .args .sort) - 112))
 

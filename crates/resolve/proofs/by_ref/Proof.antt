@@ -1,32 +1,23 @@
+-- `by_ref` is `places`: the procedure's own row decides first, then the parameter's row. Assumes nothing.
 use mathlib.Core.Path.{_≡_, sym, ap, _∙_}
 use Rattle.resolve.specs.FromRows.{byRef}
 use Rattle.resolve.proofs.Asked.{known, unknown}
 use borrow.Author.Needs.{needs}
 use Rattle.resolve.proofs.by_ref.Statement.{statement}
 use Rattle.resolve.proofs.by_ref.Tie as tie
-use Rattle.resolve.proofs.by_ref.Reads as reads
-use Rattle.resolve.proofs.by_ref.Lts as lts
-use Rattle.lookup.proofs.find_entry.Reads as find-entry-reads
-use Rattle.lookup.proofs.has.Reads as has-reads
-use Rattle.resolve.proofs.takes.Reads as takes-reads
 
--- src/lib.rt:32:8
 has-requires : tie.Need-has-requires
 has-requires c κs = search needs
 
--- src/lib.rt:33:32
 find-entry-requires : tie.Need-find-entry-requires
 find-entry-requires c κs = search needs
 
--- src/lib.rt:33:9
 takes-requires : tie.Need-takes-requires
 takes-requires c κs = (c .before .before .before .before .pre .0, c .find-entry .ensures .0)
 
--- src/lib.rt:33:9
 returns : tie.Need-returns
 returns c = λ rows H. known rows (c .before .before .before .before .before .args .f) (c .before .before .before .before .before .args .i) _ (sym (c .before .before .before .has .ensures rows H) ∙ c .before .before .if1 .taken) (c .takes .ensures rows H ∙ ap byRef (c .before .find-entry .ensures .1 rows H))
 
--- src/lib.rt:28:1
 returns-2 : tie.Need-returns-2
 returns-2 c = λ rows H. unknown rows (c .before .before .before .args .f) (c .before .before .before .args .i) (sym (c .before .has .ensures rows H) ∙ c .if1 .left)
 

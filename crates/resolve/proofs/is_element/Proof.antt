@@ -1,3 +1,4 @@
+-- `is_element` is `element`: a procedure's row decides first, then the array lookup. Assumes nothing.
 use mathlib.Core.Path.{_≡_, sym, ap, _∙_}
 use mathlib.Core.Bool.{true, false}
 use Rattle.lookup.specs.Answers.{array}
@@ -7,36 +8,25 @@ use Rattle.resolve.proofs.Asked.{a-procedure, no-procedure}
 use borrow.Author.Needs.{needs}
 use Rattle.resolve.proofs.is_element.Statement.{statement}
 use Rattle.resolve.proofs.is_element.Tie as tie
-use Rattle.resolve.proofs.is_element.Reads as reads
-use Rattle.resolve.proofs.is_element.Lts as lts
-use Rattle.lookup.proofs.has.Reads as has-reads
-use Rattle.lookup.proofs.lookup_array.Reads as lookup-array-reads
 
--- src/lib.rt:57:8
 has-requires : tie.Need-has-requires
 has-requires c κs = search needs
 
--- src/lib.rt:58:9
 returns : tie.Need-returns
 returns c = λ rows H. a-procedure rows (c .before .before .before .args .f) (c .before .before .before .args .scope) (sym (c .before .has .ensures rows H) ∙ c .if1 .taken)
 
--- src/lib.rt:60:11
 lookup-array-requires : tie.Need-lookup-array-requires
 lookup-array-requires c κs = search needs
 
--- src/lib.rt:65:14
 enum-told : tie.Need-enum-told
 enum-told c = search needs
 
--- src/lib.rt:66:27
 enum-told-2 : tie.Need-enum-told-2
 enum-told-2 c = search needs
 
--- src/lib.rt:53:1
 returns-2 : tie.Need-returns-2
 returns-2 c = λ rows H. no-procedure rows (c .before .before .before .before .before .before .args .f) (c .before .before .before .before .before .before .args .scope) true (sym (c .before .before .before .before .has .ensures rows H) ∙ c .before .before .before .if1 .left) (ap (λ (a : Array). isSome (array a)) (sym (c .enum-told .given .1)) ∙ ap isSome (c .before .before .lookup-array .ensures rows H))
 
--- src/lib.rt:53:1
 returns-3 : tie.Need-returns-3
 returns-3 c = λ rows H. no-procedure rows (c .before .before .before .before .before .before .args .f) (c .before .before .before .before .before .before .args .scope) false (sym (c .before .before .before .before .has .ensures rows H) ∙ c .before .before .before .if1 .left) (ap (λ (a : Array). isSome (array a)) (sym (c .enum-told2 .given .1)) ∙ ap isSome (c .before .before .lookup-array .ensures rows H))
 

@@ -1,3 +1,4 @@
+-- `takes` reads the marks and the type of the row that was found. Assumes nothing.
 use mathlib.Core.Path.{_≡_, sym, ap, ap₂, subst, _∙_}
 use Prim.Native.Nat.{ℕ, _<_}
 use native.Mathlib.Omega.{arith}
@@ -9,59 +10,44 @@ use Rattle.resolve.specs.FromRows.{isScalar, byRef}
 use borrow.Author.Needs.{needs}
 use Rattle.resolve.proofs.takes.Statement.{statement}
 use Rattle.resolve.proofs.takes.Tie as tie
-use Rattle.resolve.proofs.takes.Reads as reads
-use Rattle.resolve.proofs.takes.Lts as lts
-use Rattle.resolve.proofs.is_scalar.Reads as is-scalar-reads
 
 -- the row that was found is one of the table's
 in-table : (c : tie.After-found) → c .found .given .0 .0 < c .before .before .before .args .count
 in-table c = subst (λ (f : Found). Within (c .before .before .before .args .count) f) (c .found .given .1) (c .before .before .before .pre .1)
 
--- src/lib.rt:44:19
 enum-known-found : tie.Need-enum-known-found
 enum-known-found c = search needs
 
--- src/lib.rt:45:22
 mul-at : tie.Need-mul-at
 mul-at c = omega (arith, in-table (c .before))
 
--- src/lib.rt:46:25
 add-is-scalar : tie.Need-add-is-scalar
 add-is-scalar c = omega (arith, in-table (c .before))
 
--- src/lib.rt:46:23
 mul-is-scalar : tie.Need-mul-is-scalar
 mul-is-scalar c = omega (arith, in-table (c .before))
 
--- src/lib.rt:46:23
 shared-slice-read-is-scalar : tie.Need-shared-slice-read-is-scalar
 shared-slice-read-is-scalar c = omega (arith, in-table (c .before .before))
 
--- src/lib.rt:46:36
 add-is-scalar-2 : tie.Need-add-is-scalar-2
 add-is-scalar-2 c = omega (arith, in-table (c .before .before))
 
--- src/lib.rt:46:34
 mul-is-scalar-2 : tie.Need-mul-is-scalar-2
 mul-is-scalar-2 c = omega (arith, in-table (c .before .before))
 
--- src/lib.rt:46:34
 shared-slice-read-is-scalar-2 : tie.Need-shared-slice-read-is-scalar-2
 shared-slice-read-is-scalar-2 c = omega (arith, in-table (c .before .before .before))
 
--- src/lib.rt:46:13
 is-scalar-requires : tie.Need-is-scalar-requires
 is-scalar-requires c κs = search needs
 
--- src/lib.rt:48:27
 enum-told : tie.Need-enum-told
 enum-told c = search needs
 
--- src/lib.rt:39:1
 returns : tie.Need-returns
 returns c = λ rows H. let j : ℕ = c .before .before .before .before .found .given .0 .0 in c .is-scalar .ensures ∙ ap₂ isScalar (word-at (H .filled) j 3 (in-table (c .before .before .before .before)) (omega arith)) (word-at (H .filled) j 4 (in-table (c .before .before .before .before)) (omega arith)) ∙ ap (λ (f : Found). byRef (rowAt rows f)) (sym (c .before .before .before .before .found .given .1))
 
--- src/lib.rt:39:1
 returns-2 : tie.Need-returns-2
 returns-2 c = λ rows H. ap (λ (f : Found). byRef (rowAt rows f)) (sym (c .enum-told .given .1))
 

@@ -1,3 +1,5 @@
+-- The cycle of `resolve_args` and `resolve_expr`: each cites the laws of `Calls`. The measure is twice the words left from the reading place,
+-- and one more for a list of arguments, whose first member stands where the list does. Assumes nothing.
 use Rattle.resolver.proofs.Calls.{list-start, here, ready-next, ended, list-step, ready-plain, plain-step, args-done, ready-pair, pair-done, ready-call, call-room, call-done, beyond, front-room, ready-kids, back-room, node-done}
 use Rattle.resolver.proofs.Nodes.{moves}
 use Prim.Native.Nat.{ℕ, _+_, _-_, _*_, _<_}
@@ -53,100 +55,46 @@ resolve-expr-below t =
     (falls 3 resolve-expr-kinds.ps _<_ μ-resolve-expr t)
     resolve-expr.Pre
 
+abbrev K-resolve-expr : ℕ → resolve-expr-lts.Claims
+K-resolve-expr t = (resolve-expr-below t, resolve-expr.Post, head-reads.Asked, head-reads.Learnt, begin-reads.Asked, begin-reads.Learnt, resolve-args-below t, resolve-args.Post, shape-at-reads.Asked, shape-at-reads.Learnt, copy-reads.Asked, copy-reads.Learnt)
+
+abbrev K-resolve-args : ℕ → resolve-args-lts.Claims
+K-resolve-args t = (pair-reads.Asked, pair-reads.Learnt, resolve-expr-below t, resolve-expr.Post)
+
 abbrev resolve-args-Inv-loop : resolve-args-lts.InvT-loop
 resolve-args-Inv-loop words rows count scope out₀ at to f n a₀ t₀ i₀ out a t i = (length out ≡ length out₀) × Walked (λ T. places T f) n words rows out₀ count scope at to a t i out
 
 abbrev resolve-args-μ-loop : resolve-args-lts.MeasureT-loop
 resolve-args-μ-loop words rows count scope out₀ at to f n a₀ t₀ i₀ out a t i = n - i
 
--- src/lib.rt:206:5
-resolve-args-loop-holds : (t : ℕ) → resolve-args-lts.Need-loop-holds (
-  pair-reads.Asked,
-  pair-reads.Learnt,
-  resolve-expr-below t,
-  resolve-expr.Post,
-) (resolve-args-at t) resolve-args.Post resolve-args-Inv-loop resolve-args-μ-loop
+resolve-args-loop-holds : (t : ℕ) → resolve-args-lts.Need-loop-holds (K-resolve-args t) (resolve-args-at t) resolve-args.Post resolve-args-Inv-loop resolve-args-μ-loop
 resolve-args-loop-holds t c = (refl, list-start (λ T. places T (c .before .before .before .args .f)) (c .before .before .before .args .n) (c .before .before .before .args .words .now) (c .before .before .before .args .rows .now) (c .before .before .before .args .out .now) (c .before .before .before .args .count) (c .before .before .before .args .scope) (c .before .before .before .args .at) (c .before .before .before .args .to))
 
--- src/lib.rt:207:13
-resolve-args-pair-requires : (t : ℕ) → resolve-args-lts.Need-pair-requires (
-  pair-reads.Asked,
-  pair-reads.Learnt,
-  resolve-expr-below t,
-  resolve-expr.Post,
-) (resolve-args-at t) resolve-args.Post resolve-args-Inv-loop resolve-args-μ-loop
+resolve-args-pair-requires : (t : ℕ) → resolve-args-lts.Need-pair-requires (K-resolve-args t) (resolve-args-at t) resolve-args.Post resolve-args-Inv-loop resolve-args-μ-loop
 resolve-args-pair-requires t c κs = (here (c .before .before .before .before .before .before .pre .1 .0) (c .before .before .loop .inv .1) (c .before .loop-test .taken) .some, omega (arith, here (c .before .before .before .before .before .before .pre .1 .0) (c .before .before .loop .inv .1) (c .before .loop-test .taken) .room, c .before .before .loop .inv .0), c .before .before .before .before .before .before .pre .1 .0 .room .held, c .before .before .before .before .before .before .pre .1 .1)
 
--- src/lib.rt:208:62
-resolve-args-add-resolve-expr : (t : ℕ) → resolve-args-lts.Need-add-resolve-expr (
-  pair-reads.Asked,
-  pair-reads.Learnt,
-  resolve-expr-below t,
-  resolve-expr.Post,
-) (resolve-args-at t) resolve-args.Post resolve-args-Inv-loop resolve-args-μ-loop
+resolve-args-add-resolve-expr : (t : ℕ) → resolve-args-lts.Need-add-resolve-expr (K-resolve-args t) (resolve-args-at t) resolve-args.Post resolve-args-Inv-loop resolve-args-μ-loop
 resolve-args-add-resolve-expr t c = omega (arith, moves (ready-next (c .before .before .before .before .before .before .before .before .before .before .pre .1 .0) (c .before .before .before .before .before .before .loop .inv .1) (c .before .before .before .before .before .loop-test .taken) (c .before .before .before .pair .ensures) refl .some .stands))
 
--- src/lib.rt:208:69
-resolve-args-add-resolve-expr-2 : (t : ℕ) → resolve-args-lts.Need-add-resolve-expr-2 (
-  pair-reads.Asked,
-  pair-reads.Learnt,
-  resolve-expr-below t,
-  resolve-expr.Post,
-) (resolve-args-at t) resolve-args.Post resolve-args-Inv-loop resolve-args-μ-loop
+resolve-args-add-resolve-expr-2 : (t : ℕ) → resolve-args-lts.Need-add-resolve-expr-2 (K-resolve-args t) (resolve-args-at t) resolve-args.Post resolve-args-Inv-loop resolve-args-μ-loop
 resolve-args-add-resolve-expr-2 t c = omega (arith, moves (ready-next (c .before .before .before .before .before .before .before .before .before .before .pre .1 .0) (c .before .before .before .before .before .before .loop .inv .1) (c .before .before .before .before .before .loop-test .taken) (c .before .before .before .pair .ensures) refl .some .stands), here (c .before .before .before .before .before .before .before .before .before .before .pre .1 .0) (c .before .before .before .before .before .before .loop .inv .1) (c .before .before .before .before .before .loop-test .taken) .behind)
 
--- src/lib.rt:208:13
-resolve-args-resolve-expr-requires : (t : ℕ) → resolve-args-lts.Need-resolve-expr-requires (
-  pair-reads.Asked,
-  pair-reads.Learnt,
-  resolve-expr-below t,
-  resolve-expr.Post,
-) (resolve-args-at t) resolve-args.Post resolve-args-Inv-loop resolve-args-μ-loop
+resolve-args-resolve-expr-requires : (t : ℕ) → resolve-args-lts.Need-resolve-expr-requires (K-resolve-args t) (resolve-args-at t) resolve-args.Post resolve-args-Inv-loop resolve-args-μ-loop
 resolve-args-resolve-expr-requires t c κs = (omega (arith, c .before .before .before .before .before .before .before .before .before .before .pre .0, here (c .before .before .before .before .before .before .before .before .before .before .pre .1 .0) (c .before .before .before .before .before .before .loop .inv .1) (c .before .before .before .before .before .loop-test .taken) .from, here (c .before .before .before .before .before .before .before .before .before .before .pre .1 .0) (c .before .before .before .before .before .before .loop .inv .1) (c .before .before .before .before .before .loop-test .taken) .inside), ready-next (c .before .before .before .before .before .before .before .before .before .before .pre .1 .0) (c .before .before .before .before .before .before .loop .inv .1) (c .before .before .before .before .before .loop-test .taken) (c .before .before .before .pair .ensures) (c .before .before .before .pair .kept .1 .1 .1 .0 ∙ c .before .before .before .before .before .before .loop .inv .0))
 
--- src/lib.rt:211:9
-resolve-args-add-i : (t : ℕ) → resolve-args-lts.Need-add-i (
-  pair-reads.Asked,
-  pair-reads.Learnt,
-  resolve-expr-below t,
-  resolve-expr.Post,
-) (resolve-args-at t) resolve-args.Post resolve-args-Inv-loop resolve-args-μ-loop
+resolve-args-add-i : (t : ℕ) → resolve-args-lts.Need-add-i (K-resolve-args t) (resolve-args-at t) resolve-args.Post resolve-args-Inv-loop resolve-args-μ-loop
 resolve-args-add-i t c = omega (arith, c .before .before .before .before .before .before .before .before .loop-test .taken)
 
--- src/lib.rt:206:5
-resolve-args-loop-less : (t : ℕ) → resolve-args-lts.Need-loop-less (
-  pair-reads.Asked,
-  pair-reads.Learnt,
-  resolve-expr-below t,
-  resolve-expr.Post,
-) (resolve-args-at t) resolve-args.Post resolve-args-Inv-loop resolve-args-μ-loop
+resolve-args-loop-less : (t : ℕ) → resolve-args-lts.Need-loop-less (K-resolve-args t) (resolve-args-at t) resolve-args.Post resolve-args-Inv-loop resolve-args-μ-loop
 resolve-args-loop-less t c = omega (arith, c .before .before .before .before .before .before .before .before .loop-test .taken)
 
--- src/lib.rt:206:5
-resolve-args-loop-again : (t : ℕ) → resolve-args-lts.Need-loop-again (
-  pair-reads.Asked,
-  pair-reads.Learnt,
-  resolve-expr-below t,
-  resolve-expr.Post,
-) (resolve-args-at t) resolve-args.Post resolve-args-Inv-loop resolve-args-μ-loop
+resolve-args-loop-again : (t : ℕ) → resolve-args-lts.Need-loop-again (K-resolve-args t) (resolve-args-at t) resolve-args.Post resolve-args-Inv-loop resolve-args-μ-loop
 resolve-args-loop-again t c = (c .before .before .resolve-expr .kept .1 .1 .1 .1 .0 ∙ c .before .before .before .before .before .before .pair .kept .1 .1 .1 .0 ∙ c .before .before .before .before .before .before .before .before .before .loop .inv .0, list-step (c .before .before .before .before .before .before .before .before .before .loop .inv .1) (c .before .before .before .before .before .before .before .before .loop-test .taken) (c .before .before .before .before .before .before .pair .ensures) (c .before .before .resolve-expr .ensures))
 
--- src/lib.rt:189:1
-resolve-args-same-length : (t : ℕ) → resolve-args-lts.Need-same-length (
-  pair-reads.Asked,
-  pair-reads.Learnt,
-  resolve-expr-below t,
-  resolve-expr.Post,
-) (resolve-args-at t) resolve-args.Post resolve-args-Inv-loop resolve-args-μ-loop
+resolve-args-same-length : (t : ℕ) → resolve-args-lts.Need-same-length (K-resolve-args t) (resolve-args-at t) resolve-args.Post resolve-args-Inv-loop resolve-args-μ-loop
 resolve-args-same-length t c = c .before .loop .inv .0
 
--- src/lib.rt:189:1
-resolve-args-returns : (t : ℕ) → resolve-args-lts.Need-returns (
-  pair-reads.Asked,
-  pair-reads.Learnt,
-  resolve-expr-below t,
-  resolve-expr.Post,
-) (resolve-args-at t) resolve-args.Post resolve-args-Inv-loop resolve-args-μ-loop
+resolve-args-returns : (t : ℕ) → resolve-args-lts.Need-returns (K-resolve-args t) (resolve-args-at t) resolve-args.Post resolve-args-Inv-loop resolve-args-μ-loop
 resolve-args-returns t c = args-done (c .before .loop .inv .1) (c .loop-test .left)
 
 abbrev resolve-expr-Inv-loop : resolve-expr-lts.InvT-loop
@@ -155,574 +103,107 @@ resolve-expr-Inv-loop words rows count scope out₀ at to kind h n z a₀ t₀ i
 abbrev resolve-expr-μ-loop : resolve-expr-lts.MeasureT-loop
 resolve-expr-μ-loop words rows count scope out₀ at to kind h n z a₀ t₀ i₀ out a t i = n - i
 
--- src/lib.rt:156:16
-resolve-expr-mul-kind : (t : ℕ) → resolve-expr-lts.Need-mul-kind (
-  resolve-expr-below t,
-  resolve-expr.Post,
-  head-reads.Asked,
-  head-reads.Learnt,
-  begin-reads.Asked,
-  begin-reads.Learnt,
-  resolve-args-below t,
-  resolve-args.Post,
-  shape-at-reads.Asked,
-  shape-at-reads.Learnt,
-  copy-reads.Asked,
-  copy-reads.Learnt,
-) (resolve-expr-at t) resolve-expr.Post resolve-expr-Inv-loop resolve-expr-μ-loop
+resolve-expr-mul-kind : (t : ℕ) → resolve-expr-lts.Need-mul-kind (K-resolve-expr t) (resolve-expr-at t) resolve-expr.Post resolve-expr-Inv-loop resolve-expr-μ-loop
 resolve-expr-mul-kind t c = omega (arith, moves (c .before .before .before .pre .1 .some .stands))
 
--- src/lib.rt:156:16
-resolve-expr-shared-slice-read-kind : (t : ℕ) → resolve-expr-lts.Need-shared-slice-read-kind (
-  resolve-expr-below t,
-  resolve-expr.Post,
-  head-reads.Asked,
-  head-reads.Learnt,
-  begin-reads.Asked,
-  begin-reads.Learnt,
-  resolve-args-below t,
-  resolve-args.Post,
-  shape-at-reads.Asked,
-  shape-at-reads.Learnt,
-  copy-reads.Asked,
-  copy-reads.Learnt,
-) (resolve-expr-at t) resolve-expr.Post resolve-expr-Inv-loop resolve-expr-μ-loop
+resolve-expr-shared-slice-read-kind : (t : ℕ) → resolve-expr-lts.Need-shared-slice-read-kind (K-resolve-expr t) (resolve-expr-at t) resolve-expr.Post resolve-expr-Inv-loop resolve-expr-μ-loop
 resolve-expr-shared-slice-read-kind t c = omega (arith, moves (c .before .before .before .before .pre .1 .some .stands))
 
--- src/lib.rt:159:61
-resolve-expr-add-resolve-expr : (t : ℕ) → resolve-expr-lts.Need-add-resolve-expr (
-  resolve-expr-below t,
-  resolve-expr.Post,
-  head-reads.Asked,
-  head-reads.Learnt,
-  begin-reads.Asked,
-  begin-reads.Learnt,
-  resolve-args-below t,
-  resolve-args.Post,
-  shape-at-reads.Asked,
-  shape-at-reads.Learnt,
-  copy-reads.Asked,
-  copy-reads.Learnt,
-) (resolve-expr-at t) resolve-expr.Post resolve-expr-Inv-loop resolve-expr-μ-loop
+resolve-expr-add-resolve-expr : (t : ℕ) → resolve-expr-lts.Need-add-resolve-expr (K-resolve-expr t) (resolve-expr-at t) resolve-expr.Post resolve-expr-Inv-loop resolve-expr-μ-loop
 resolve-expr-add-resolve-expr t c = omega (arith, moves (c .before .before .before .before .before .before .pre .1 .some .stands))
 
--- src/lib.rt:159:9
-resolve-expr-resolve-expr-requires : (t : ℕ) → resolve-expr-lts.Need-resolve-expr-requires (
-  resolve-expr-below t,
-  resolve-expr.Post,
-  head-reads.Asked,
-  head-reads.Learnt,
-  begin-reads.Asked,
-  begin-reads.Learnt,
-  resolve-args-below t,
-  resolve-args.Post,
-  shape-at-reads.Asked,
-  shape-at-reads.Learnt,
-  copy-reads.Asked,
-  copy-reads.Learnt,
-) (resolve-expr-at t) resolve-expr.Post resolve-expr-Inv-loop resolve-expr-μ-loop
+resolve-expr-resolve-expr-requires : (t : ℕ) → resolve-expr-lts.Need-resolve-expr-requires (K-resolve-expr t) (resolve-expr-at t) resolve-expr.Post resolve-expr-Inv-loop resolve-expr-μ-loop
 resolve-expr-resolve-expr-requires t c κs = (omega (arith, c .before .before .before .before .before .before .pre .0, moves (c .before .before .before .before .before .before .pre .1 .some .stands)), ready-pair (c .before .before .before .before .before .before .pre .1) (c .before .if1 .taken) refl)
 
--- src/lib.rt:159:9
-resolve-expr-same-length : (t : ℕ) → resolve-expr-lts.Need-same-length (
-  resolve-expr-below t,
-  resolve-expr.Post,
-  head-reads.Asked,
-  head-reads.Learnt,
-  begin-reads.Asked,
-  begin-reads.Learnt,
-  resolve-args-below t,
-  resolve-args.Post,
-  shape-at-reads.Asked,
-  shape-at-reads.Learnt,
-  copy-reads.Asked,
-  copy-reads.Learnt,
-) (resolve-expr-at t) resolve-expr.Post resolve-expr-Inv-loop resolve-expr-μ-loop
+resolve-expr-same-length : (t : ℕ) → resolve-expr-lts.Need-same-length (K-resolve-expr t) (resolve-expr-at t) resolve-expr.Post resolve-expr-Inv-loop resolve-expr-μ-loop
 resolve-expr-same-length t c = c .before .before .resolve-expr .kept .1 .1 .1 .1 .0
 
--- src/lib.rt:159:9
-resolve-expr-returns : (t : ℕ) → resolve-expr-lts.Need-returns (
-  resolve-expr-below t,
-  resolve-expr.Post,
-  head-reads.Asked,
-  head-reads.Learnt,
-  begin-reads.Asked,
-  begin-reads.Learnt,
-  resolve-args-below t,
-  resolve-args.Post,
-  shape-at-reads.Asked,
-  shape-at-reads.Learnt,
-  copy-reads.Asked,
-  copy-reads.Learnt,
-) (resolve-expr-at t) resolve-expr.Post resolve-expr-Inv-loop resolve-expr-μ-loop
+resolve-expr-returns : (t : ℕ) → resolve-expr-lts.Need-returns (K-resolve-expr t) (resolve-expr-at t) resolve-expr.Post resolve-expr-Inv-loop resolve-expr-μ-loop
 resolve-expr-returns t c = pair-done (c .before .before .before .before .if1 .taken) (c .before .before .resolve-expr .ensures)
 
--- src/lib.rt:162:23
-resolve-expr-add-f : (t : ℕ) → resolve-expr-lts.Need-add-f (
-  resolve-expr-below t,
-  resolve-expr.Post,
-  head-reads.Asked,
-  head-reads.Learnt,
-  begin-reads.Asked,
-  begin-reads.Learnt,
-  resolve-args-below t,
-  resolve-args.Post,
-  shape-at-reads.Asked,
-  shape-at-reads.Learnt,
-  copy-reads.Asked,
-  copy-reads.Learnt,
-) (resolve-expr-at t) resolve-expr.Post resolve-expr-Inv-loop resolve-expr-μ-loop
+resolve-expr-add-f : (t : ℕ) → resolve-expr-lts.Need-add-f (K-resolve-expr t) (resolve-expr-at t) resolve-expr.Post resolve-expr-Inv-loop resolve-expr-μ-loop
 resolve-expr-add-f t c = omega (arith, call-room (c .before .before .before .before .before .before .pre .1) (c .if2 .taken))
 
--- src/lib.rt:162:17
-resolve-expr-mul-f : (t : ℕ) → resolve-expr-lts.Need-mul-f (
-  resolve-expr-below t,
-  resolve-expr.Post,
-  head-reads.Asked,
-  head-reads.Learnt,
-  begin-reads.Asked,
-  begin-reads.Learnt,
-  resolve-args-below t,
-  resolve-args.Post,
-  shape-at-reads.Asked,
-  shape-at-reads.Learnt,
-  copy-reads.Asked,
-  copy-reads.Learnt,
-) (resolve-expr-at t) resolve-expr.Post resolve-expr-Inv-loop resolve-expr-μ-loop
+resolve-expr-mul-f : (t : ℕ) → resolve-expr-lts.Need-mul-f (K-resolve-expr t) (resolve-expr-at t) resolve-expr.Post resolve-expr-Inv-loop resolve-expr-μ-loop
 resolve-expr-mul-f t c = omega (arith, call-room (c .before .before .before .before .before .before .pre .1) (c .if2 .taken))
 
--- src/lib.rt:162:17
-resolve-expr-shared-slice-read-f : (t : ℕ) → resolve-expr-lts.Need-shared-slice-read-f (
-  resolve-expr-below t,
-  resolve-expr.Post,
-  head-reads.Asked,
-  head-reads.Learnt,
-  begin-reads.Asked,
-  begin-reads.Learnt,
-  resolve-args-below t,
-  resolve-args.Post,
-  shape-at-reads.Asked,
-  shape-at-reads.Learnt,
-  copy-reads.Asked,
-  copy-reads.Learnt,
-) (resolve-expr-at t) resolve-expr.Post resolve-expr-Inv-loop resolve-expr-μ-loop
+resolve-expr-shared-slice-read-f : (t : ℕ) → resolve-expr-lts.Need-shared-slice-read-f (K-resolve-expr t) (resolve-expr-at t) resolve-expr.Post resolve-expr-Inv-loop resolve-expr-μ-loop
 resolve-expr-shared-slice-read-f t c = omega (arith, call-room (c .before .before .before .before .before .before .before .pre .1) (c .before .if2 .taken))
 
--- src/lib.rt:163:23
-resolve-expr-add-n : (t : ℕ) → resolve-expr-lts.Need-add-n (
-  resolve-expr-below t,
-  resolve-expr.Post,
-  head-reads.Asked,
-  head-reads.Learnt,
-  begin-reads.Asked,
-  begin-reads.Learnt,
-  resolve-args-below t,
-  resolve-args.Post,
-  shape-at-reads.Asked,
-  shape-at-reads.Learnt,
-  copy-reads.Asked,
-  copy-reads.Learnt,
-) (resolve-expr-at t) resolve-expr.Post resolve-expr-Inv-loop resolve-expr-μ-loop
+resolve-expr-add-n : (t : ℕ) → resolve-expr-lts.Need-add-n (K-resolve-expr t) (resolve-expr-at t) resolve-expr.Post resolve-expr-Inv-loop resolve-expr-μ-loop
 resolve-expr-add-n t c = omega (arith, call-room (c .before .before .before .before .before .before .before .pre .1) (c .before .if2 .taken))
 
--- src/lib.rt:163:17
-resolve-expr-mul-n : (t : ℕ) → resolve-expr-lts.Need-mul-n (
-  resolve-expr-below t,
-  resolve-expr.Post,
-  head-reads.Asked,
-  head-reads.Learnt,
-  begin-reads.Asked,
-  begin-reads.Learnt,
-  resolve-args-below t,
-  resolve-args.Post,
-  shape-at-reads.Asked,
-  shape-at-reads.Learnt,
-  copy-reads.Asked,
-  copy-reads.Learnt,
-) (resolve-expr-at t) resolve-expr.Post resolve-expr-Inv-loop resolve-expr-μ-loop
+resolve-expr-mul-n : (t : ℕ) → resolve-expr-lts.Need-mul-n (K-resolve-expr t) (resolve-expr-at t) resolve-expr.Post resolve-expr-Inv-loop resolve-expr-μ-loop
 resolve-expr-mul-n t c = omega (arith, call-room (c .before .before .before .before .before .before .before .pre .1) (c .before .if2 .taken))
 
--- src/lib.rt:163:17
-resolve-expr-shared-slice-read-n : (t : ℕ) → resolve-expr-lts.Need-shared-slice-read-n (
-  resolve-expr-below t,
-  resolve-expr.Post,
-  head-reads.Asked,
-  head-reads.Learnt,
-  begin-reads.Asked,
-  begin-reads.Learnt,
-  resolve-args-below t,
-  resolve-args.Post,
-  shape-at-reads.Asked,
-  shape-at-reads.Learnt,
-  copy-reads.Asked,
-  copy-reads.Learnt,
-) (resolve-expr-at t) resolve-expr.Post resolve-expr-Inv-loop resolve-expr-μ-loop
+resolve-expr-shared-slice-read-n : (t : ℕ) → resolve-expr-lts.Need-shared-slice-read-n (K-resolve-expr t) (resolve-expr-at t) resolve-expr.Post resolve-expr-Inv-loop resolve-expr-μ-loop
 resolve-expr-shared-slice-read-n t c = omega (arith, call-room (c .before .before .before .before .before .before .before .before .pre .1) (c .before .before .if2 .taken))
 
--- src/lib.rt:164:35
-resolve-expr-head-requires : (t : ℕ) → resolve-expr-lts.Need-head-requires (
-  resolve-expr-below t,
-  resolve-expr.Post,
-  head-reads.Asked,
-  head-reads.Learnt,
-  begin-reads.Asked,
-  begin-reads.Learnt,
-  resolve-args-below t,
-  resolve-args.Post,
-  shape-at-reads.Asked,
-  shape-at-reads.Learnt,
-  copy-reads.Asked,
-  copy-reads.Learnt,
-) (resolve-expr-at t) resolve-expr.Post resolve-expr-Inv-loop resolve-expr-μ-loop
+resolve-expr-head-requires : (t : ℕ) → resolve-expr-lts.Need-head-requires (K-resolve-expr t) (resolve-expr-at t) resolve-expr.Post resolve-expr-Inv-loop resolve-expr-μ-loop
 resolve-expr-head-requires t c κs = (c .before .before .before .before .before .before .before .before .before .pre .1 .room .held, c .before .before .before .before .before .before .before .before .before .pre .1 .room .scoped, omega arith)
 
--- src/lib.rt:164:9
-resolve-expr-begin-requires : (t : ℕ) → resolve-expr-lts.Need-begin-requires (
-  resolve-expr-below t,
-  resolve-expr.Post,
-  head-reads.Asked,
-  head-reads.Learnt,
-  begin-reads.Asked,
-  begin-reads.Learnt,
-  resolve-args-below t,
-  resolve-args.Post,
-  shape-at-reads.Asked,
-  shape-at-reads.Learnt,
-  copy-reads.Asked,
-  copy-reads.Learnt,
-) (resolve-expr-at t) resolve-expr.Post resolve-expr-Inv-loop resolve-expr-μ-loop
+resolve-expr-begin-requires : (t : ℕ) → resolve-expr-lts.Need-begin-requires (K-resolve-expr t) (resolve-expr-at t) resolve-expr.Post resolve-expr-Inv-loop resolve-expr-μ-loop
 resolve-expr-begin-requires t c κs = call-room (c .before .before .before .before .before .before .before .before .before .before .pre .1) (c .before .before .before .before .if2 .taken)
 
--- src/lib.rt:165:61
-resolve-expr-add-resolve-args : (t : ℕ) → resolve-expr-lts.Need-add-resolve-args (
-  resolve-expr-below t,
-  resolve-expr.Post,
-  head-reads.Asked,
-  head-reads.Learnt,
-  begin-reads.Asked,
-  begin-reads.Learnt,
-  resolve-args-below t,
-  resolve-args.Post,
-  shape-at-reads.Asked,
-  shape-at-reads.Learnt,
-  copy-reads.Asked,
-  copy-reads.Learnt,
-) (resolve-expr-at t) resolve-expr.Post resolve-expr-Inv-loop resolve-expr-μ-loop
+resolve-expr-add-resolve-args : (t : ℕ) → resolve-expr-lts.Need-add-resolve-args (K-resolve-expr t) (resolve-expr-at t) resolve-expr.Post resolve-expr-Inv-loop resolve-expr-μ-loop
 resolve-expr-add-resolve-args t c = omega (arith, call-room (c .before .before .before .before .before .before .before .before .before .before .before .before .before .before .pre .1) (c .before .before .before .before .before .before .before .before .if2 .taken))
 
--- src/lib.rt:165:69
-resolve-expr-add-resolve-args-2 : (t : ℕ) → resolve-expr-lts.Need-add-resolve-args-2 (
-  resolve-expr-below t,
-  resolve-expr.Post,
-  head-reads.Asked,
-  head-reads.Learnt,
-  begin-reads.Asked,
-  begin-reads.Learnt,
-  resolve-args-below t,
-  resolve-args.Post,
-  shape-at-reads.Asked,
-  shape-at-reads.Learnt,
-  copy-reads.Asked,
-  copy-reads.Learnt,
-) (resolve-expr-at t) resolve-expr.Post resolve-expr-Inv-loop resolve-expr-μ-loop
+resolve-expr-add-resolve-args-2 : (t : ℕ) → resolve-expr-lts.Need-add-resolve-args-2 (K-resolve-expr t) (resolve-expr-at t) resolve-expr.Post resolve-expr-Inv-loop resolve-expr-μ-loop
 resolve-expr-add-resolve-args-2 t c = omega (arith, call-room (c .before .before .before .before .before .before .before .before .before .before .before .before .before .before .pre .1) (c .before .before .before .before .before .before .before .before .if2 .taken), c .before .before .before .before .before .before .before .before .before .before .before .before .before .before .pre .1 .room .behind)
 
--- src/lib.rt:165:9
-resolve-expr-resolve-args-requires : (t : ℕ) → resolve-expr-lts.Need-resolve-args-requires (
-  resolve-expr-below t,
-  resolve-expr.Post,
-  head-reads.Asked,
-  head-reads.Learnt,
-  begin-reads.Asked,
-  begin-reads.Learnt,
-  resolve-args-below t,
-  resolve-args.Post,
-  shape-at-reads.Asked,
-  shape-at-reads.Learnt,
-  copy-reads.Asked,
-  copy-reads.Learnt,
-) (resolve-expr-at t) resolve-expr.Post resolve-expr-Inv-loop resolve-expr-μ-loop
+resolve-expr-resolve-args-requires : (t : ℕ) → resolve-expr-lts.Need-resolve-args-requires (K-resolve-expr t) (resolve-expr-at t) resolve-expr.Post resolve-expr-Inv-loop resolve-expr-μ-loop
 resolve-expr-resolve-args-requires t c κs = (omega (arith, c .before .before .before .before .before .before .before .before .before .before .before .before .before .before .pre .0, call-room (c .before .before .before .before .before .before .before .before .before .before .before .before .before .before .pre .1) (c .before .before .before .before .before .before .before .before .if2 .taken)), (ready-call (c .before .before .before .before .before .before .before .before .before .before .before .before .before .before .pre .1) (c .before .before .before .before .before .before .before .before .if2 .taken) (c .before .before .before .begin .kept .1 .0), omega arith))
 
--- src/lib.rt:165:9
-resolve-expr-same-length-2 : (t : ℕ) → resolve-expr-lts.Need-same-length-2 (
-  resolve-expr-below t,
-  resolve-expr.Post,
-  head-reads.Asked,
-  head-reads.Learnt,
-  begin-reads.Asked,
-  begin-reads.Learnt,
-  resolve-args-below t,
-  resolve-args.Post,
-  shape-at-reads.Asked,
-  shape-at-reads.Learnt,
-  copy-reads.Asked,
-  copy-reads.Learnt,
-) (resolve-expr-at t) resolve-expr.Post resolve-expr-Inv-loop resolve-expr-μ-loop
+resolve-expr-same-length-2 : (t : ℕ) → resolve-expr-lts.Need-same-length-2 (K-resolve-expr t) (resolve-expr-at t) resolve-expr.Post resolve-expr-Inv-loop resolve-expr-μ-loop
 resolve-expr-same-length-2 t c = c .before .before .resolve-args .kept .1 .1 .1 .1 .0 ∙ c .before .before .before .before .before .before .begin .kept .1 .0
 
--- src/lib.rt:165:9
-resolve-expr-returns-2 : (t : ℕ) → resolve-expr-lts.Need-returns-2 (
-  resolve-expr-below t,
-  resolve-expr.Post,
-  head-reads.Asked,
-  head-reads.Learnt,
-  begin-reads.Asked,
-  begin-reads.Learnt,
-  resolve-args-below t,
-  resolve-args.Post,
-  shape-at-reads.Asked,
-  shape-at-reads.Learnt,
-  copy-reads.Asked,
-  copy-reads.Learnt,
-) (resolve-expr-at t) resolve-expr.Post resolve-expr-Inv-loop resolve-expr-μ-loop
+resolve-expr-returns-2 : (t : ℕ) → resolve-expr-lts.Need-returns-2 (K-resolve-expr t) (resolve-expr-at t) resolve-expr.Post resolve-expr-Inv-loop resolve-expr-μ-loop
 resolve-expr-returns-2 t c = call-done (c .before .before .before .before .before .before .before .before .before .before .before .if2 .taken) (λ rs H. c .before .before .before .before .before .before .before .head .ensures rs H) (c .before .before .before .before .before .before .begin .ensures) (c .before .before .resolve-args .ensures)
 
--- src/lib.rt:167:9
-resolve-expr-shape-at-requires : (t : ℕ) → resolve-expr-lts.Need-shape-at-requires (
-  resolve-expr-below t,
-  resolve-expr.Post,
-  head-reads.Asked,
-  head-reads.Learnt,
-  begin-reads.Asked,
-  begin-reads.Learnt,
-  resolve-args-below t,
-  resolve-args.Post,
-  shape-at-reads.Asked,
-  shape-at-reads.Learnt,
-  copy-reads.Asked,
-  copy-reads.Learnt,
-) (resolve-expr-at t) resolve-expr.Post resolve-expr-Inv-loop resolve-expr-μ-loop
+resolve-expr-shape-at-requires : (t : ℕ) → resolve-expr-lts.Need-shape-at-requires (K-resolve-expr t) (resolve-expr-at t) resolve-expr.Post resolve-expr-Inv-loop resolve-expr-μ-loop
 resolve-expr-shape-at-requires t c κs = c .before .before .before .before .before .before .pre .1 .some
 
--- src/lib.rt:171:5
-resolve-expr-copy-requires : (t : ℕ) → resolve-expr-lts.Need-copy-requires (
-  resolve-expr-below t,
-  resolve-expr.Post,
-  head-reads.Asked,
-  head-reads.Learnt,
-  begin-reads.Asked,
-  begin-reads.Learnt,
-  resolve-args-below t,
-  resolve-args.Post,
-  shape-at-reads.Asked,
-  shape-at-reads.Learnt,
-  copy-reads.Asked,
-  copy-reads.Learnt,
-) (resolve-expr-at t) resolve-expr.Post resolve-expr-Inv-loop resolve-expr-μ-loop
+resolve-expr-copy-requires : (t : ℕ) → resolve-expr-lts.Need-copy-requires (K-resolve-expr t) (resolve-expr-at t) resolve-expr.Post resolve-expr-Inv-loop resolve-expr-μ-loop
 resolve-expr-copy-requires t c κs = front-room (c .before .before .before .before .before .before .before .before .pre .1) (c .before .shape-at .ensures)
 
--- src/lib.rt:172:17
-resolve-expr-add-a : (t : ℕ) → resolve-expr-lts.Need-add-a (
-  resolve-expr-below t,
-  resolve-expr.Post,
-  head-reads.Asked,
-  head-reads.Learnt,
-  begin-reads.Asked,
-  begin-reads.Learnt,
-  resolve-args-below t,
-  resolve-args.Post,
-  shape-at-reads.Asked,
-  shape-at-reads.Learnt,
-  copy-reads.Asked,
-  copy-reads.Learnt,
-) (resolve-expr-at t) resolve-expr.Post resolve-expr-Inv-loop resolve-expr-μ-loop
+resolve-expr-add-a : (t : ℕ) → resolve-expr-lts.Need-add-a (K-resolve-expr t) (resolve-expr-at t) resolve-expr.Post resolve-expr-Inv-loop resolve-expr-μ-loop
 resolve-expr-add-a t c = omega (arith, front-room (c .before .before .before .before .before .before .before .before .before .before .before .pre .1) (c .before .before .before .before .shape-at .ensures))
 
--- src/lib.rt:173:17
-resolve-expr-add-t : (t : ℕ) → resolve-expr-lts.Need-add-t (
-  resolve-expr-below t,
-  resolve-expr.Post,
-  head-reads.Asked,
-  head-reads.Learnt,
-  begin-reads.Asked,
-  begin-reads.Learnt,
-  resolve-args-below t,
-  resolve-args.Post,
-  shape-at-reads.Asked,
-  shape-at-reads.Learnt,
-  copy-reads.Asked,
-  copy-reads.Learnt,
-) (resolve-expr-at t) resolve-expr.Post resolve-expr-Inv-loop resolve-expr-μ-loop
+resolve-expr-add-t : (t : ℕ) → resolve-expr-lts.Need-add-t (K-resolve-expr t) (resolve-expr-at t) resolve-expr.Post resolve-expr-Inv-loop resolve-expr-μ-loop
 resolve-expr-add-t t c = omega (arith, front-room (c .before .before .before .before .before .before .before .before .before .before .before .pre .1) (c .before .before .before .before .shape-at .ensures), c .before .before .before .before .before .before .before .before .before .before .before .pre .1 .room .behind)
 
--- src/lib.rt:175:5
-resolve-expr-loop-holds : (t : ℕ) → resolve-expr-lts.Need-loop-holds (
-  resolve-expr-below t,
-  resolve-expr.Post,
-  head-reads.Asked,
-  head-reads.Learnt,
-  begin-reads.Asked,
-  begin-reads.Learnt,
-  resolve-args-below t,
-  resolve-args.Post,
-  shape-at-reads.Asked,
-  shape-at-reads.Learnt,
-  copy-reads.Asked,
-  copy-reads.Learnt,
-) (resolve-expr-at t) resolve-expr.Post resolve-expr-Inv-loop resolve-expr-μ-loop
+resolve-expr-loop-holds : (t : ℕ) → resolve-expr-lts.Need-loop-holds (K-resolve-expr t) (resolve-expr-at t) resolve-expr.Post resolve-expr-Inv-loop resolve-expr-μ-loop
 resolve-expr-loop-holds t c = (refl, list-start (λ T. nowhere) _ _ _ _ _ _ _ _)
 
--- src/lib.rt:176:13
-resolve-expr-resolve-expr-requires-2 : (t : ℕ) → resolve-expr-lts.Need-resolve-expr-requires-2 (
-  resolve-expr-below t,
-  resolve-expr.Post,
-  head-reads.Asked,
-  head-reads.Learnt,
-  begin-reads.Asked,
-  begin-reads.Learnt,
-  resolve-args-below t,
-  resolve-args.Post,
-  shape-at-reads.Asked,
-  shape-at-reads.Learnt,
-  copy-reads.Asked,
-  copy-reads.Learnt,
-) (resolve-expr-at t) resolve-expr.Post resolve-expr-Inv-loop resolve-expr-μ-loop
+resolve-expr-resolve-expr-requires-2 : (t : ℕ) → resolve-expr-lts.Need-resolve-expr-requires-2 (K-resolve-expr t) (resolve-expr-at t) resolve-expr.Post resolve-expr-Inv-loop resolve-expr-μ-loop
 resolve-expr-resolve-expr-requires-2 t c κs = (omega (arith, c .before .before .before .before .before .before .before .before .before .before .before .before .before .before .pre .0, here (ready-kids (c .before .before .before .before .before .before .before .before .before .before .before .before .before .before .pre .1) (c .before .before .before .before .before .before .before .shape-at .ensures) refl) (c .before .before .loop .inv .1) (c .before .loop-test .taken) .from, here (ready-kids (c .before .before .before .before .before .before .before .before .before .before .before .before .before .before .pre .1) (c .before .before .before .before .before .before .before .shape-at .ensures) refl) (c .before .before .loop .inv .1) (c .before .loop-test .taken) .inside, beyond (c .before .before .before .before .before .before .before .before .before .before .before .before .before .before .pre .1) (c .before .before .before .before .before .before .before .shape-at .ensures)), ready-plain (ready-kids (c .before .before .before .before .before .before .before .before .before .before .before .before .before .before .pre .1) (c .before .before .before .before .before .before .before .shape-at .ensures) refl) (c .before .before .loop .inv .1) (c .before .loop-test .taken) (c .before .before .loop .inv .0 ∙ c .before .before .before .before .before .copy .kept .1 .0))
 
--- src/lib.rt:179:9
-resolve-expr-add-i : (t : ℕ) → resolve-expr-lts.Need-add-i (
-  resolve-expr-below t,
-  resolve-expr.Post,
-  head-reads.Asked,
-  head-reads.Learnt,
-  begin-reads.Asked,
-  begin-reads.Learnt,
-  resolve-args-below t,
-  resolve-args.Post,
-  shape-at-reads.Asked,
-  shape-at-reads.Learnt,
-  copy-reads.Asked,
-  copy-reads.Learnt,
-) (resolve-expr-at t) resolve-expr.Post resolve-expr-Inv-loop resolve-expr-μ-loop
+resolve-expr-add-i : (t : ℕ) → resolve-expr-lts.Need-add-i (K-resolve-expr t) (resolve-expr-at t) resolve-expr.Post resolve-expr-Inv-loop resolve-expr-μ-loop
 resolve-expr-add-i t c = omega (arith, c .before .before .before .before .loop-test .taken)
 
--- src/lib.rt:175:5
-resolve-expr-loop-less : (t : ℕ) → resolve-expr-lts.Need-loop-less (
-  resolve-expr-below t,
-  resolve-expr.Post,
-  head-reads.Asked,
-  head-reads.Learnt,
-  begin-reads.Asked,
-  begin-reads.Learnt,
-  resolve-args-below t,
-  resolve-args.Post,
-  shape-at-reads.Asked,
-  shape-at-reads.Learnt,
-  copy-reads.Asked,
-  copy-reads.Learnt,
-) (resolve-expr-at t) resolve-expr.Post resolve-expr-Inv-loop resolve-expr-μ-loop
+resolve-expr-loop-less : (t : ℕ) → resolve-expr-lts.Need-loop-less (K-resolve-expr t) (resolve-expr-at t) resolve-expr.Post resolve-expr-Inv-loop resolve-expr-μ-loop
 resolve-expr-loop-less t c = omega (arith, c .before .before .before .before .loop-test .taken)
 
--- src/lib.rt:175:5
-resolve-expr-loop-again : (t : ℕ) → resolve-expr-lts.Need-loop-again (
-  resolve-expr-below t,
-  resolve-expr.Post,
-  head-reads.Asked,
-  head-reads.Learnt,
-  begin-reads.Asked,
-  begin-reads.Learnt,
-  resolve-args-below t,
-  resolve-args.Post,
-  shape-at-reads.Asked,
-  shape-at-reads.Learnt,
-  copy-reads.Asked,
-  copy-reads.Learnt,
-) (resolve-expr-at t) resolve-expr.Post resolve-expr-Inv-loop resolve-expr-μ-loop
+resolve-expr-loop-again : (t : ℕ) → resolve-expr-lts.Need-loop-again (K-resolve-expr t) (resolve-expr-at t) resolve-expr.Post resolve-expr-Inv-loop resolve-expr-μ-loop
 resolve-expr-loop-again t c = (c .before .before .resolve-expr2 .kept .1 .1 .1 .1 .0 ∙ c .before .before .before .before .before .loop .inv .0, plain-step (c .before .before .before .before .before .loop .inv .1) (c .before .before .before .before .loop-test .taken) (c .before .before .resolve-expr2 .ensures))
 
--- src/lib.rt:181:5
-resolve-expr-copy-requires-2 : (t : ℕ) → resolve-expr-lts.Need-copy-requires-2 (
-  resolve-expr-below t,
-  resolve-expr.Post,
-  head-reads.Asked,
-  head-reads.Learnt,
-  begin-reads.Asked,
-  begin-reads.Learnt,
-  resolve-args-below t,
-  resolve-args.Post,
-  shape-at-reads.Asked,
-  shape-at-reads.Learnt,
-  copy-reads.Asked,
-  copy-reads.Learnt,
-) (resolve-expr-at t) resolve-expr.Post resolve-expr-Inv-loop resolve-expr-μ-loop
+resolve-expr-copy-requires-2 : (t : ℕ) → resolve-expr-lts.Need-copy-requires-2 (K-resolve-expr t) (resolve-expr-at t) resolve-expr.Post resolve-expr-Inv-loop resolve-expr-μ-loop
 resolve-expr-copy-requires-2 t c κs = back-room (c .before .before .before .before .before .before .before .before .before .before .before .before .before .before .pre .1) (c .before .before .before .before .before .before .before .shape-at .ensures) (c .before .before .loop .inv .0 ∙ c .before .before .before .before .before .copy .kept .1 .0) (c .before .before .loop .inv .1) (c .before .loop-test .left)
 
--- src/lib.rt:183:13
-resolve-expr-add-t19 : (t : ℕ) → resolve-expr-lts.Need-add-t19 (
-  resolve-expr-below t,
-  resolve-expr.Post,
-  head-reads.Asked,
-  head-reads.Learnt,
-  begin-reads.Asked,
-  begin-reads.Learnt,
-  resolve-args-below t,
-  resolve-args.Post,
-  shape-at-reads.Asked,
-  shape-at-reads.Learnt,
-  copy-reads.Asked,
-  copy-reads.Learnt,
-) (resolve-expr-at t) resolve-expr.Post resolve-expr-Inv-loop resolve-expr-μ-loop
+resolve-expr-add-t19 : (t : ℕ) → resolve-expr-lts.Need-add-t19 (K-resolve-expr t) (resolve-expr-at t) resolve-expr.Post resolve-expr-Inv-loop resolve-expr-μ-loop
 resolve-expr-add-t19 t c = omega (arith, back-room (c .before .before .before .before .before .before .before .before .before .before .before .before .before .before .before .before .before .pre .1) (c .before .before .before .before .before .before .before .before .before .before .shape-at .ensures) (c .before .before .before .before .before .loop .inv .0 ∙ c .before .before .before .before .before .before .before .before .copy .kept .1 .0) (c .before .before .before .before .before .loop .inv .1) (c .before .before .before .before .loop-test .left))
 
--- src/lib.rt:184:13
-resolve-expr-add-t44 : (t : ℕ) → resolve-expr-lts.Need-add-t44 (
-  resolve-expr-below t,
-  resolve-expr.Post,
-  head-reads.Asked,
-  head-reads.Learnt,
-  begin-reads.Asked,
-  begin-reads.Learnt,
-  resolve-args-below t,
-  resolve-args.Post,
-  shape-at-reads.Asked,
-  shape-at-reads.Learnt,
-  copy-reads.Asked,
-  copy-reads.Learnt,
-) (resolve-expr-at t) resolve-expr.Post resolve-expr-Inv-loop resolve-expr-μ-loop
+resolve-expr-add-t44 : (t : ℕ) → resolve-expr-lts.Need-add-t44 (K-resolve-expr t) (resolve-expr-at t) resolve-expr.Post resolve-expr-Inv-loop resolve-expr-μ-loop
 resolve-expr-add-t44 t c = omega (arith, back-room (c .before .before .before .before .before .before .before .before .before .before .before .before .before .before .before .before .before .pre .1) (c .before .before .before .before .before .before .before .before .before .before .shape-at .ensures) (c .before .before .before .before .before .loop .inv .0 ∙ c .before .before .before .before .before .before .before .before .copy .kept .1 .0) (c .before .before .before .before .before .loop .inv .1) (c .before .before .before .before .loop-test .left))
 
--- src/lib.rt:144:1
-resolve-expr-same-length-3 : (t : ℕ) → resolve-expr-lts.Need-same-length-3 (
-  resolve-expr-below t,
-  resolve-expr.Post,
-  head-reads.Asked,
-  head-reads.Learnt,
-  begin-reads.Asked,
-  begin-reads.Learnt,
-  resolve-args-below t,
-  resolve-args.Post,
-  shape-at-reads.Asked,
-  shape-at-reads.Learnt,
-  copy-reads.Asked,
-  copy-reads.Learnt,
-) (resolve-expr-at t) resolve-expr.Post resolve-expr-Inv-loop resolve-expr-μ-loop
+resolve-expr-same-length-3 : (t : ℕ) → resolve-expr-lts.Need-same-length-3 (K-resolve-expr t) (resolve-expr-at t) resolve-expr.Post resolve-expr-Inv-loop resolve-expr-μ-loop
 resolve-expr-same-length-3 t c = c .before .before .copy2 .kept .1 .0 ∙ c .before .before .before .before .before .loop .inv .0 ∙ c .before .before .before .before .before .before .before .before .copy .kept .1 .0
 
--- src/lib.rt:144:1
-resolve-expr-returns-3 : (t : ℕ) → resolve-expr-lts.Need-returns-3 (
-  resolve-expr-below t,
-  resolve-expr.Post,
-  head-reads.Asked,
-  head-reads.Learnt,
-  begin-reads.Asked,
-  begin-reads.Learnt,
-  resolve-args-below t,
-  resolve-args.Post,
-  shape-at-reads.Asked,
-  shape-at-reads.Learnt,
-  copy-reads.Asked,
-  copy-reads.Learnt,
-) (resolve-expr-at t) resolve-expr.Post resolve-expr-Inv-loop resolve-expr-μ-loop
+resolve-expr-returns-3 : (t : ℕ) → resolve-expr-lts.Need-returns-3 (K-resolve-expr t) (resolve-expr-at t) resolve-expr.Post resolve-expr-Inv-loop resolve-expr-μ-loop
 resolve-expr-returns-3 t c = node-done (c .before .before .before .before .before .before .before .before .before .before .before .if2 .left) (c .before .before .before .before .before .before .before .before .before .before .before .before .if1 .left) (c .before .before .before .before .before .before .before .before .before .before .shape-at .ensures) (c .before .before .before .before .before .before .before .before .copy .ensures) (c .before .before .before .before .before .loop .inv .1) (c .before .before .before .before .loop-test .left) (c .before .before .copy2 .ensures)
 
 pub +resolve-args+resolve-expr-spec : {M : Type 1} → statement M
-+resolve-args+resolve-expr-spec = close μ-resolve-args μ-resolve-expr (λ t. resolve-args-lts.spec (
-  pair-reads.Asked,
-  pair-reads.Learnt,
-  resolve-expr-below t,
-  resolve-expr.Post,
-)
++resolve-args+resolve-expr-spec = close μ-resolve-args μ-resolve-expr (λ t. resolve-args-lts.spec (K-resolve-args t)
     (resolve-args-at t)
     resolve-args.Post
     resolve-args-Inv-loop
@@ -737,20 +218,7 @@ pub +resolve-args+resolve-expr-spec : {M : Type 1} → statement M
     (resolve-args-loop-again t)
     (resolve-args-same-length t)
     (resolve-args-returns t))
-    λ t. resolve-expr-lts.spec (
-      resolve-expr-below t,
-      resolve-expr.Post,
-      head-reads.Asked,
-      head-reads.Learnt,
-      begin-reads.Asked,
-      begin-reads.Learnt,
-      resolve-args-below t,
-      resolve-args.Post,
-      shape-at-reads.Asked,
-      shape-at-reads.Learnt,
-      copy-reads.Asked,
-      copy-reads.Learnt,
-    )
+    λ t. resolve-expr-lts.spec (K-resolve-expr t)
     (resolve-expr-at t)
     resolve-expr.Post
     resolve-expr-Inv-loop

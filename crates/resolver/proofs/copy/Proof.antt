@@ -1,3 +1,4 @@
+-- `copy` has written the first i words after i turns. Assumes nothing.
 use Prim.Native.Nat.{_≤_, _-_}
 use mathlib.Core.Path.{_≡_, refl, ap, _∙_}
 use native.Mathlib.Omega.{arith}
@@ -6,8 +7,6 @@ use lib.Seq.{sets, length-sets}
 use Rattle.resolver.proofs.Writing.{copy-more}
 use Rattle.resolver.proofs.copy.Statement.{statement}
 use Rattle.resolver.proofs.copy.Tie as tie
-use Rattle.resolver.proofs.copy.Reads as reads
-use Rattle.resolver.proofs.copy.Lts as lts
 
 abbrev Inv-loop : tie.InvT-loop
 Inv-loop words out₀ at to n i₀ out i = (i ≤ n) × (length out ≡ length out₀) × (out ≡ sets out₀ to (take i (drop at words)))
@@ -15,51 +14,39 @@ Inv-loop words out₀ at to n i₀ out i = (i ≤ n) × (length out ≡ length o
 abbrev μ-loop : tie.MeasureT-loop
 μ-loop words out₀ at to n i₀ out i = n - i
 
--- src/lib.rt:25:5
 loop-holds : tie.Need-loop-holds Inv-loop μ-loop
 loop-holds c = (omega arith, refl, refl)
 
--- src/lib.rt:26:29
 add-out : tie.Need-add-out Inv-loop μ-loop
 add-out c = omega arith
 
--- src/lib.rt:26:23
 mul-out : tie.Need-mul-out Inv-loop μ-loop
 mul-out c = omega arith
 
--- src/lib.rt:26:23
 shared-slice-read-out : tie.Need-shared-slice-read-out Inv-loop μ-loop
 shared-slice-read-out c = omega arith
 
--- src/lib.rt:26:13
 add-out-2 : tie.Need-add-out-2 Inv-loop μ-loop
 add-out-2 c = omega arith
 
--- src/lib.rt:26:9
 mul-out-2 : tie.Need-mul-out-2 Inv-loop μ-loop
 mul-out-2 c = omega arith
 
--- src/lib.rt:26:9
 slice-write-out : tie.Need-slice-write-out Inv-loop μ-loop
 slice-write-out c = omega arith
 
--- src/lib.rt:27:9
 add-i : tie.Need-add-i Inv-loop μ-loop
 add-i c = omega arith
 
--- src/lib.rt:25:5
 loop-less : tie.Need-loop-less Inv-loop μ-loop
 loop-less c = omega arith
 
--- src/lib.rt:25:5
 loop-again : tie.Need-loop-again Inv-loop μ-loop
 loop-again c = (omega arith, simp length-set (c .before .before .loop .inv .1), copy-more (c .before .before .before .args .words .now) (c .before .before .before .args .out .now) (c .before .before .loop .out) (c .before .before .before .args .at) (c .before .before .before .args .to) (c .before .before .loop .i) (omega arith) (c .before .before .loop .inv .2))
 
--- src/lib.rt:20:1
 same-length : tie.Need-same-length Inv-loop μ-loop
 same-length c = c .before .loop .inv .1
 
--- src/lib.rt:20:1
 returns : tie.Need-returns Inv-loop μ-loop
 returns c = let e : c .before .loop .i ≡ (c .before .before .args .n) = omega arith in c .before .loop .inv .2 ∙ ap (λ k. sets (c .before .before .args .out .now) (c .before .before .args .to) (take k (drop (c .before .before .args .at) (c .before .before .args .words .now)))) e
 

@@ -1,3 +1,4 @@
+-- `head` is 18 for an element, 21 for a call. Assumes nothing.
 use mathlib.Core.Path.{_≡_, sym, ap, _∙_}
 use Prim.Native.Nat.{ℕ}
 use mathlib.Core.Bool.{Bool}
@@ -5,19 +6,13 @@ use Rattle.words.specs.Word.{wordOf, pick}
 use borrow.Author.Needs.{needs}
 use Rattle.resolver.proofs.head.Statement.{statement}
 use Rattle.resolver.proofs.head.Tie as tie
-use Rattle.resolver.proofs.head.Reads as reads
-use Rattle.resolver.proofs.head.Lts as lts
-use Rattle.resolve.proofs.is_element.Reads as is-element-reads
 
--- src/lib.rt:104:8
 is-element-requires : tie.Need-is-element-requires
 is-element-requires c κs = search needs
 
--- src/lib.rt:105:9
 returns : tie.Need-returns
 returns c = λ rs H. ap (λ (b : Bool). wordOf (pick b 18 21) 0) (sym (c .if1 .taken) ∙ c .before .is-element .ensures rs H)
 
--- src/lib.rt:100:1
 returns-2 : tie.Need-returns-2
 returns-2 c = λ rs H. ap (λ (b : Bool). wordOf (pick b 18 21) 0) (sym (c .if1 .left) ∙ c .before .is-element .ensures rs H)
 

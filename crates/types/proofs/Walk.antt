@@ -61,6 +61,9 @@ module _ {ws : List ℕ} {at : ℕ} where
 
 -- ---- all of them
 
+pub fewer : {ws : List ℕ} {at n i : ℕ} → SomeFields ws at n → i ≤ n → SomeFields ws at i
+fewer F h = record { names = F .names; strings = F .strings; tree = F .tree; end = F .end; stands = F .stands; enough = omega (arith, F .enough) }
+
 type-small : (ns : List ℕ) (n : ℕ) (t : Tree Expr (one TypeSort)) → Right ns n t → arg (typeRef t) < 16777216
 unfolding Right typeRef
 type-small ns n (this done) r = lit< tt

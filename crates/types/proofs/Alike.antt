@@ -1,27 +1,27 @@
 -- What a TYPE asks of the rows is the same after its own rows are changed: its name is never looked up. Assumes nothing.
 use Prim.Native.Nat.{ℕ, _+_, _*_, _≤_, _<_}
 use mathlib.Core.Path.{_≡_, refl, sym, ap, _∙_, subst}
-use mathlib.Core.Bool.{Bool, true, false, _&&_, _||_}
-use mathlib.Core.Logic.{_⊎_, inl, inr}
+use mathlib.Core.Bool.{Bool, true, false}
+use mathlib.Core.Logic.{inl}
 use mathlib.Core.List.{List, [], _∷_, _++_}
-use mathlib.Core.Option.{Option, none, some}
+use mathlib.Core.Option.{Option, some}
 use native.Mathlib.Omega.{arith}
-use lib.Dec.{leb, eqb}
+use lib.Dec.{eqb}
 use lib.ListN.{length}
-use borrow.Author.Tests.{eqb-true, eqb-false, eq-eqb, ne-eqb}
+use borrow.Author.Tests.{eqb-true, eqb-false}
 use Rattle.words.specs.Word.{pick}
 use Rattle.views.specs.View.{FieldDecl, head, arg}
-use Rattle.table.specs.Rows.{Row, width, noteWidth, key, find, insert, remove, replace, rowsOf, Holds}
+use Rattle.table.specs.Rows.{Row, width, noteWidth, key, find, insert, remove, rowsOf, Holds}
 use Rattle.table.specs.Laws.{pick-true, pick-false, find-insert-other, find-remove-out}
 use Rattle.entries.specs.Entries.{entryKey, has, hasRow, typeRow, fieldRow, replaceType}
 use Rattle.lent.specs.LentLaws.{rows-of-holds}
 use Rattle.lookup.specs.Lookup.{recordWords, typeWords}
-use Rattle.steps.specs.State.{State, running, stopped, Step, _⨾_, asking, each, change, enter, fits}
+use Rattle.steps.specs.State.{State, running, stopped, asking, each, change, enter, fits}
 use Rattle.steps.specs.declared.Counts.{Counts}
-use Rattle.steps.specs.Held.{Held, Sized, Does, Rows, changing, entering}
+use Rattle.steps.specs.Held.{Held, Sized, Rows, changing, entering}
 use Rattle.steps.specs.Compose.{stays-each, stays-enter, stays-change, replaced}
 use Rattle.collect.specs.Collect.{FieldInfo, fieldRows}
-use Rattle.types.specs.Types.{typeCode, said, codeOf, fieldCode, sized, sizedBy, keeps}
+use Rattle.types.specs.Types.{typeCode, said, codeOf, sized, sizedBy, keeps}
 use Rattle.types.proofs.Laws.{code-kept, Put, RowsAre}
 
 -- the TYPE rows of all other names are the same
@@ -109,9 +109,11 @@ module _ (owner : ℕ) (rows rows′ : List Row) (A : Alike owner rows rows′) 
   unfolding keeps
   keeps-alike words before [] B S = refl
   keeps-alike words before (f ∷ fs) B S =
-      rw (code-alike before (f .name) (head (f .ty)) (arg (f .ty)) B (S .0),
+      rw (
+        code-alike before (f .name) (head (f .ty)) (arg (f .ty)) B (S .0),
         sized-alike before words (f .name) (head (f .ty)) (arg (f .ty)) (S .0),
-        keeps-alike (sizedBy rows owner words before f) (before ++ (f ∷ [])) fs (small-snoc before f B (S .0)) (S .1)) refl
+        keeps-alike (sizedBy rows owner words before f) (before ++ (f ∷ [])) fs (small-snoc before f B (S .0)) (S .1),
+      ) refl
 
 -- ---- states
 

@@ -1,12 +1,11 @@
 -- Whether a field was said before: the loop over those before it, and a field's code. Assumes nothing.
-use Prim.Native.Nat.{ℕ, zero, suc, _+_, _-_, _≤_, _<_}
+use Prim.Native.Nat.{ℕ, zero, suc, _-_, _≤_, _<_}
 use mathlib.Core.Path.{_≡_, refl, sym, ap, _∙_, subst}
-use mathlib.Core.Bool.{Bool, true, false, _&&_, _||_}
-use mathlib.Core.List.{List, [], _∷_}
+use mathlib.Core.Bool.{true, false, _&&_}
+use mathlib.Core.List.{List, _∷_}
 use native.Mathlib.Omega.{arith}
 use lib.Dec.{eqb}
 use lib.ListN.{take}
-use Rattle.words.specs.Word.{pick}
 use Rattle.expr.specs.Expr.{Expr}
 use Rattle.tree.specs.Sorts.{FieldDecl as FieldRow}
 use Rattle.tree.specs.Tree.{Tree, row as oneRow, rows as manyRows, count}
@@ -16,7 +15,7 @@ use Rattle.table.specs.Rows.{Row, Holds}
 use Rattle.table.specs.Laws.{pick-true, pick-false}
 use Rattle.types.specs.Types.{SomeFields, FieldIs, Upto, typeCode, said, codeOf}
 use Rattle.types.specs.declared.FieldAt.{FieldAt}
-use Rattle.types.proofs.Walk.{Next, next-of}
+use Rattle.types.proofs.Walk.{next-of}
 
 -- of the first n fields, those that are left decide
 pub record SayingAt (ws ns : List ℕ) (m : ℕ) (v : Tree Expr (manyRows FieldRow)) (end n owner field a left k : ℕ) (b : List ℕ) : Type 0 where

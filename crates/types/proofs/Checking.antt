@@ -4,22 +4,21 @@ use mathlib.Core.Path.{_≡_, refl, sym, ap, _∙_, subst}
 use mathlib.Core.Logic.{_⊎_, inl, inr}
 use mathlib.Core.List.{List, [], _∷_, _++_}
 use native.Mathlib.Omega.{arith}
-use lib.ListN.{length, take}
-use Rattle.words.specs.Word.{pick}
+use lib.ListN.{length}
 use Rattle.expr.specs.Expr.{Expr}
 use Rattle.tree.specs.Sorts.{FieldDecl as FieldRow}
 use Rattle.tree.specs.Tree.{Tree, row as oneRow, rows as manyRows, count}
 use Rattle.tree.specs.Stands.{Stands, SomeTree}
 use Rattle.views.specs.View.{head, arg, FieldDecl, rowsOf, fieldDecl}
-use Rattle.table.specs.Rows.{Row, width, noteWidth, Holds}
+use Rattle.table.specs.Rows.{Row, noteWidth, Holds}
 use Rattle.table.specs.Laws.{order}
 use Rattle.steps.specs.State.{State, running}
 use Rattle.steps.specs.declared.Counts.{Counts}
-use Rattle.steps.specs.Held.{Held, Notes}
+use Rattle.steps.specs.Held.{Held}
 use Rattle.types.specs.Types.{SomeFields, FieldIs, Upto, codeOf, fieldCode, sized, looks, checks, total, Looks, Checks}
 use Rattle.types.specs.declared.FieldAt.{FieldAt}
 use Rattle.types.specs.declared.Summed.{Summed}
-use Rattle.types.proofs.Walk.{Next, next-of, Rest, rest-all, rest-next, rest-before, rest-none}
+use Rattle.types.proofs.Walk.{next-of, Rest, rest-all, rest-next, rest-before, rest-none}
 
 pub record Mid (N D : ℕ) (rows notes : List Row) (line owner : ℕ) (fs : List FieldDecl) (c : Summed) (b d : List ℕ) (before after : List FieldDecl) : Type 0 where
   pub state : State

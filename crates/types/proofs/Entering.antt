@@ -15,7 +15,7 @@ use Rattle.tree.specs.Stands.{Stands, SomeTree}
 use Rattle.views.specs.View.{head, arg, FieldDecl, rowsOf, fieldDecl}
 use Rattle.table.specs.Rows.{Row, width, insert, Holds}
 use Rattle.entries.specs.Entries.{fieldRow}
-use Rattle.steps.specs.State.{State, running, stopped, asking, each, change, enter}
+use Rattle.steps.specs.State.{State, running, stopped, asking, each, enter}
 use Rattle.steps.specs.declared.Counts.{Counts}
 use Rattle.steps.specs.Held.{Held, Rows}
 use Rattle.steps.specs.Compose.{stays-each, stays-enter}
@@ -24,7 +24,7 @@ use Rattle.types.specs.Types.{SomeFields, FieldIs, Upto, codeOf, fieldCo
 use Rattle.types.specs.declared.FieldAt.{FieldAt}
 use Rattle.types.specs.declared.Kept.{Kept}
 use Rattle.types.proofs.Alike.{Alike, alike-refl, alike-field, Small, small-left, small-right, code-alike, sized-alike, AlikeIn, change-alike, Entering}
-use Rattle.types.proofs.Walk.{rows-small, Next, next-of, Rest, rest-all, rest-next, rest-none}
+use Rattle.types.proofs.Walk.{rows-small, next-of, Rest, rest-all, rest-next, rest-none}
 use Rattle.types.proofs.Checking.{all-of, code-there}
 
 -- the rows that a run begins with

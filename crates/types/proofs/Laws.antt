@@ -1,14 +1,13 @@
 -- The fields of a TYPE by their codes: the definition is to look at all of them in order, and then one change of the rows. Assumes nothing.
-use Prim.Native.Nat.{ℕ, _+_, _*_, _≤_, _<_}
-use mathlib.Core.Path.{_≡_, refl, sym, ap, _∙_, subst}
+use Prim.Native.Nat.{ℕ, _+_}
+use mathlib.Core.Path.{_≡_, refl, sym, ap, _∙_}
 use mathlib.Core.Bool.{Bool, true, false, _&&_, _||_}
-use mathlib.Core.Logic.{_⊎_, inl, inr}
 use mathlib.Core.List.{List, [], _∷_, _++_, append-nil}
-use mathlib.Core.Option.{Option, none, some}
+use mathlib.Core.Option.{none, some}
 use native.Mathlib.Omega.{arith}
 use lib.Dec.{leb, eqb}
 use lib.Seq.{append-snoc}
-use borrow.Author.Tests.{eqb-true, eqb-false, eq-eqb, ne-eqb}
+use borrow.Author.Tests.{eqb-true, eqb-false, eq-eqb}
 use Rattle.words.specs.Word.{pick}
 use Rattle.views.specs.View.{TypeRef, Integer, Long, Single, Double, FixedString, Record, FieldDecl, head, arg}
 use Rattle.table.specs.Rows.{Row}
@@ -157,9 +156,9 @@ module _ (rows : List Row) (owner : ℕ) where
     unfolding withField checks total keeps looks sized grown
     split-kept info before fs f st e l ih =
         rw (e, l) (ih ∙ ap (λ (k : List FieldInfo). Put N line
-          (total rows owner (info .words + typeWords rows (head (f .ty)) (arg (f .ty))) (before ++ (f ∷ [])) fs) k
-          (checks D rows line owner (info .words + typeWords rows (head (f .ty)) (arg (f .ty))) (before ++ (f ∷ [])) fs st))
-          (append-snoc (info .fields) (record { name = f .name; word = info .words; ty = f .ty }) (keeps rows owner (info .words + typeWords rows (head (f .ty)) (arg (f .ty))) (before ++ (f ∷ [])) fs)))
+        (total rows owner (info .words + typeWords rows (head (f .ty)) (arg (f .ty))) (before ++ (f ∷ [])) fs) k
+        (checks D rows line owner (info .words + typeWords rows (head (f .ty)) (arg (f .ty))) (before ++ (f ∷ [])) fs st))
+        (append-snoc (info .fields) (record { name = f .name; word = info .words; ty = f .ty }) (keeps rows owner (info .words + typeWords rows (head (f .ty)) (arg (f .ty))) (before ++ (f ∷ [])) fs)))
 
     split-long : (info : RecordInfo) (before fs : List FieldDecl) (f : FieldDecl) (st : State) → eqb (fieldCode rows owner before f) 0 ≡ true
         → leb (info .words + typeWords rows (head (f .ty)) (arg (f .ty))) 65535 ≡ false
@@ -171,7 +170,7 @@ module _ (rows : List Row) (owner : ℕ) where
         let k : List FieldInfo = info .fields ++ keeps rows owner (info .words) before (f ∷ fs) in
         stopped-both (sizedBy rows owner (info .words) before f) (before ++ (f ∷ [])) fs w k st
         ∙ ap (λ (g : Step). Put N line w k (checks D rows line owner (sizedBy rows owner (info .words) before f) (before ++ (f ∷ [])) fs (g st)))
-          (sym (pick-true {A = Step} (pick (leb (info .words + typeWords rows (head (f .ty)) (arg (f .ty))) 65535) nothing (stop 9)) (push (some D) (noteOf (fieldCode rows owner before f) line owner (f .name) (arg (f .ty)))) e ∙ pick-false {A = Step} nothing (stop 9) l))
+        (sym (pick-true {A = Step} (pick (leb (info .words + typeWords rows (head (f .ty)) (arg (f .ty))) 65535) nothing (stop 9)) (push (some D) (noteOf (fieldCode rows owner before f) line owner (f .name) (arg (f .ty)))) e ∙ pick-false {A = Step} nothing (stop 9) l))
 
     split-rejected : (info : RecordInfo) (before fs : List FieldDecl) (f : FieldDecl) (st : State) → eqb (fieldCode rows owner before f) 0 ≡ false
         → Split info (before ++ (f ∷ [])) fs (push (some D) (noteOf (fieldCode rows owner before f) line owner (f .name) (arg (f .ty))) st)
@@ -189,8 +188,8 @@ module _ (rows : List Row) (owner : ℕ) where
         go : ((i : RecordInfo) (b : List FieldDecl) → Same (i .fields) b → (t : State) → Split i b fs t)
             → (t : Bool) → eqb (fieldCode rows owner before f) 0 ≡ t → (u : Bool) → leb (info .words + typeWords rows (head (f .ty)) (arg (f .ty))) 65535 ≡ u
             → orSay (given (some N) (some D) bytes ends erased) (pick t none (some (noteOf (fieldCode rows owner before f) line owner (f .name) (arg (f .ty)))))
-              (pick u (fields (given (some N) (some D) bytes ends erased) rows line owner (withField rows info f) fs) (stop 9))
-              (fields (given (some N) (some D) bytes ends erased) rows line owner info fs) st
+            (pick u (fields (given (some N) (some D) bytes ends erased) rows line owner (withField rows info f) fs) (stop 9))
+            (fields (given (some N) (some D) bytes ends erased) rows line owner info fs) st
             ≡ Put N line (total rows owner (info .words) before (f ∷ fs)) (info .fields ++ keeps rows owner (info .words) before (f ∷ fs)) (checks D rows line owner (info .words) before (f ∷ fs) st)
         go ih true e true l = split-kept info before fs f st e l (ih (withField rows info f) (before ++ (f ∷ [])) (same-kept (info .fields) before f (info .words) S (eqb-true _ 0 e)) st)
         go ih true e false l = split-long info before fs f st e l

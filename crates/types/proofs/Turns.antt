@@ -1,7 +1,7 @@
 -- One field: what its code does to the run, by its code and its words. Assumes nothing.
 use Prim.Native.Nat.{ℕ, _+_, _-_, _*_, _≤_, _<_}
 use mathlib.Core.Path.{_≡_, refl, sym, ap, _∙_, subst}
-use mathlib.Core.Bool.{Bool, true, false, _&&_}
+use mathlib.Core.Bool.{Bool}
 use mathlib.Core.List.{List, [], _∷_}
 use mathlib.Core.Option.{some}
 use native.Mathlib.Omega.{arith}
@@ -15,7 +15,7 @@ use Rattle.entries.specs.Entries.{has, fieldRow}
 use Rattle.lookup.specs.Lookup.{typeWords}
 use Rattle.steps.specs.State.{State, Step, nothing, each, stop, enter, push}
 use Rattle.steps.specs.declared.Counts.{Counts}
-use Rattle.steps.specs.Held.{Fit, Held, Sized, Notes, Rows, Counted, entering, pushing}
+use Rattle.steps.specs.Held.{Held, Sized, Notes, Rows, Counted, entering, pushing}
 use Rattle.types.specs.Types.{typeCode, noteOf, grown, sized, looks, Looks, Keeps}
 use Rattle.types.specs.declared.Summed.{Summed}
 use Rattle.types.specs.declared.Kept.{Kept}
@@ -74,7 +74,7 @@ module _ (line owner code name head arg : ℕ) (s : Summed) (b d : List ℕ) (fe
           size = λ rows H. grown-no (s .words) (typeWords rows head arg) few (omega (arith, told rows H)) ∙ sym (pick-true _ _ (eq-eqb code 0 z));
           notes = λ rows H. as-notes (λ N D. looks D rows line owner (s .words) code name head arg)
               (λ N D st. ap (λ (g : Step). g st) (sym (pick-true {A = Step} (pick (leb (s .words + typeWords rows head arg) 65535) nothing (stop 9)) (push (some D) (noteOf code line owner name arg)) (eq-eqb code 0 z)
-                ∙ pick-false {A = Step} nothing (stop 9) (lt-leb (s .words + typeWords rows head arg) 65535 (omega (arith, told rows H))))))
+              ∙ pick-false {A = Step} nothing (stop 9) (lt-leb (s .words + typeWords rows head arg) 65535 (omega (arith, told rows H))))))
               (record { fit = omega (arith, C .notes-kept); kept = C .rows-kept; after = λ b′ N D st K. C .after b′ d N D st K });
         }
 
@@ -88,7 +88,7 @@ module _ (line owner code name head arg : ℕ) (s : Summed) (b d : List ℕ) (fe
           size = λ rows H. ap (λ (m : ℕ). s .words + m) (told rows H) ∙ grown-yes (s .words) (typeWords rows head arg) few (omega (arith, told rows H)) ∙ sym (pick-true _ _ (eq-eqb code 0 z));
           notes = λ rows H. as-notes (λ N D. looks D rows line owner (s .words) code name head arg)
               (λ N D st. ap (λ (g : Step). g st) (sym (pick-true {A = Step} (pick (leb (s .words + typeWords rows head arg) 65535) nothing (stop 9)) (push (some D) (noteOf code line owner name arg)) (eq-eqb code 0 z)
-                ∙ pick-true {A = Step} nothing (stop 9) (le-leb (s .words + typeWords rows head arg) 65535 (omega (arith, told rows H))))))
+              ∙ pick-true {A = Step} nothing (stop 9) (le-leb (s .words + typeWords rows head arg) 65535 (omega (arith, told rows H))))))
               (record { fit = fit; kept = refl; after = λ b′ N D st K. K });
         }
 

@@ -1,26 +1,22 @@
 -- Going through the fields of a TYPE, for whatever tree stands there. Assumes nothing.
-use Prim.Native.Nat.{ℕ, zero, suc, _+_, _-_, _*_, _%_, _≤_, _<_}
+use Prim.Native.Nat.{ℕ, _+_, _-_, _≤_, _<_}
 use mathlib.Core.Path.{_≡_, refl, sym, ap, _∙_, subst}
-use mathlib.Core.Bool.{Bool, true, false, _&&_, _||_}
 use mathlib.Core.List.{List, [], _∷_, _++_, append-nil}
 use native.Mathlib.Omega.{arith}
-use native.Mathlib.Numerals.{add-one}
-use lib.Dec.{eqb, lit<}
+use lib.Dec.{lit<}
 use lib.ListN.{length, getD, take, length-append}
-use lib.Seq.{append-snoc, take-at, take-all}
-use Rattle.words.specs.Word.{wordOf, kindOf, payOf}
+use lib.Seq.{append-snoc, take-at}
+use Rattle.words.specs.Word.{payOf}
 use Rattle.expr.specs.Expr.{Expr}
-use Rattle.expr.proofs.Parts.{First, wrote-first, kind-is, pay-is}
-use Rattle.tree.specs.Sorts.{nil, _&_, TypeRef as TypeSort, FieldDecl as FieldRow, typeDef as typeKind, sorts}
-use Rattle.tree.specs.Tree.{Tree, one, row as oneRow, rows as manyRows, word, list, this, that, done, cons, none, more, count, wordsT, Right}
+use Rattle.expr.proofs.Parts.{wrote-first, pay-is}
+use Rattle.tree.specs.Sorts.{TypeRef as TypeSort, FieldDecl as FieldRow}
+use Rattle.tree.specs.Tree.{Tree, one, row as oneRow, rows as manyRows, word, this, that, done, cons, none, more, count, wordsT, Right}
 use Rattle.tree.specs.Stands.{Stands, SomeTree}
-use Rattle.tree.proofs.Nodes.{InMore, in-more}
-use Rattle.views.specs.View.{TypeRef, head, arg, FieldDecl, rowsOf, typeRef, fieldDecl}
+use Rattle.tree.proofs.Nodes.{in-more}
+use Rattle.views.specs.View.{head, arg, FieldDecl, rowsOf, typeRef, fieldDecl}
 use Rattle.parts.specs.declared.TypeAt.{TypeAt}
 use Rattle.parts.specs.Parts.{TypeIs}
-use Rattle.table.specs.Rows.{Row, Holds}
-use Rattle.types.specs.Types.{SomeFields, FieldIs, Upto, typeCode, said}
-use Rattle.types.specs.declared.FieldAt.{FieldAt}
+use Rattle.types.specs.Types.{SomeFields, FieldIs}
 use Rattle.types.proofs.Alike.{Small}
 
 -- ---- one field

@@ -1,37 +1,36 @@
 -- A TYPE from its parts: the two passes are the definition's fields, and with the two diagnostics before them the statement. Assumes nothing.
-use Prim.Native.Nat.{ℕ, _+_, _*_, _%_, _≤_, _<_}
+use Prim.Native.Nat.{ℕ, _+_, _≤_, _<_}
 use mathlib.Core.Path.{_≡_, refl, sym, ap, _∙_, subst}
-use mathlib.Core.Bool.{Bool, true, false, not}
+use mathlib.Core.Bool.{Bool, not}
 use mathlib.Core.Logic.{_⊎_, inl, inr}
-use mathlib.Core.List.{List, [], _∷_, _++_, append-nil}
+use mathlib.Core.List.{List, [], append-nil}
 use mathlib.Core.Option.{some}
 use native.Mathlib.Omega.{arith}
 use lib.Dec.{eqb}
 use lib.ListN.{length, getD, List·getD-eq-default}
 use borrow.Author.Tests.{eqb-true}
-use Rattle.words.specs.Word.{wordOf, payOf}
+use Rattle.words.specs.Word.{payOf}
 use Rattle.expr.specs.Expr.{Expr}
-use Rattle.expr.proofs.Parts.{First, wrote-first, pay-is}
+use Rattle.expr.proofs.Parts.{wrote-first, pay-is}
 use Rattle.tree.specs.Sorts.{FieldDecl as FieldRow, typeDef as typeKind, sorts, numberOf}
 use Rattle.tree.specs.Tree.{Tree, row as oneRow, rows as manyRows, word, list, done, cons, Stmt, count, wordsT, Right, over}
 use Rattle.tree.specs.Stands.{Stands}
-use Rattle.views.specs.View.{FieldDecl, rowsOf, items, fieldDecl, View, TypeDef, view}
+use Rattle.views.specs.View.{FieldDecl, rowsOf, items, fieldDecl, TypeDef, view}
 use Rattle.parts.specs.Over.{field-rows-over}
-use Rattle.table.specs.Rows.{Row, width, noteWidth, find, remove, Holds}
+use Rattle.table.specs.Rows.{Row, find, remove, Holds}
 use Rattle.table.specs.Laws.{order}
 use Rattle.entries.specs.Entries.{entryKey, has, rowWord, typeRow}
-use Rattle.steps.specs.State.{State, running, stopped, Step, _⨾_, when, asking, push}
+use Rattle.steps.specs.State.{State, running, stopped, when, asking, push}
 use Rattle.steps.specs.declared.Counts.{Counts}
-use Rattle.steps.specs.Held.{Fit, Held, Sized, Does, Notes, Rows, changing, entering, noting}
+use Rattle.steps.specs.Held.{Fit, Held, Does, Notes, Rows, changing, entering, noting}
 use Rattle.steps.specs.Compose.{then, same, notes-does, asked, stays-asking, stays-when, stays-push}
 use Rattle.collect.specs.Diagnostics.{typeDefined, typeInside}
-use Rattle.collect.specs.Seen.{Seen, see}
+use Rattle.collect.specs.Seen.{see}
 use Rattle.collect.specs.Collect.{given, fields, typeDef, statement}
-use Rattle.collect.specs.Code.{StmtAt, Collects}
-use Rattle.types.specs.Types.{SomeType, CollectsType, SomeFields, checks, total, keeps, Checks, Enters, Defines}
+use Rattle.types.specs.Types.{SomeType, CollectsType, SomeFields, checks, keeps, Checks, Enters, Defines}
 use Rattle.types.specs.declared.Summed.{Summed}
 use Rattle.types.proofs.Laws.{same-none, Put, fields-split, checks-rows}
-use Rattle.types.proofs.Alike.{Entering, put-does}
+use Rattle.types.proofs.Alike.{put-does}
 use Rattle.types.proofs.Walk.{rows-small}
 
 -- what is asked of the rows before anything is done

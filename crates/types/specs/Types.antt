@@ -1,7 +1,7 @@
 -- What the code of TYPE asks and promises: a field's code, what looking at the fields in order does, and which are kept. Definitions only.
 use Prim.Native.Nat.{ℕ, _+_, _*_, _≤_, _<_}
 use mathlib.Core.Path.{_≡_}
-use mathlib.Core.Bool.{Bool, true, false, _&&_, _||_}
+use mathlib.Core.Bool.{Bool, false, _&&_, _||_}
 use mathlib.Core.List.{List, [], _∷_, _++_}
 use mathlib.Core.Option.{some}
 use lib.Dec.{leb, eqb}
@@ -15,9 +15,9 @@ use Rattle.views.specs.View.{FieldDecl, head, arg, rowsOf, fieldDecl}
 use Rattle.table.specs.Rows.{Row, noteWidth, Holds}
 use Rattle.entries.specs.Entries.{has, fieldRow}
 use Rattle.lookup.specs.Lookup.{typeWords}
-use Rattle.steps.specs.State.{State, running, Step, _⨾_, nothing, asking, each, stop, enter, push}
+use Rattle.steps.specs.State.{running, Step, _⨾_, nothing, asking, each, stop, enter, push}
 use Rattle.steps.specs.declared.Counts.{Counts}
-use Rattle.steps.specs.Held.{Held, Sized, Does, Notes, Rows}
+use Rattle.steps.specs.Held.{Held, Does, Notes, Rows}
 use Rattle.collect.specs.Diagnostics.{fieldTwice, containsItself, fieldUndefined}
 use Rattle.collect.specs.Collect.{FieldInfo, fieldRows, given, fields}
 use Rattle.collect.specs.Code.{StmtAt, Collects}

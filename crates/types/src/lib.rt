@@ -78,15 +78,7 @@ fn is_kept(b: &[u32], count: usize, owner: u32, field: u32, f: FieldAt) -> bool
 }
 
 // Whether one of the n fields from `at` on has the name and a type that may stand there: the first such one is kept.
-fn said(
-    words: &[u32],
-    b: &[u32],
-    count: usize,
-    owner: u32,
-    at: usize,
-    n: u32,
-    field: u32,
-) -> bool
+fn said(words: &[u32], b: &[u32], count: usize, owner: u32, at: usize, n: u32, field: u32) -> bool
     requires { ⌜ (count * width ≤ length (now b)) × SomeFields (now words) at n ⌝ }
     ensures { λ r. ⌜ ((rows : List Row) → Holds rows count (now (b .entry)) → Upto (now (words .entry)) at n (λ fs. r ≡ saidOf rows owner field fs)) ⌝ }
 {
@@ -135,15 +127,7 @@ fn reject(d: &mut [u32], s: Counts, code: u32, line: u32, owner: u32, f: FieldAt
 }
 
 // A field looked at: its diagnostic, or its words, and 9 where they are too many.
-fn look(
-    b: &[u32],
-    d: &mut [u32],
-    s: Summed,
-    code: u32,
-    line: u32,
-    owner: u32,
-    f: FieldAt,
-) -> Summed
+fn look(b: &[u32], d: &mut [u32], s: Summed, code: u32, line: u32, owner: u32, f: FieldAt) -> Summed
     requires { ⌜ Fit (s .counts) (length (now b)) (length (now d)) × (s .words ≤ 65535) × (owner < 16777216) × (f .name < 16777216) × (f .arg < 16777216) ⌝ }
     ensures { λ r. ⌜ Looks line owner code (f .name) (f .head) (f .arg) s r (now (b .entry)) (now (d .entry)) (now (d .exit)) ⌝ }
 {

@@ -1,17 +1,12 @@
+-- The loop of the second pass: what is left to enter does the same as all of it. Assumes nothing.
 use Rattle.types.proofs.Walk.{fewer}
-use Prim.Native.Nat.{_+_, _-_, _*_, _≤_, _<_}
-use mathlib.Core.Path.{_≡_, refl, sym, ap, _∙_, subst}
+use Prim.Native.Nat.{_-_}
+use mathlib.Core.Path.{_≡_, refl, _∙_}
 use native.Mathlib.Omega.{arith}
 use lib.ListN.{length}
-use borrow.Author.Needs.{needs}
 use Rattle.types.proofs.Entering.{EnteringMid, entering-all, entering-some, entering-next, entering-done}
 use Rattle.types.proofs.enter_fields.Statement.{statement}
 use Rattle.types.proofs.enter_fields.Tie as tie
-use Rattle.types.proofs.enter_fields.Reads as reads
-use Rattle.types.proofs.enter_fields.Lts as lts
-use Rattle.types.proofs.field_at.Reads as field-at-reads
-use Rattle.types.proofs.field_code.Reads as field-code-reads
-use Rattle.types.proofs.keep.Reads as keep-reads
 
 abbrev Inv-loop : tie.InvT-loop
 Inv-loop words b₀ owner at n c₀ a₀ i₀ b c a i = (length b ≡ length b₀) × EnteringMid words at n owner (c₀ .counts) b₀ c a i b
@@ -19,39 +14,30 @@ Inv-loop words b₀ owner at n c₀ a₀ i₀ b c a i = (length b ≡ length b�
 abbrev μ-loop : tie.MeasureT-loop
 μ-loop words b₀ owner at n c₀ a₀ i₀ b c a i = n - i
 
--- src/lib.rt:244:5
 loop-holds : tie.Need-loop-holds Inv-loop μ-loop
 loop-holds c = (refl, entering-all (c .before .before .pre .0))
 
--- src/lib.rt:245:13
 field-at-requires : tie.Need-field-at-requires Inv-loop μ-loop
 field-at-requires c κs = entering-some (c .before .before .before .before .pre .1) (c .before .loop .inv .1) (c .loop-test .taken)
 
--- src/lib.rt:247:13
 field-code-requires : tie.Need-field-code-requires Inv-loop μ-loop
 field-code-requires c κs = (c .before .before .before .before .loop .inv .1 .fit, fewer (c .before .before .before .before .before .before .before .pre .1) (c .before .before .before .before .loop .inv .1 .upto), c .before .before .field-at .ensures .arg-small)
 
--- src/lib.rt:248:9
 keep-requires : tie.Need-keep-requires Inv-loop μ-loop
 keep-requires c κs = (c .before .before .before .before .before .before .loop .inv .1 .fit, c .before .before .before .before .before .before .loop .inv .1 .few, omega (arith, c .before .before .before .before .before .before .loop .inv .1 .fields, c .before .before .before .before .before .loop-test .taken, c .before .before .before .before .before .before .before .before .before .pre .3), c .before .before .before .before .before .before .before .before .before .pre .2, c .before .before .before .before .field-at .ensures .arg-small)
 
--- src/lib.rt:250:9
 add-i : tie.Need-add-i Inv-loop μ-loop
 add-i c = omega (arith, c .before .before .before .before .before .before .before .before .loop-test .taken)
 
--- src/lib.rt:244:5
 loop-less : tie.Need-loop-less Inv-loop μ-loop
 loop-less c = omega (arith, c .before .before .before .before .before .before .before .before .loop-test .taken)
 
--- src/lib.rt:244:5
 loop-again : tie.Need-loop-again Inv-loop μ-loop
 loop-again c = (c .before .before .keep .kept .0 ∙ c .before .before .before .before .before .before .before .before .before .loop .inv .0, entering-next (c .before .before .before .before .before .before .before .before .before .loop .inv .1) (c .before .before .before .before .before .before .before .before .loop-test .taken) _ (c .before .before .before .before .before .before .before .field-at .ensures) _ (c .before .before .before .before .field-code .ensures) (c .before .before .keep .ensures))
 
--- src/lib.rt:233:1
 same-length : tie.Need-same-length Inv-loop μ-loop
 same-length c = c .before .before .loop .inv .0
 
--- src/lib.rt:233:1
 returns : tie.Need-returns Inv-loop μ-loop
 returns c = entering-done (c .before .before .loop .inv .1) (λ h. omega (arith, h, c .before .loop-test .left))
 

@@ -1,3 +1,4 @@
+-- A field of that name, and its type's code. Assumes nothing.
 use Prim.Native.Nat.{ℕ}
 use mathlib.Core.Path.{refl, ap}
 use lib.Dec.{eqb}
@@ -5,19 +6,13 @@ use borrow.Author.Tests.{eq-eqb, ne-eqb}
 use borrow.Author.Needs.{needs}
 use Rattle.types.proofs.is_kept.Statement.{statement}
 use Rattle.types.proofs.is_kept.Tie as tie
-use Rattle.types.proofs.is_kept.Reads as reads
-use Rattle.types.proofs.is_kept.Lts as lts
-use Rattle.types.proofs.type_code.Reads as type-code-reads
 
--- src/lib.rt:75:9
 returns : tie.Need-returns
 returns c = λ rows H. rw (ne-eqb _ _ (c .if1 .taken)) refl
 
--- src/lib.rt:77:5
 type-code-requires : tie.Need-type-code-requires
 type-code-requires c κs = search needs
 
--- src/lib.rt:70:1
 returns-2 : tie.Need-returns-2
 returns-2 c = λ rows H. rw (eq-eqb _ _ (c .before .if1 .left)) (ap (λ (k : ℕ). eqb k 0) (c .type-code .ensures rows H))
 

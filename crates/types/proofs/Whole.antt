@@ -134,11 +134,11 @@ module _ {ws : List ℕ} {at : ℕ} where
       p = type-there T
 
       below : (ns : List ℕ) (x : ℕ) → getD ns x 0 ≡ 1 → x < length ns
-      below ns x e = pickIt (order x (length ns))
+      below ns x e = go (order x (length ns))
         where
-          pickIt : (x < length ns) ⊎ (length ns ≤ x) → x < length ns
-          pickIt (inl h) = h
-          pickIt (inr h) =
+          go : (x < length ns) ⊎ (length ns ≤ x) → x < length ns
+          go (inl h) = h
+          go (inr h) =
               let z : _≡_ {A = ℕ} 0 1 = sym (List·getD-eq-default ns 0 h) ∙ e in
               absurd (omega arith)
 

@@ -1,0 +1,48 @@
+// Readers of the parts that statements share: a type, and an AS clause.
+ghost use Prim.Native.Nat.{ℕ};
+ghost use Rattle.tree.specs.Sorts.{TypeRef as TypeSort, opt, nil, _&_};
+ghost use Rattle.tree.specs.Tree.{one};
+ghost use Rattle.tree.specs.Stands.{SomeTree};
+ghost use Rattle.parts.specs.Parts.{TypeIs, AsTypeIs};
+
+// A type as a row has it: its head's kind and its argument, 0 if it has none, and the place past it. Head 0, argument 0: there is none.
+pub struct TypeAt {
+    pub head: u32,
+    pub arg: u32,
+    pub next: usize,
+}
+
+// The type at a place. Strings of a fixed length and records have an argument.
+pub fn type_ref(words: &[u32], at: usize) -> TypeAt
+    requires { ⌜ SomeTree (one TypeSort) (now words) at ⌝ }
+    ensures { λ r. ⌜ TypeIs (now (words .entry)) at r ⌝ }
+{
+    let k = words[at] / 16777216;
+    if k < 44 {
+        return TypeAt {
+            head: k,
+            arg: 0,
+            next: at + 1,
+        };
+    }
+    TypeAt {
+        head: k,
+        arg: words[at + 1] % 16777216,
+        next: at + 2,
+    }
+}
+
+// The AS clause at a place, where there is one: the word 0 where not.
+pub fn as_type(words: &[u32], at: usize) -> TypeAt
+    requires { ⌜ SomeTree (one (opt (TypeSort & nil))) (now words) at ⌝ }
+    ensures { λ r. ⌜ AsTypeIs (now (words .entry)) at r ⌝ }
+{
+    if words[at] == 0 {
+        return TypeAt {
+            head: 0,
+            arg: 0,
+            next: at + 1,
+        };
+    }
+    type_ref(words, at)
+}

@@ -1,9 +1,13 @@
-// Readers of the parts that statements share: a type, and an AS clause.
-ghost use Prim.Native.Nat.{ℕ};
+// Parts that statements share: a type, an AS clause, and whether a name's suffix says another type.
+ghost use mathlib.Core.Path.{_≡_};
+ghost use Rattle.strings.specs.Name.{suffix};
+ghost use Rattle.strings.specs.Table.{stringAt};
 ghost use Rattle.tree.specs.Sorts.{TypeRef as TypeSort, opt, nil, _&_};
 ghost use Rattle.tree.specs.Tree.{one};
 ghost use Rattle.tree.specs.Stands.{SomeTree};
-ghost use Rattle.parts.specs.Parts.{TypeIs, AsTypeIs};
+ghost use Rattle.views.specs.View.{TypeRef, head as headOfType};
+ghost use Rattle.collect.specs.Collect.{lastOf, disagrees};
+ghost use Rattle.parts.specs.Parts.{TypeIs, AsTypeIs, NameAt};
 
 // A type as a row has it: its head's kind and its argument, 0 if it has none, and the place past it. Head 0, argument 0: there is none.
 pub struct TypeAt {
@@ -45,4 +49,29 @@ pub fn as_type(words: &[u32], at: usize) -> TypeAt
         };
     }
     type_ref(words, at)
+}
+
+// One of % & ! # $.
+fn is_suffix(b: u8) -> bool
+    ensures { λ r. ⌜ r ≡ suffix b ⌝ }
+{
+    if b == 33 {
+        return true;
+    }
+    if b < 35 {
+        return false;
+    }
+    b <= 38
+}
+
+// Whether a name ends in a suffix of another type than the one with this head. A record counts as a double.
+pub fn differs(bytes: &[u8], ends: &[u32], name: u32, head: u32) -> bool
+    requires { ⌜ NameAt (now bytes) (now ends) name ⌝ }
+    ensures { λ r. ⌜ ((ty : TypeRef) → head ≡ headOfType ty → r ≡ disagrees (lastOf (stringAt (now (bytes .entry)) (now (ends .entry)) name)) ty) ⌝ }
+{
+    let last = leaves::last_byte(bytes, ends, name);
+    if !is_suffix(last) {
+        return false;
+    }
+    lookup::from_type_ref(head) != lookup::from_suffix(last)
 }

@@ -195,9 +195,10 @@ fn indexed(words: &[u32], at: usize, name: u32) -> Target
     }
     let n = words[at + 1] % 16777216;
     let s = exprs(words, at + 2, name, n);
+    let own = s.first;
     Target {
         target: named(words[at] % 16777216, name, n),
-        own: s.first,
+        own,
         next: s.next,
     }
 }
@@ -208,11 +209,13 @@ fn lvalue(words: &[u32], at: usize, name: u32) -> Target
     ensures { λ r. ⌜ SeeksTarget (now (words .entry)) at name r ⌝ }
 {
     let t = indexed(words, at, name);
-    let fields = words[t.next] % 16777216;
+    let target = t.target;
+    let own = t.own;
+    let next = t.next;
     Target {
-        target: t.target,
-        own: t.own,
-        next: t.next + 1 + fields as usize,
+        target,
+        own,
+        next: next + 1 + (words[next] % 16777216) as usize,
     }
 }
 
@@ -364,22 +367,27 @@ fn field(words: &[u32], at: usize, name: u32, sort: u8) -> Walked
 {
     if sort == 9 {
         let e = expr(words, at, name);
+        let own = e.first;
         return Walked {
-            own: e.first,
+            own,
             nested: no_use(),
             next: e.next,
         };
     }
     if sort == 10 {
         let s = stmt(words, at, name);
+        let nested = s.first;
         return Walked {
             own: no_use(),
-            nested: s.first,
+            nested,
             next: s.next,
         };
     }
     let p = plans::plan_for(words, at, sort);
-    each(words, at + p.same, name, p.row, p.times)
+    let c = p.same;
+    let r = p.row;
+    let n = p.times;
+    each(words, at + c, name, r, n)
 }
 
 // A statement: its targets and its own expressions, then the statements in it.
@@ -446,5 +454,6 @@ pub fn subscript_count(words: &[u32], at: usize, name: u32) -> Use
     ensures { λ r. ⌜ ((ns : List ℕ) (n : ℕ) (v : Tree Expr (one body)) (end : ℕ) → Stands (now (words .entry)) ns n at v end → useOf r ≡ subscriptCount (λ name (e : Expr). inExpr name e) name v) ⌝ }
 {
     let w = field(words, at, name, 68);
-    w.nested
+    let first = w.nested;
+    first
 }

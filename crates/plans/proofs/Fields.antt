@@ -1,25 +1,24 @@
 -- A field of each sort, as some words and then rows of fields: what `plan_for` goes by. Assumes nothing.
-use Prim.Native.Nat.{ℕ, zero, suc, _+_, _-_, _*_, _/_, _≤_, _<_, max}
+use Prim.Native.Nat.{ℕ, zero, suc, _+_, _-_, _*_, _≤_, _<_, max}
 use native.Mathlib.Nat.{add-zero}
 use native.Mathlib.Omega.{arith}
 use mathlib.Core.Path.{_≡_, refl, sym, ap, subst, _∙_}
-use mathlib.Core.Bool.{Bool, true, false, not, _&&_, false≢true}
+use mathlib.Core.Bool.{Bool, true, false, _&&_, false≢true}
 use mathlib.Core.List.{List, [], _∷_, _++_, append-nil}
-use lib.Dec.{lit<, eqb, ltb, leb}
+use lib.Dec.{lit<}
 use lib.ListN.{length, take, drop, getD}
 use borrow.Author.Tests.{lt-ltb, eq-eqb}
-use Rattle.words.specs.Word.{wordOf, kindOf, payOf, pick}
+use Rattle.words.specs.Word.{wordOf, kindOf, payOf}
 use Rattle.expr.specs.Expr.{Expr}
-use Rattle.expr.specs.Stands.{Wrote}
 use Rattle.expr.proofs.Parts.{wrote-first, kind-is, pay-is}
-use Rattle.tree.specs.Sorts.{Leaf, Sort, leaf, expr, stmt, many, group, either, never, Sorts, nil, _&_, opt, kinds, sorts, flag, whole, letter, oneOf, named, quoted, exprs, body, GotoTarget, TypeRef, PrintItem, CaseClause, ResumeTarget, LValue, Declarator, Param, ScopeItem, FieldDecl, FieldSlice, DataItem, Case}
-use Rattle.tree.specs.Tree.{Shape, one, row, rows, Tree, word, value, Stmt, list, part, this, that, done, cons, none, more, count, kindL, wordsT, Right, depthT}
+use Rattle.tree.specs.Sorts.{Leaf, Sort, leaf, many, group, never, Sorts, nil, opt, kinds, sorts}
+use Rattle.tree.specs.Tree.{one, row, rows, Tree, word, list, part, this, that, done, none, more, count, wordsT, Right, depthT}
 use Rattle.tree.specs.Stands.{Stands, SomeTree}
 use Rattle.tree.specs.Reader.{isAt}
 use Rattle.tree.specs.Codes.{parts, allRows, rowOf, singles, sortAt, chain, codes, partCodes, stmtCodes}
-use Rattle.tree.proofs.Complete.{may, mayR, clear, clearR, clear-kind, not-first}
-use Rattle.tree.proofs.Steps.{sizeS, sizeR, size-many, size-group, size-opt, small-row, row-chain, length-chain, sort-opt}
-use Rattle.plans.specs.Pieces.{Piece, pieces}
+use Rattle.tree.proofs.Complete.{may, mayR, clear, clearR, not-first}
+use Rattle.tree.proofs.Steps.{sizeS, sizeR, size-group, size-opt, small-row, row-chain, length-chain, sort-opt}
+use Rattle.plans.specs.Pieces.{pieces}
 use Rattle.plans.specs.Plans.{Opened, Planned, Listed}
 
 -- a type's heads one after another

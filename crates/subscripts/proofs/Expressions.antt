@@ -1,5 +1,5 @@
 -- The first use of a name in an expression, itself before what stands in it. Assumes nothing.
-use Prim.Native.Nat.{ℕ, zero, suc, _+_, _-_, _<_, _≤_}
+use Prim.Native.Nat.{ℕ, zero, suc, _+_, _<_, _≤_}
 use native.Mathlib.Omega.{arith}
 use mathlib.Core.Path.{_≡_, refl, sym, ap, ap₂, _∙_}
 use mathlib.Core.Logic.{_⊎_, inl, inr, ⊎-elim}
@@ -14,7 +14,7 @@ use Rattle.expr.specs.Expr.{Strings, Expr, Exprs, Lit, Var, Elem, Unary, Binary
 use Rattle.expr.specs.Stands.{Wrote, Stands, StandsAll}
 use Rattle.expr.proofs.Parts.{wrote-first, wrote-left, wrote-right, pay-is}
 use Rattle.expr.proofs.Nodes.{kind-of}
-use Rattle.skip.specs.Shape.{SomeExpr, front, children, back, Shaped}
+use Rattle.skip.specs.Shape.{SomeExpr, front, children, back}
 use Rattle.skip.specs.declared.Shape.{Shape}
 use Rattle.skip.proofs.Laws.{ShapedAt, inside}
 use Rattle.subscripts.specs.Subscripts.{orElse, firstOf, subscripted, inExpr, inExprs}

@@ -1,17 +1,17 @@
 -- Parts of statements in which no statement stands: options, the items of PRINT, lists of rows. Assumes nothing.
-use Prim.Native.Nat.{ℕ, zero, suc, _+_, _<_, _≤_}
+use Prim.Native.Nat.{ℕ, _+_, _<_, _≤_}
 use native.Mathlib.Omega.{arith}
-use mathlib.Core.Path.{_≡_, refl, sym, ap, ap₂, _∙_}
-use mathlib.Core.List.{List, [], _∷_, _++_, append-nil}
-use mathlib.Core.Option.{Option, none as nothing, some}
+use mathlib.Core.Path.{_≡_, refl, sym, ap, _∙_}
+use mathlib.Core.List.{List, [], _∷_, append-nil}
+use mathlib.Core.Option.{Option, none as nothing}
 use lib.ListN.{length, getD}
 use Rattle.words.specs.Word.{wordOf, kindOf, payOf}
-use Rattle.expr.specs.Expr.{Expr, Lit, Var, Elem, Unary, Binary, Call, Field, Paren, words, kindE}
+use Rattle.expr.specs.Expr.{Expr, Lit, Var, Elem, Unary, Binary, Call, Field, Paren, kindE}
 use Rattle.expr.specs.Stands.{Wrote}
 use Rattle.expr.specs.Stands as W
-use Rattle.expr.proofs.Parts.{wrote-first, wrote-left, wrote-right, kind-is, pay-is}
+use Rattle.expr.proofs.Parts.{wrote-first, wrote-left, wrote-right, kind-is}
 use Rattle.expr.proofs.Nodes.{kind-of, within}
-use Rattle.tree.specs.Sorts.{Sort, Sorts, expr, nil, _&_, opt, many, group, PrintItem}
+use Rattle.tree.specs.Sorts.{Sort, Sorts, expr, nil, _&_, opt, many, PrintItem}
 use Rattle.tree.specs.Tree.{strings, Shape, one, row, rows, Tree, word, value, list, part, this, that, done, cons, none, more, count, wordsT, Right}
 use Rattle.tree.specs.Stands.{Stands, SomeTree}
 use Rattle.tree.proofs.Nodes.{InList, in-list, in-more}

@@ -1,30 +1,30 @@
 -- Statements of the kinds with targets, or with expressions in another order than their words; and the uses of all others. Assumes nothing.
-use Prim.Native.Nat.{ℕ, zero, suc, _+_, _-_, _<_, _≤_}
+use Prim.Native.Nat.{ℕ, suc, _+_, _<_, _≤_}
 use native.Mathlib.Omega.{arith}
 use mathlib.Core.Path.{_≡_, refl, sym, ap, ap₂, subst, _∙_}
-use mathlib.Core.Bool.{Bool, true, false, _&&_, _||_, false≢true}
-use mathlib.Core.List.{List, [], _∷_, _++_, append-nil}
+use mathlib.Core.Bool.{Bool, true, false, _&&_, false≢true}
+use mathlib.Core.List.{List, [], _∷_, _++_}
 use mathlib.Core.Option.{Option, none as nothing, some}
-use lib.Dec.{eqb, leb, ltb}
+use lib.Dec.{eqb, ltb}
 use lib.ListN.{length, getD}
 use borrow.Author.Tests.{le-leb, lt-leb, ne-eqb, eqb-true, eqb-false, ltb-true, ltb-false}
-use Rattle.words.specs.Word.{wordOf, kindOf, payOf, pick}
+use Rattle.words.specs.Word.{kindOf, payOf}
 use Rattle.expr.specs.Expr.{Expr}
 use Rattle.expr.specs.Stands as W
 use Rattle.expr.proofs.Parts.{wrote-first, pay-is}
-use Rattle.tree.specs.Sorts.{Leaf, Sort, leaf, expr, stmt, many, group, either, never, Sorts, nil, _&_, opt, exprs, quoted, PrintItem, LValue as LValueRow, Kind, sorts, numberOf, kindAt, kinds, label, labelName, let′, print, input, lineInput, if, for, while, doLoop, goto, gosub, return, onGoto, onGosub, dim, declare, shared, static, redim, sub, function, call, midAssign, swap, const, exitLoop, exitProc, optionBase, typeDef, fieldAssign, data′, read, defType, beep, erase, raiseError, onError, resume, locate, color, randomize, restore, cls, selectCase, end′, stop, open′, close, width, field′, setField, getPut, lock}
+use Rattle.tree.specs.Sorts.{Sort, leaf, expr, stmt, many, group, either, never, Sorts, nil, _&_, opt, exprs, quoted, PrintItem, LValue as LValueRow, Kind, sorts, numberOf, kindAt, kinds, label, labelName, let′, print, input, lineInput, if, for, while, doLoop, goto, gosub, return, onGoto, onGosub, dim, declare, shared, static, redim, sub, function, call, midAssign, swap, const, exitLoop, exitProc, optionBase, typeDef, fieldAssign, data′, read, defType, beep, erase, raiseError, onError, resume, locate, color, randomize, restore, cls, selectCase, end′, stop, open′, close, width, field′, setField, getPut, lock}
 use Rattle.tree.specs.Tree.{strings, Shape, one, row, rows, Tree, word, value, Stmt, list, part, this, that, done, cons, none, more, wordsT, Right}
 use Rattle.tree.specs.Stands.{Stands, SomeTree}
 use Rattle.skip.specs.Shape.{SomeExpr}
 use Rattle.plans.proofs.Walk.{head-kind, of-number, fields}
 use Rattle.views.specs.View.{LValue, lvalue, optional, expressions, items}
-use Rattle.views.specs.Uses.{own, Uses, plain, uses}
+use Rattle.views.specs.Uses.{own, plain, uses}
 use Rattle.subscripts.specs.Subscripts.{orElse, firstOf, inExpr, inLvalue, inStmt, subscriptCount}
 use Rattle.subscripts.specs.Code.{useOf, SeeksExpr, SeeksOwn, IndexedAt, SeeksIndexed, SeeksTarget, SeeksTargets, KindAt, SeeksStmt, targeted}
 use Rattle.subscripts.specs.declared.Use.{Use}
 use Rattle.subscripts.specs.declared.Sought.{Sought}
 use Rattle.subscripts.specs.declared.Target.{Target}
-use Rattle.subscripts.proofs.Expressions.{orElse-assoc, orElse-none, firstOf-append}
+use Rattle.subscripts.proofs.Expressions.{orElse-none, firstOf-append}
 use Rattle.subscripts.proofs.Lists.{cons-left, cons-right, cons-last, part-row, moved, value-there}
 
 -- the use of a name in an expression

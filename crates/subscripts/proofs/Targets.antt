@@ -1,31 +1,29 @@
 -- Assignment targets: a name with its indices, a target with its field names, a list of targets. Assumes nothing.
-use Prim.Native.Nat.{ℕ, zero, suc, _+_, _<_, _≤_}
+use Prim.Native.Nat.{ℕ, _+_, _<_, _≤_}
 use native.Mathlib.Omega.{arith}
-use mathlib.Core.Path.{_≡_, refl, sym, ap, ap₂, _∙_}
+use mathlib.Core.Path.{_≡_, refl, sym, ap, _∙_}
 use mathlib.Core.Bool.{Bool, true, false}
-use mathlib.Core.List.{List, [], _∷_, _++_, append-nil}
+use mathlib.Core.List.{List, [], _++_, append-nil}
 use mathlib.Core.Option.{Option, none as nothing, some}
 use lib.Dec.{eqb}
-use lib.ListN.{length, getD, length-append}
-use Rattle.words.specs.Word.{wordOf, kindOf, payOf, pick}
+use lib.ListN.{length, getD}
+use Rattle.words.specs.Word.{payOf, pick}
 use Rattle.expr.specs.Expr.{Expr, Exprs, many}
-use Rattle.expr.specs.Stands.{Wrote}
 use Rattle.expr.specs.Stands as W
 use Rattle.expr.proofs.Parts.{wrote-first, pay-is}
-use Rattle.tree.specs.Sorts.{Sort, Sorts, expr, nil, _&_, opt, exprs, named, many as manySort, LValue as LValueRow}
-use Rattle.tree.specs.Tree.{strings, Shape, one, row, rows, Tree, word, value, list, part, this, that, done, cons, none, more, count, wordsT, Right}
+use Rattle.tree.specs.Sorts.{expr, nil, _&_, opt, exprs, named, many as manySort, LValue as LValueRow}
+use Rattle.tree.specs.Tree.{strings, one, row, rows, Tree, word, value, list, part, this, that, done, cons, none, more, count, wordsT, Right}
 use Rattle.tree.specs.Stands.{Stands, SomeTree}
 use Rattle.tree.proofs.Nodes.{InList, in-list}
 use Rattle.plans.proofs.Members.{members, many-members, members-there}
-use Rattle.views.specs.View.{LValue, lvalue, optional, expressions, expression, items, rowsOf}
+use Rattle.views.specs.View.{lvalue, optional, expressions, expression, items, rowsOf}
 use Rattle.views.specs.Uses.{own}
 use Rattle.subscripts.specs.Subscripts.{orElse, firstOf, inExpr, inExprs, indexed, inLvalue}
 use Rattle.subscripts.specs.Code.{useOf, SomeExprs, SeeksExprs, IndexedAt, SeeksIndexed, SeeksTarget, SeeksTargets}
 use Rattle.subscripts.specs.declared.Use.{Use}
 use Rattle.subscripts.specs.declared.Sought.{Sought}
 use Rattle.subscripts.specs.declared.Target.{Target}
-use Rattle.subscripts.proofs.Expressions.{orElse-none}
-use Rattle.subscripts.proofs.Lists.{cons-left, cons-right, cons-last, part-row, moved, foldRows, ownOf, own-rows, ListRead, list-start, list-next, list-step, list-done}
+use Rattle.subscripts.proofs.Lists.{cons-left, cons-right, cons-last, moved, foldRows, ownOf, own-rows, ListRead, list-start, list-next, list-step, list-done}
 
 -- ---- a list of expressions in a row
 

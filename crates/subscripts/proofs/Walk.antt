@@ -1,20 +1,19 @@
 -- What the walk over statements by the table of fields finds, part by part. Assumes nothing.
-use Prim.Native.Nat.{ℕ, _+_, _-_, _<_, _≤_}
-use native.Mathlib.Omega.{arith}
-use mathlib.Core.Path.{_≡_, refl, sym, ap, ap₂, subst, _∙_}
-use mathlib.Core.Bool.{true, false}
+use Prim.Native.Nat.{ℕ, _+_, _-_, _<_}
+use mathlib.Core.Path.{_≡_, refl, sym, ap, ap₂, _∙_}
+use mathlib.Core.Bool.{false}
 use mathlib.Core.List.{List, [], _∷_, _++_}
-use mathlib.Core.Option.{Option, none as nothing, some}
+use mathlib.Core.Option.{none as nothing}
 use lib.ListN.{getD}
 use Rattle.words.specs.Word.{kindOf}
 use Rattle.expr.specs.Expr.{Expr}
-use Rattle.tree.specs.Sorts.{expr, stmt, body, Sorts, Kind, sorts, numberOf}
-use Rattle.tree.specs.Tree.{strings, Shape, one, row, rows, Tree, word, value, Stmt, list, part, this, that, done, cons, none, more}
+use Rattle.tree.specs.Sorts.{expr, stmt, body, Sorts, numberOf}
+use Rattle.tree.specs.Tree.{strings, Shape, one, row, Tree, word, value, Stmt, list, part, this, that, done, cons, none, more}
 use Rattle.tree.specs.Stands.{Stands, SomeTree}
 use Rattle.tree.specs.Codes.{codes, sortAt, rowOf}
 use Rattle.skip.specs.Shape.{SomeExpr}
 use Rattle.plans.specs.Pieces.{Piece, exprPiece, stmtPiece, pieces}
-use Rattle.plans.specs.Plans.{Walks, WalksRows}
+use Rattle.plans.specs.Plans.{Walks}
 use Rattle.plans.proofs.Walk.{walks-as, in-value, value-done, WalkedRows, rows-step, WalkedRow, row-step, head-kind, stmt-row, fields, body-sort}
 use Rattle.views.specs.Uses.{own, plain, uses}
 use Rattle.subscripts.specs.Subscripts.{orElse, firstOf, inExpr, inStmt, subscriptCount}

@@ -1,19 +1,19 @@
 -- What the contracts of the code of `subscript_count` cite. These are definitions.
-use Prim.Native.Nat.{ℕ, _+_, _<_}
+use Prim.Native.Nat.{ℕ, _+_}
 use mathlib.Core.Path.{_≡_}
-use mathlib.Core.Bool.{Bool, true, false, _||_, _&&_}
+use mathlib.Core.Bool.{Bool, _||_, _&&_}
 use mathlib.Core.List.{List, [], _∷_}
 use mathlib.Core.Option.{Option, none as nothing, some}
 use lib.Dec.{eqb, leb}
-use lib.ListN.{length, getD}
+use lib.ListN.{getD}
 use Rattle.words.specs.Word.{kindOf, payOf, pick}
 use Rattle.expr.specs.Expr.{Strings, Expr, Exprs, Lit, Var, Elem, Unary, Binary, Call, Field, Paren, many}
 use Rattle.expr.specs.Stands as W
-use Rattle.tree.specs.Sorts.{stmt, exprs, nil, _&_, opt, many as manySort, LValue as LValueRow, numberOf, Kind, sorts}
+use Rattle.tree.specs.Sorts.{stmt, exprs, nil, _&_, opt, many as manySort, LValue as LValueRow}
 use Rattle.tree.specs.Tree.{Shape, one, row, Tree, Stmt}
 use Rattle.tree.specs.Stands.{Stands, SomeTree}
 use Rattle.plans.specs.Pieces.{Piece, exprPiece, stmtPiece}
-use Rattle.views.specs.View.{LValue, lvalue, optional, expressions, items}
+use Rattle.views.specs.View.{lvalue, optional, expressions, items}
 use Rattle.views.specs.Uses.{own}
 use Rattle.subscripts.specs.Subscripts.{orElse, firstOf, subscripted, inExpr, inExprs, inLvalue, subscriptCount}
 use Rattle.subscripts.specs.declared.Use.{Use}

@@ -22,7 +22,7 @@ pub enum Answer {
 }
 
 // What the walk found.
-fn answer(u: Use) -> Answer
+fn found(u: Use) -> Answer
     ensures { λ r. ⌜ told r ≡ gives (useOf u) ⌝ }
 {
     if u.found {
@@ -42,7 +42,7 @@ fn count_in(at: usize, words: &[u32], names: &[u8], name: u32) -> Answer
     if !lent::is_name(names, name) {
         return Answer::Refused(Refusal::Lookup);
     }
-    answer(subscripts::subscript_count(words, 0, name))
+    found(subscripts::subscript_count(words, 0, name))
 }
 
 // Where the names' marks are known: numbers 2 and 3.

@@ -1,3 +1,5 @@
 pub mod Subscripts
 pub mod Blind
 pub mod Examples
+pub mod Over
+pub mod Code

@@ -1,0 +1,176 @@
+// The walk of collecting: each statement, then its bodies, those of a procedure in its own scope. By the table of fields, in one pass over the words.
+use steps::Counts;
+ghost use mathlib.Core.Path.{_≡_};
+ghost use Prim.Native.Nat.{_≤_};
+ghost use lib.ListN.{length};
+ghost use Rattle.tree.specs.Sorts.{stmt as stmtSort, body};
+ghost use Rattle.tree.specs.Tree.{one, row as rowShape};
+ghost use Rattle.tree.specs.Codes.{sortAt, rowOf};
+ghost use Rattle.tree.specs.Stands.{SomeTree};
+ghost use Rattle.plans.specs.Plans.{Listed};
+ghost use Rattle.collecting.specs.Walk.{Ready, ReadyRows, Walked, WalkedRows, Stated, InsideAt};
+
+// The counts, and the place past what was walked.
+pub struct Moved {
+    pub counts: Counts,
+    pub next: usize,
+}
+
+// The scope of the bodies of the statement at `at`: SUB and FUNCTION have their own.
+fn inside(words: &[u32], at: usize, scope: u32) -> u32
+    requires { ⌜ SomeTree (one stmtSort) (now words) at × (scope ≤ 16777216) ⌝ }
+    ensures { λ r. ⌜ InsideAt (now (words .entry)) at scope r ⌝ }
+{
+    match words[at] / 16777216 {
+        84 => words[at + 1] % 16777216 + 1,
+        85 => words[at + 1] % 16777216 + 1,
+        _ => scope,
+    }
+}
+
+// One statement, but for its bodies.
+fn statement(
+    words: &[u32],
+    names: &[u8],
+    bytes: &[u8],
+    ends: &[u32],
+    erased: &[u32],
+    b: &mut [u32],
+    d: &mut [u32],
+    s: Counts,
+    scope: u32,
+    at: usize,
+) -> Counts
+    requires { ⌜ Ready (one stmtSort) (now words) (now names) (now bytes) (now ends) scope at s (now b) (now d) ⌝ }
+    ensures { λ r. ⌜ Stated (now (words .entry)) (now (names .entry)) (length (now (ends .entry))) (now (bytes .entry)) (now (ends .entry)) (now (erased .entry)) scope at s r (now (b .entry)) (now (d .entry)) (now (b .exit)) (now (d .exit)) ⌝ }
+{
+    s
+}
+
+// A field of a sort.
+fn field(
+    words: &[u32],
+    names: &[u8],
+    bytes: &[u8],
+    ends: &[u32],
+    erased: &[u32],
+    b: &mut [u32],
+    d: &mut [u32],
+    s: Counts,
+    scope: u32,
+    at: usize,
+    sort: u8,
+) -> Moved
+    requires { ⌜ Ready (one (sortAt sort)) (now words) (now names) (now bytes) (now ends) scope at s (now b) (now d) × Listed sort ⌝ }
+    ensures { λ r. ⌜ Walked (one (sortAt sort)) (now (words .entry)) (now (names .entry)) (now (bytes .entry)) (now (ends .entry)) (now (erased .entry)) scope at (r .next) s (r .counts) (now (b .entry)) (now (d .entry)) (now (b .exit)) (now (d .exit)) ⌝ }
+{
+    if sort == 9 {
+        let next = skip::expr(words, at);
+        return Moved { counts: s, next };
+    }
+    if sort == 10 {
+        return stmt(words, names, bytes, ends, erased, b, d, s, scope, at);
+    }
+    let p = plans::plan_for(words, at, sort);
+    let c = p.same;
+    let r = p.row;
+    let n = p.times;
+    each(words, names, bytes, ends, erased, b, d, s, scope, at + c, r, n)
+}
+
+// A statement, then its bodies.
+fn stmt(
+    words: &[u32],
+    names: &[u8],
+    bytes: &[u8],
+    ends: &[u32],
+    erased: &[u32],
+    b: &mut [u32],
+    d: &mut [u32],
+    s: Counts,
+    scope: u32,
+    at: usize,
+) -> Moved
+    requires { ⌜ Ready (one stmtSort) (now words) (now names) (now bytes) (now ends) scope at s (now b) (now d) ⌝ }
+    ensures { λ r. ⌜ Walked (one stmtSort) (now (words .entry)) (now (names .entry)) (now (bytes .entry)) (now (ends .entry)) (now (erased .entry)) scope at (r .next) s (r .counts) (now (b .entry)) (now (d .entry)) (now (b .exit)) (now (d .exit)) ⌝ }
+{
+    let k = words[at] / 16777216;
+    let inner = inside(words, at, scope);
+    let t = statement(words, names, bytes, ends, erased, b, d, s, scope, at);
+    row(
+        words,
+        names,
+        bytes,
+        ends,
+        erased,
+        b,
+        d,
+        t,
+        inner,
+        at + 1,
+        (k - 64) as usize + 39,
+    )
+}
+
+// So many rows, one after another.
+fn each(
+    words: &[u32],
+    names: &[u8],
+    bytes: &[u8],
+    ends: &[u32],
+    erased: &[u32],
+    b: &mut [u32],
+    d: &mut [u32],
+    s: Counts,
+    scope: u32,
+    at: usize,
+    r: usize,
+    n: u32,
+) -> Moved
+    requires { ⌜ ReadyRows (rowOf r) n (now words) (now names) (now bytes) (now ends) scope at s (now b) (now d) ⌝ }
+    ensures { λ m. ⌜ WalkedRows (rowOf r) n (now (words .entry)) (now (names .entry)) (now (bytes .entry)) (now (ends .entry)) (now (erased .entry)) scope at (m .next) s (m .counts) (now (b .entry)) (now (d .entry)) (now (b .exit)) (now (d .exit)) ⌝ }
+{
+    let mut t = s;
+    let mut a = at;
+    let mut i = 0;
+    while i < n {
+        let m = row(words, names, bytes, ends, erased, b, d, t, scope, a, r);
+        t = m.counts;
+        a = m.next;
+        i += 1;
+    }
+    Moved { counts: t, next: a }
+}
+
+// A row of fields.
+fn row(
+    words: &[u32],
+    names: &[u8],
+    bytes: &[u8],
+    ends: &[u32],
+    erased: &[u32],
+    b: &mut [u32],
+    d: &mut [u32],
+    s: Counts,
+    scope: u32,
+    at: usize,
+    r: usize,
+) -> Moved
+    requires { ⌜ Ready (rowShape (rowOf r)) (now words) (now names) (now bytes) (now ends) scope at s (now b) (now d) ⌝ }
+    ensures { λ m. ⌜ Walked (rowShape (rowOf r)) (now (words .entry)) (now (names .entry)) (now (bytes .entry)) (now (ends .entry)) (now (erased .entry)) scope at (m .next) s (m .counts) (now (b .entry)) (now (d .entry)) (now (b .exit)) (now (d .exit)) ⌝ }
+{
+    let mut t = s;
+    let mut a = at;
+    let mut i = 0;
+    while i < 6 {
+        let k = tree::sort(r, i);
+        if k == 0 {
+            return Moved { counts: t, next: a };
+        }
+        let m = field(words, names, bytes, ends, erased, b, d, t, scope, a, k);
+        t = m.counts;
+        a = m.next;
+        i += 1;
+    }
+    Moved { counts: t, next: a }
+}

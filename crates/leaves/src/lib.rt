@@ -203,7 +203,7 @@ pub fn lookup_array(bytes: &[u8], ends: &[u32], rows: &[u32], scope: u32, name: 
 }
 
 // The last byte of a name.
-fn last_byte(bytes: &[u8], ends: &[u32], name: u32) -> u8
+pub fn last_byte(bytes: &[u8], ends: &[u32], name: u32) -> u8
     requires { ⌜ (sound (now bytes) (now ends) ≡ true) × (isName (namesOf (now bytes) (now ends)) name ≡ true) ⌝ }
     ensures { λ r. ⌜ r ≡ lastByte (stringAt (now (bytes .entry)) (now (ends .entry)) name) ⌝ }
 {

@@ -1,2 +1,3 @@
-pub mod Statements
+pub mod Heads
+pub mod Match
 pub mod Walk

@@ -6,7 +6,7 @@ use mathlib.Core.List.{List}
 use mathlib.Core.Option.{some}
 use lib.ListN.{length}
 use Rattle.expr.specs.Expr.{Expr}
-use Rattle.tree.specs.Sorts.{stmt, Sorts, Kind, sorts}
+use Rattle.tree.specs.Sorts.{stmt, body, Sorts, Kind, sorts}
 use Rattle.tree.specs.Tree.{Shape, one, row, Tree, Stmt, over}
 use Rattle.tree.specs.Stands.{Stands}
 use Rattle.views.specs.View.{view, inner, walk}
@@ -14,7 +14,7 @@ use Rattle.steps.specs.State.{State, Step, _⨾_, nothing, each}
 use Rattle.steps.specs.Held.{Fit, Held, Does}
 use Rattle.steps.specs.declared.Counts.{Counts}
 use Rattle.collect.specs.Seen.{see}
-use Rattle.collect.specs.Collect.{Given, given, statement}
+use Rattle.collect.specs.Collect.{Given, given, statement, collect}
 use Rattle.collect.specs.Code.{Named}
 use Rattle.plans.specs.Pieces.{Piece, exprPiece, stmtPiece}
 use Rattle.plans.specs.Plans.{Shallow, ShallowRows, Walks, WalksRows}
@@ -79,3 +79,8 @@ pub record Stated (ws ns : List ℕ) (n : ℕ) (bytes ends erased : List ℕ) (s
 pub record InsideAt (ws : List ℕ) (at scope within : ℕ) : Type 0 where
   pub fits : within ≤ 16777216
   pub gives : (ns : List ℕ) (n : ℕ) (k : Kind) (line : ℕ) (r : Tree Expr (row (sorts k))) (end : ℕ) → Stands ws ns n at (Stmt k line r) end → within ≡ inner scope (view k (over see r))
+
+-- a list of statements is collected, and the rows stay such that a lent table may have them
+pub record Collects (ws ns bytes ends erased : List ℕ) (scope at next : ℕ) (s r : Counts) (b d b′ d′ : List ℕ) : Type 0 where
+  pub does : (v : Tree Expr (one body)) (end : ℕ) → Stands ws ns (length ends) at v end → (next ≡ end) × Does (λ N D. collect (given (some N) (some D) bytes ends erased) scope (over see v)) s r b d b′ d′
+  pub kept : Kept ns (length ends) r b′ d′

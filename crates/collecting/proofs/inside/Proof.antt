@@ -1,7 +1,7 @@
 -- `inside`: a SUB's or FUNCTION's name plus 1, else the scope around. Assumes nothing.
 use native.Mathlib.Omega.{arith}
 use Rattle.plans.proofs.Walk.{head-range}
-use Rattle.collecting.proofs.Statements.{two-sub, two-function, in-sub, in-function, in-other}
+use Rattle.collecting.proofs.Heads.{two-sub, two-function, in-sub, in-function, in-other}
 use borrow.Author.Needs.{needs}
 use Rattle.collecting.proofs.inside.Statement.{statement}
 use Rattle.collecting.proofs.inside.Tie as tie

@@ -20,7 +20,7 @@ use Rattle.collect.specs.Seen.{see}
 use Rattle.collect.specs.Collect.{Given, given, statement}
 use Rattle.collect.specs.Code.{StmtAt, Collects}
 use Rattle.plans.specs.Plans.{Shallow}
-use Rattle.plans.proofs.Walk.{head-kind, of-number, fields}
+use Rattle.plans.proofs.Walk.{head-kind, head-range, of-number, fields}
 use Rattle.collecting.specs.Walk.{Stated, InsideAt}
 
 -- ---- the scope of its bodies
@@ -233,3 +233,7 @@ nothing-said {ws} {ns} {n} {bytes} {ends} {erased} {scope} {at} {s} {b} {d} fit 
       let q′ : Quiet (numberOf k) = subst Quiet e q in
       same (λ N D. statement (given (some N) (some D) bytes ends erased) scope line (view k (over see f))) (λ N D st. quiet (given (some N) (some D) bytes ends erased) scope line k f q′ st) (nothing-does fit);
 }
+
+-- the kind of a head from its place among the kinds
+pub head-less : {ws ns : List ℕ} {n at end : ℕ} {v : Tree Expr (one stmt)} (j : ℕ) → Stands ws ns n at v end → kindOf (getD ws at 0) - 64 ≡ j → kindOf (getD ws at 0) ≡ 64 + j
+head-less j s e = omega (arith, head-range s)

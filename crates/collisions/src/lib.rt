@@ -1,7 +1,10 @@
 // `check_name_collisions`: each array in row order that has a procedure's or a builtin's name.
+use leaves::Gate;
+use lent::Checked;
 use lookup::Arguments;
 use steps::Counts;
 use table::Found;
+use words::Refusal;
 ghost use mathlib.Core.Path.{_≡_};
 ghost use mathlib.Core.Bool.{true};
 ghost use mathlib.Core.List.{List};
@@ -12,7 +15,9 @@ ghost use Rattle.lookup.specs.Builtins.{isBuiltin};
 ghost use Rattle.lent.specs.Rules.{isName};
 ghost use Rattle.table.specs.Rows.{width};
 ghost use Rattle.steps.specs.Held.{Fit};
+ghost use Rattle.collect.specs.Code.{Named};
 ghost use Rattle.collisions.specs.Collisions.{NamedAt, Collides, Ready, Checks};
+ghost use Rattle.collisions.specs.Entry.{LentReady, Tells, overOf, checkedOf, Entry};
 
 // Whether a name is a builtin function's.
 fn is_builtin(bytes: &[u8], ends: &[u32], name: u32) -> bool
@@ -76,4 +81,59 @@ pub fn collisions(
         i += 1;
     }
     t
+}
+
+// What the entry answers: why the call stopped, or how many diagnostics there are.
+pub enum Collided {
+    Refused(Refusal),
+    Noted(usize),
+}
+
+// Over the n rows of a lent table, into diagnostics of its own: number 8, which leaves zeros.
+fn over(bytes: &[u8], ends: &[u32], rows: &[u32], n: usize, d: &mut [u32]) -> Collided
+    requires { ⌜ LentReady (now bytes) (now ends) (now rows) n ⌝ }
+    ensures { λ r. ⌜ Tells (now (d .entry)) r (now (d .exit)) (overOf (now (bytes .entry)) (now (ends .entry)) (now (rows .entry)) (length (now (d .entry))) n) ⌝ }
+{
+    table::empty(d);
+    let s = Counts {
+        stop: 0,
+        rows: n,
+        notes: 0,
+    };
+    let t = collisions(bytes, ends, rows, d, s);
+    if t.stop != 0 {
+        table::empty(d);
+        return Collided::Refused(Refusal::DiagnosticsFull);
+    }
+    Collided::Noted(t.notes)
+}
+
+// Number 6 before it.
+fn under(bytes: &[u8], ends: &[u32], names: &[u8], rows: &[u32], d: &mut [u32]) -> Collided
+    requires { ⌜ Named (now bytes) (now ends) (now names) ⌝ }
+    ensures { λ r. ⌜ Tells (now (d .entry)) r (now (d .exit)) (checkedOf (now (bytes .entry)) (now (ends .entry)) (now (rows .entry)) (length (now (d .entry)))) ⌝ }
+{
+    match lent::check_rows(rows, names) {
+        Checked::Bad => Collided::Refused(Refusal::Rows),
+        Checked::Rows(n) => over(bytes, ends, rows, n, d),
+    }
+}
+
+// The check over a lent string table and lent rows, which are only read: 5, 1, 6, 8 in this order.
+pub fn check_name_collisions(
+    bytes: &[u8],
+    ends: &[u32],
+    rows: &[u32],
+    d: &mut [u32],
+) -> Collided
+    ensures { λ r. ⌜ Entry (now (bytes .entry)) (now (ends .entry)) (now (rows .entry)) (now (d .entry)) r (now (d .exit)) ⌝ }
+{
+    match leaves::passes(bytes, ends) {
+        Gate::Closed(f) => Collided::Refused(f),
+        Gate::Passed => {
+            let names = strings::names_of(bytes, ends);
+            let n = ends.len();
+            under(bytes, ends, &names[..n], rows, d)
+        }
+    }
 }

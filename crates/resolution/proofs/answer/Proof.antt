@@ -1,3 +1,4 @@
+use Rattle.resolution.specs.Inner.{asked}
 use borrow.Author.Needs.{needs}
 use Rattle.resolution.proofs.answer.Statement.{statement}
 use Rattle.resolution.proofs.answer.Tie as tie
@@ -37,7 +38,8 @@ same-length c = search needs
 
 -- src/lib.rt:229:1
 returns : tie.Need-returns
-returns c = ?
+unfolding asked
+returns c = rw (c .before .before .before .before .before .ask .given .1) (c .before .before .expression-at .ensures)
 
 -- src/lib.rt:229:1
 same-length-2 : tie.Need-same-length-2
@@ -45,7 +47,8 @@ same-length-2 c = search needs
 
 -- src/lib.rt:229:1
 returns-2 : tie.Need-returns-2
-returns-2 c = ?
+unfolding asked
+returns-2 c = rw (c .before .before .before .before .before .ask2 .given .1) (c .before .before .arguments-at .ensures)
 
 -- src/lib.rt:229:1
 same-length-3 : tie.Need-same-length-3
@@ -53,7 +56,8 @@ same-length-3 c = search needs
 
 -- src/lib.rt:229:1
 returns-3 : tie.Need-returns-3
-returns-3 c = ?
+unfolding asked
+returns-3 c = rw (c .before .before .before .before .enum-told .given .1) (c .before .before .program-at .ensures)
 
 pub answer-spec : {M : Type 1} → statement M
 answer-spec =

@@ -1,3 +1,5 @@
+use lib.ListN.{length}
+use Rattle.resolution.proofs.Laws.{stopped, read-is, args-wrong, args-deep}
 use borrow.Author.Needs.{needs}
 use Rattle.resolution.proofs.arguments_at.Statement.{statement}
 use Rattle.resolution.proofs.arguments_at.Tie as tie
@@ -20,7 +22,7 @@ enum-known-s c = search needs
 
 -- src/lib.rt:194:13
 arguments-requires : tie.Need-arguments-requires
-arguments-requires c κs = ?
+arguments-requires c κs = (read-is _ (c .before .before .before .before .list .ensures) (c .before .before .s .given .1), c .before .before .before .before .before .before .before .before .before .pre)
 
 -- src/lib.rt:196:21
 enum-known-s-2 : tie.Need-enum-known-s-2
@@ -40,11 +42,11 @@ returns c = search needs
 
 -- src/lib.rt:176:1
 returns-2 : tie.Need-returns-2
-returns-2 c = ?
+returns-2 c = stopped _ _ (args-wrong (c .before .before .before .before .before .before .before .before .args .names .now) (c .before .before .before .before .before .before .before .before .args .words .now) (c .before .before .before .before .before .before .before .before .args .rows .now) (length (c .before .before .before .before .before .before .before .before .args .out .now)) (c .before .before .before .before .before .before .before .before .args .scope) (c .before .before .before .before .before .before .before .before .args .name) (c .before .before .before .before .before .before .before .before .args .at) (c .before .before .before .list .ensures) (c .before .s2 .given .1))
 
 -- src/lib.rt:176:1
 returns-3 : tie.Need-returns-3
-returns-3 c = ?
+returns-3 c = stopped _ _ (args-deep (c .before .before .before .before .before .before .before .before .args .names .now) (c .before .before .before .before .before .before .before .before .args .words .now) (c .before .before .before .before .before .before .before .before .args .rows .now) (length (c .before .before .before .before .before .before .before .before .args .out .now)) (c .before .before .before .before .before .before .before .before .args .scope) (c .before .before .before .before .before .before .before .before .args .name) (c .before .before .before .before .before .before .before .before .args .at) (c .before .before .before .list .ensures) (c .before .s3 .given .1))
 
 pub arguments-at-spec : {M : Type 1} → statement M
 arguments-at-spec =

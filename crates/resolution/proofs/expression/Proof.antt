@@ -1,6 +1,8 @@
+use mathlib.Core.Path.{refl}
+use Rattle.resolution.proofs.Laws.{stopped, ruled-as, passed-as, expr-span, ready-expr, expr-shut, expr-told}
+use Prim.Native.Nat.{_-_}
 use native.Mathlib.Omega.{arith}
-use mathlib.Core.Path.{refl, sym, subst}
-use Rattle.resolution.proofs.Laws.{stopped, at-shut, expr-span, ready-expr, expr-told}
+use lib.ListN.{length}
 use borrow.Author.Needs.{needs}
 use Rattle.resolution.proofs.expression.Statement.{statement}
 use Rattle.resolution.proofs.expression.Tie as tie
@@ -16,7 +18,7 @@ scope-ok-requires c κs = search needs
 
 -- src/lib.rt:84:9
 sub-ruled : tie.Need-sub-ruled
-sub-ruled c = omega (arith, expr-span (c .before .before .before .before .before .pre .1) (c .before .before .before .before .before .pre .0) .0)
+sub-ruled c = omega (arith, expr-span (c .before .before .before .before .before .args .names .now) (c .before .before .before .before .before .args .words .now) (c .before .before .before .before .before .args .rows .now) (length (c .before .before .before .before .before .args .out .now)) (c .before .before .before .before .before .args .scope) (c .before .before .before .before .before .args .at) (c .before .before .before .before .before .args .end) (c .before .before .before .before .before .pre .1) (c .before .before .before .before .before .pre .0) .0)
 
 -- src/lib.rt:80:11
 ruled-requires : tie.Need-ruled-requires
@@ -32,27 +34,27 @@ enum-known-n c = search needs
 
 -- src/lib.rt:89:44
 mul-resolve-expr : tie.Need-mul-resolve-expr
-mul-resolve-expr c = omega arith
+mul-resolve-expr c = omega (arith, expr-span (c .before .before .before .before .before .before .before .before .before .args .names .now) (c .before .before .before .before .before .before .before .before .before .args .words .now) (c .before .before .before .before .before .before .before .before .before .args .rows .now) (length (c .before .before .before .before .before .before .before .before .before .args .out .now)) (c .before .before .before .before .before .before .before .before .before .args .scope) (c .before .before .before .before .before .before .before .before .before .args .at) (c .before .before .before .before .before .before .before .before .before .args .end) (c .before .before .before .before .before .before .before .before .before .pre .1) (c .before .before .before .before .before .before .before .before .before .pre .0))
 
 -- src/lib.rt:89:44
 sub-resolve-expr : tie.Need-sub-resolve-expr
-sub-resolve-expr c = omega (arith, expr-span (c .before .before .before .before .before .before .before .before .before .pre .1) (c .before .before .before .before .before .before .before .before .before .pre .0) .0)
+sub-resolve-expr c = omega (arith, expr-span (c .before .before .before .before .before .before .before .before .before .args .names .now) (c .before .before .before .before .before .before .before .before .before .args .words .now) (c .before .before .before .before .before .before .before .before .before .args .rows .now) (length (c .before .before .before .before .before .before .before .before .before .args .out .now)) (c .before .before .before .before .before .before .before .before .before .args .scope) (c .before .before .before .before .before .before .before .before .before .args .at) (c .before .before .before .before .before .before .before .before .before .args .end) (c .before .before .before .before .before .before .before .before .before .pre .1) (c .before .before .before .before .before .before .before .before .before .pre .0) .0)
 
 -- src/lib.rt:89:44
 part-resolve-expr-start : tie.Need-part-resolve-expr-start
-part-resolve-expr-start c = omega (arith, expr-span (c .before .before .before .before .before .before .before .before .before .pre .1) (c .before .before .before .before .before .before .before .before .before .pre .0) .0)
+part-resolve-expr-start c = omega (arith, expr-span (c .before .before .before .before .before .before .before .before .before .args .names .now) (c .before .before .before .before .before .before .before .before .before .args .words .now) (c .before .before .before .before .before .before .before .before .before .args .rows .now) (length (c .before .before .before .before .before .before .before .before .before .args .out .now)) (c .before .before .before .before .before .before .before .before .before .args .scope) (c .before .before .before .before .before .before .before .before .before .args .at) (c .before .before .before .before .before .before .before .before .before .args .end) (c .before .before .before .before .before .before .before .before .before .pre .1) (c .before .before .before .before .before .before .before .before .before .pre .0) .0)
 
 -- src/lib.rt:89:44
 part-resolve-expr-end : tie.Need-part-resolve-expr-end
-part-resolve-expr-end c = omega (arith, expr-span (c .before .before .before .before .before .before .before .before .before .pre .1) (c .before .before .before .before .before .before .before .before .before .pre .0) .1)
+part-resolve-expr-end c = omega (arith, expr-span (c .before .before .before .before .before .before .before .before .before .args .names .now) (c .before .before .before .before .before .before .before .before .before .args .words .now) (c .before .before .before .before .before .before .before .before .before .args .rows .now) (length (c .before .before .before .before .before .before .before .before .before .args .out .now)) (c .before .before .before .before .before .before .before .before .before .args .scope) (c .before .before .before .before .before .before .before .before .before .args .at) (c .before .before .before .before .before .before .before .before .before .args .end) (c .before .before .before .before .before .before .before .before .before .pre .1) (c .before .before .before .before .before .before .before .before .before .pre .0) .1)
 
 -- src/lib.rt:89:17
 resolve-expr-requires : tie.Need-resolve-expr-requires
-resolve-expr-requires c κs = ?
+resolve-expr-requires c κs = ready-expr (c .before .before .before .before .before .before .before .before .before .before .before .args .names .now) (c .before .before .before .before .before .before .before .before .before .before .before .args .words .now) (c .before .before .before .before .before .before .before .before .before .before .before .args .rows .now) (length (c .before .before .before .before .before .before .before .before .before .before .before .args .out .now)) (c .before .before .before .before .before .before .before .before .before .before .before .args .scope) (c .before .before .before .before .before .before .before .before .before .before .before .args .at) (c .before .before .before .before .before .before .before .before .before .before .before .args .end) (c .before .before .before .before .before .before .before .before .before .before .before .pre .1) (c .before .before .before .before .before .before .before .before .before .before .before .pre .0) (passed-as (c .before .before .before .before .before .before .scope-ok .ensures) (rw (c .before .before .before .n .given .1) at (c .before .before .before .before .before .ruled .ensures)))
 
 -- src/lib.rt:68:1
 returns : tie.Need-returns
-returns c = ?
+returns c = stopped _ _ (expr-shut (c .before .before .before .before .before .before .before .before .before .args .names .now) (c .before .before .before .before .before .before .before .before .before .args .words .now) (c .before .before .before .before .before .before .before .before .before .args .rows .now) (length (c .before .before .before .before .before .before .before .before .before .args .out .now)) (c .before .before .before .before .before .before .before .before .before .args .scope) (c .before .before .before .before .before .before .before .before .before .args .at) (c .before .before .before .before .before .before .before .before .before .args .end) (c .before .before .before .before .before .before .before .before .before .pre .1) (c .before .before .before .before .before .before .before .before .before .pre .0) _ (ruled-as (c .before .before .before .before .before .before .before .before .before .args .names .now) (c .before .before .before .before .before .before .before .before .before .args .rows .now) ((c .before .before .before .before .before .before .before .before .before .args .end) - (c .before .before .before .before .before .before .before .before .before .args .at)) (length (c .before .before .before .before .before .before .before .before .before .args .out .now)) _ (c .before .before .before .before .scope-ok .ensures) (rw (c .before .f .given .1) at (c .before .before .before .ruled .ensures))))
 
 -- src/lib.rt:68:1
 same-length : tie.Need-same-length
@@ -60,7 +62,7 @@ same-length c = search needs
 
 -- src/lib.rt:68:1
 returns-2 : tie.Need-returns-2
-returns-2 c = ?
+returns-2 c = expr-told (c .before .before .before .before .before .before .before .before .before .before .before .before .before .before .args .names .now) (c .before .before .before .before .before .before .before .before .before .before .before .before .before .before .args .words .now) (c .before .before .before .before .before .before .before .before .before .before .before .before .before .before .args .rows .now) (length (c .before .before .before .before .before .before .before .before .before .before .before .before .before .before .args .out .now)) (c .before .before .before .before .before .before .before .before .before .before .before .before .before .before .args .scope) (c .before .before .before .before .before .before .before .before .before .before .before .before .before .before .args .at) (c .before .before .before .before .before .before .before .before .before .before .before .before .before .before .args .end) (c .before .before .before .before .before .before .before .before .before .before .before .before .before .before .pre .1) (c .before .before .before .before .before .before .before .before .before .before .before .before .before .before .pre .0) refl (passed-as (c .before .before .before .before .before .before .before .before .before .scope-ok .ensures) (rw (c .before .before .before .before .before .before .n .given .1) at (c .before .before .before .before .before .before .before .before .ruled .ensures))) (c .before .before .resolve-expr .ensures)
 
 pub expression-spec : {M : Type 1} → statement M
 expression-spec =

@@ -1,3 +1,8 @@
+use Rattle.words.specs.Sizes.{maxDepth}
+use Rattle.tree.specs.Tree.{strings}
+use Rattle.expr.specs.Reader.{exprAt}
+use lib.ListN.{length}
+use Rattle.resolution.proofs.Laws.{stopped, read-is, expr-wrong, expr-deep}
 use borrow.Author.Needs.{needs}
 use Rattle.resolution.proofs.expression_at.Statement.{statement}
 use Rattle.resolution.proofs.expression_at.Tie as tie
@@ -20,7 +25,7 @@ enum-known-s c = search needs
 
 -- src/lib.rt:168:13
 expression-requires : tie.Need-expression-requires
-expression-requires c κs = ?
+expression-requires c κs = (read-is _ (c .before .before .before .before .expr .ensures) (c .before .before .s .given .1), c .before .before .before .before .before .before .before .before .before .pre)
 
 -- src/lib.rt:170:21
 enum-known-s-2 : tie.Need-enum-known-s-2
@@ -40,11 +45,11 @@ returns c = search needs
 
 -- src/lib.rt:151:1
 returns-2 : tie.Need-returns-2
-returns-2 c = ?
+returns-2 c = stopped _ _ (expr-wrong (c .before .before .before .before .before .before .before .before .args .names .now) (c .before .before .before .before .before .before .before .before .args .words .now) (c .before .before .before .before .before .before .before .before .args .rows .now) (length (c .before .before .before .before .before .before .before .before .args .out .now)) (c .before .before .before .before .before .before .before .before .args .scope) (c .before .before .before .before .before .before .before .before .args .at) (c .before .before .before .expr .ensures) (c .before .s2 .given .1))
 
 -- src/lib.rt:151:1
 returns-3 : tie.Need-returns-3
-returns-3 c = ?
+returns-3 c = stopped _ _ (expr-deep (c .before .before .before .before .before .before .before .before .args .names .now) (c .before .before .before .before .before .before .before .before .args .words .now) (c .before .before .before .before .before .before .before .before .args .rows .now) (length (c .before .before .before .before .before .before .before .before .args .out .now)) (c .before .before .before .before .before .before .before .before .args .scope) (c .before .before .before .before .before .before .before .before .args .at) (c .before .before .before .expr .ensures) (c .before .s3 .given .1))
 
 pub expression-at-spec : {M : Type 1} → statement M
 expression-at-spec =

@@ -1,5 +1,4 @@
-use mathlib.Core.Path.{sym, subst}
-use Rattle.resolution.specs.Inner.{Ruled}
+use lib.ListN.{length}
 use Rattle.resolution.proofs.Laws.{stopped, all-shut, ready-all, all-told}
 use borrow.Author.Needs.{needs}
 use Rattle.resolution.proofs.program.Statement.{statement}
@@ -23,11 +22,11 @@ enum-known-n c = search needs
 
 -- src/lib.rt:140:17
 resolve-array-accesses-requires : tie.Need-resolve-array-accesses-requires
-resolve-array-accesses-requires c κs = ready-all (c .before .before .before .before .before .before .before .before .before .pre .0) (rw (c .before .before .n .given .1) at (c .before .before .before .before .ruled .ensures))
+resolve-array-accesses-requires c κs = ready-all (c .before .before .before .before .before .before .before .before .before .args .names .now) (c .before .before .before .before .before .before .before .before .before .args .words .now) (c .before .before .before .before .before .before .before .before .before .args .rows .now) (length (c .before .before .before .before .before .before .before .before .before .args .out .now)) (c .before .before .before .before .before .before .before .before .before .pre .0) (rw (c .before .before .n .given .1) at (c .before .before .before .before .ruled .ensures))
 
 -- src/lib.rt:133:1
 returns : tie.Need-returns
-returns c = stopped _ _ (all-shut (c .before .before .before .before .before .before .before .before .pre .0) (rw (c .before .f .given .1) at (c .before .before .before .ruled .ensures)))
+returns c = stopped _ _ (all-shut (c .before .before .before .before .before .before .before .before .args .names .now) (c .before .before .before .before .before .before .before .before .args .words .now) (c .before .before .before .before .before .before .before .before .args .rows .now) (length (c .before .before .before .before .before .before .before .before .args .out .now)) (c .before .before .before .before .before .before .before .before .pre .0) _ (rw (c .before .f .given .1) at (c .before .before .before .ruled .ensures)))
 
 -- src/lib.rt:133:1
 same-length : tie.Need-same-length
@@ -35,7 +34,7 @@ same-length c = search needs
 
 -- src/lib.rt:133:1
 returns-2 : tie.Need-returns-2
-returns-2 c = all-told (c .before .before .before .before .before .before .before .before .before .before .before .before .pre .0) (rw (c .before .before .before .before .before .n .given .1) at (c .before .before .before .before .before .before .before .ruled .ensures)) (c .before .before .resolve-array-accesses .ensures)
+returns-2 c = all-told (c .before .before .before .before .before .before .before .before .before .before .before .before .args .names .now) (c .before .before .before .before .before .before .before .before .before .before .before .before .args .words .now) (c .before .before .before .before .before .before .before .before .before .before .before .before .args .rows .now) (length (c .before .before .before .before .before .before .before .before .before .before .before .before .args .out .now)) (c .before .before .before .before .before .before .before .before .before .before .before .before .pre .0) (rw (c .before .before .before .before .before .n .given .1) at (c .before .before .before .before .before .before .before .ruled .ensures)) (c .before .before .resolve-array-accesses .ensures)
 
 pub program-spec : {M : Type 1} → statement M
 program-spec =

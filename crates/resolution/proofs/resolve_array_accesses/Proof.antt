@@ -1,3 +1,4 @@
+use Rattle.resolution.specs.Inner.{asked}
 use borrow.Author.Needs.{needs}
 use Rattle.resolution.proofs.resolve_array_accesses.Statement.{statement}
 use Rattle.resolution.proofs.resolve_array_accesses.Tie as tie
@@ -15,7 +16,8 @@ same-length c = search needs
 
 -- src/lib.rt:304:1
 returns : tie.Need-returns
-returns c = ?
+unfolding asked
+returns c = c .before .before .entry .ensures
 
 pub resolve-array-accesses-spec : {M : Type 1} → statement M
 resolve-array-accesses-spec = tie.close (tie.spec entry-requires same-length returns)

@@ -1,3 +1,4 @@
+use Rattle.resolution.specs.Inner.{asked}
 use borrow.Author.Needs.{needs}
 use Rattle.resolution.proofs.resolve_expr.Statement.{statement}
 use Rattle.resolution.proofs.resolve_expr.Tie as tie
@@ -15,7 +16,8 @@ same-length c = search needs
 
 -- src/lib.rt:266:1
 returns : tie.Need-returns
-returns c = ?
+unfolding asked
+returns c = c .before .before .entry .ensures
 
 pub resolve-expr-spec : {M : Type 1} → statement M
 resolve-expr-spec = tie.close (tie.spec entry-requires same-length returns)

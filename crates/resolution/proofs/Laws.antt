@@ -44,7 +44,7 @@ use Rattle.resolver.specs.Post.{Room, Ready, ReadyAll, Put, Resolved, ResolvedA
 use Rattle.accesses.specs.Post.{ReadyTree, ResolvedTree}
 use Rattle.resolution.specs.Entries.{Taken, Written, takenOf, ruling, rewritten, resolveExprAt, resolveArgsAt, resolveAll, told, counted, written, Tells, Rewrites}
 use Rattle.resolution.specs.Inner.{Passed, Read}
-use Rattle.resolution.specs.declared.Resolution.the-variants.{Wrote, Refused}
+use Rattle.resolution.specs.declared.Resolution.the-variants.{Wrote as Did, Refused}
 use Rattle.resolution.specs.declared.Resolution.{Resolution}
 
 -- ---- 6, 11, 10
@@ -67,12 +67,25 @@ module _ (names rows : List ℕ) (right : Bool) (size room : ℕ) where
   unfolding ruling lentRows after unless
   ruled-yes p = rw (p .rows-are, p .admitted, le-leb size room (p .roomy))
 
+-- the code's test in the place of the definition's
+pub ruled-as : (names rows : List ℕ) (size room : ℕ) {b t : Bool} (s : Refusal) → b ≡ t → ruling names rows b size room ≡ refused s → ruling names rows t size room ≡ refused s
+ruled-as names rows size room s e = subst (λ (x : Bool). ruling names rows x size room ≡ refused s) e
+
+pub passed-as : {names rows : List ℕ} {size room n : ℕ} {b t : Bool} → b ≡ t → Passed names rows b size room n → Passed names rows t size room n
+passed-as {names} {rows} {size} {room} {n} e = subst (λ (x : Bool). Passed names rows x size room n) e
+
 -- ---- what was read
+
+-- where a step ended
+unfoldable upTo : Step → ℕ
+upTo (Passed-by c) = c .at
+upTo (Wrong p) = p
+upTo (Deep p) = p
 
 -- a reading that the code's answer tells
 pub read-is : {A : Type 0} (g : Got A) {s : Step} {m : ℕ} → s ≡ stepOf g → s ≡ Passed-by (record { at = m }) → Read g m
-unfolding stepOf
-read-is (got a k) e q = let z : k ≡ _ = cc in record { tree = a; is = ap (got a) z }
+unfolding stepOf upTo
+read-is (got a k) {m = m} e q = let z : k ≡ m = ap upTo (sym e ∙ q) in record { tree = a; is = ap (got a) z }
 read-is (wrong p) e q =
     let z : _≡_ {A = ℕ} 0 1 = cc in
     absurd (omega arith)
@@ -105,7 +118,7 @@ pub stopped : (f : Refusal) (out : List ℕ) {u : Told Written} → u ≡ refuse
 unfolding told counted written refused
 stopped f out e = rw e (record { answer = refl; output = refl })
 
-pub said : {out last : List ℕ} {end count : ℕ} {w : List ℕ} {u : Told Written} → u ≡ gives (record { words′ = w; end = end }) → count ≡ length w → last ≡ sets out 0 w → Tells (Wrote (record { end = end; count = count })) out last u
+pub said : {out last : List ℕ} {end count : ℕ} {w : List ℕ} {u : Told Written} → u ≡ gives (record { words′ = w; end = end }) → count ≡ length w → last ≡ sets out 0 w → Tells (Did (record { end = end; count = count })) out last u
 unfolding told counted written
 said e c o = rw (e, c) (record { answer = refl; output = o })
 
@@ -122,9 +135,9 @@ module _ {A : Type 0} (names rows : List ℕ) (right : Bool) (at room : ℕ) (f 
   at-deep e q = rw (deep-is g e q)
 
   module _ {end : ℕ} (r : Read g end) where
-    pub at-shut : {s : Refusal} → ruling names rows right (end - at) room ≡ refused s → all ≡ refused s
+    pub at-shut : (s : Refusal) → ruling names rows right (end - at) room ≡ refused s → all ≡ refused s
     unfolding takenOf rewritten after refused
-    at-shut q = rw (r .is, q)
+    at-shut s q = rw (r .is, q)
 
     pub at-open : {n : ℕ} → Passed names rows right (end - at) room n → all ≡ gives (record { words′ = f (tablesOf (rowsOf n rows)) (r .tree); end = end })
     unfolding takenOf rewritten after
@@ -153,12 +166,12 @@ take-short zero (x ∷ l) = omega arith
 take-short (suc k) [] = omega arith
 take-short (suc k) (x ∷ l) = omega (arith, take-short k l)
 
-scope-fits : {names : List ℕ} {scope : ℕ} → length names ≤ maxStrings → scopeOk names scope ≡ true → scope ≤ 16777216
-scope-fits {names} {scope} few e = omega (arith, scope-below names scope e)
+scope-fits : (names : List ℕ) (scope : ℕ) → length names ≤ maxStrings → scopeOk names scope ≡ true → scope ≤ 16777216
+scope-fits names scope few e = omega (arith, scope-below names scope e)
 
 -- ---- an expression
 
-module _ {names ws rows : List ℕ} {room scope at end : ℕ} (few : length names ≤ maxStrings) (r : Read (exprAt ws (strings names (length names)) maxDepth at) end) where
+module _ (names ws rows : List ℕ) (room scope at end : ℕ) (few : length names ≤ maxStrings) (r : Read (exprAt ws (strings names (length names)) maxDepth at) end) where
   stands : Stands ws (strings names (length names)) at (r .tree) end
   stands = let S = sound ws (strings names (length names)) maxDepth at (r .tree) end (r .is) in record { wrote = S .wrote; valid = S .valid }
 
@@ -169,9 +182,13 @@ module _ {names ws rows : List ℕ} {room scope at end : ℕ} (few : length name
   part = let s = stands in record { wrote = wrote-part (s .wrote); valid = s .valid }
 
   pub ready-expr : {n : ℕ} → Passed names rows (scopeOk names scope) (end - at) room n → Ready (take (end - at) (drop at ws)) rows n scope 0 0 room
-  ready-expr p = record { some = record { strings = strings names (length names); tree = r .tree; end = end - at; stands = part }; room = room-for (take (end - at) (drop at ws)) p (take-short (end - at) (drop at ws)) (scope-fits few (p .admitted)) 0 }
+  ready-expr p = record { some = record { strings = strings names (length names); tree = r .tree; end = end - at; stands = part }; room = room-for (take (end - at) (drop at ws)) p (take-short (end - at) (drop at ws)) (scope-fits names scope few (p .admitted)) 0 }
 
-  pub expr-told : {n a t : ℕ} {out last : List ℕ} → room ≡ length out → Passed names rows (scopeOk names scope) (end - at) room n → Resolved (take (end - at) (drop at ws)) rows out last n scope 0 0 a t → Tells (Wrote (record { end = end; count = t })) out last (resolveExprAt names ws rows room scope at)
+  pub expr-shut : (s : Refusal) → ruling names rows (scopeOk names scope) (end - at) room ≡ refused s → resolveExprAt names ws rows room scope at ≡ refused s
+  unfolding resolveExprAt
+  expr-shut s q = at-shut names rows (scopeOk names scope) at room (λ T x. words (resolveExpr T scope x)) _ r s q
+
+  pub expr-told : {n a t : ℕ} {out last : List ℕ} → room ≡ length out → Passed names rows (scopeOk names scope) (end - at) room n → Resolved (take (end - at) (drop at ws)) rows out last n scope 0 0 a t → Tells (Did (record { end = end; count = t })) out last (resolveExprAt names ws rows room scope at)
   unfolding resolveExprAt
   expr-told {n} q p d =
       let e = d .gives (rowsOf n rows) (holds-of p) (strings names (length names)) (r .tree) (end - at) part in
@@ -179,7 +196,7 @@ module _ {names ws rows : List ℕ} {room scope at end : ℕ} (few : length name
 
 -- ---- a list of arguments
 
-module _ {names ws rows : List ℕ} {room scope name at end : ℕ} (few : length names ≤ maxStrings) (r : Read (listAt ws (strings names (length names)) (λ x. exprAt ws (strings names (length names)) maxDepth x) at) end) where
+module _ (names ws rows : List ℕ) (room scope name at end : ℕ) (few : length names ≤ maxStrings) (r : Read (listAt ws (strings names (length names)) (λ x. exprAt ws (strings names (length names)) maxDepth x) at) end) where
   abbrev S : Strings
   S = strings names (length names)
 
@@ -208,17 +225,27 @@ module _ {names ws rows : List ℕ} {room scope name at end : ℕ} (few : length
   abbrev right : Bool
   right = scopeOk names scope && isName names name
 
-  pub ready-args : {n : ℕ} → Passed names rows right (end - at) room n → ReadyAll (take (end - at) (drop at ws)) rows n scope 1 1 room (payOf (getD ws at 0))
-  ready-args p =
+  ready-there : {n : ℕ} → Passed names rows right (end - at) room n → ReadyAll (take (end - at) (drop at ws)) rows n scope 1 1 room (payOf (getD ws at 0))
+  ready-there p =
       let b = and-both (scopeOk names scope) (isName names name) (p .admitted) in
-      record { strings = S; trees = es; end = end - at; stands = listed .there; counted = sym (ap payOf head-is ∙ pay-is 1 (many es) (listed .small)); room = room-for (take (end - at) (drop at ws)) p (take-short (end - at) (drop at ws)) (scope-fits few (b .0)) 1 }
+      record { strings = S; trees = es; end = end - at; stands = listed .there; counted = sym (ap payOf head-is ∙ pay-is 1 (many es) (listed .small)); room = room-for (take (end - at) (drop at ws)) p (take-short (end - at) (drop at ws)) (scope-fits names scope few (b .0)) 1 }
+  -- one word is written already, and the output is as long as it was
+  pub ready-args : {n size : ℕ} → size ≡ room → Passed names rows right (end - at) room n → ReadyAll (take (end - at) (drop at ws)) rows n scope 1 1 size (payOf (getD ws at 0))
+  ready-args {n} {size} q p = rw q (ready-there p)
+
+  pub room-first : {n : ℕ} → Passed names rows right (end - at) room n → 0 < room
+  room-first p = omega (arith, list-span .0, p .roomy)
 
   pub name-fits : {n : ℕ} → Passed names rows right (end - at) room n → name < 16777216
   name-fits p =
       let b = and-both (scopeOk names scope) (isName names name) (p .admitted) in
       omega (arith, name-below names name (b .1))
 
-  pub args-told : {n a t : ℕ} {out last : List ℕ} → Passed names rows right (end - at) room n → ResolvedArgs name (payOf (getD ws at 0)) (take (end - at) (drop at ws)) rows (set out 0 (getD ws at 0)) last n scope 1 1 a t → Tells (Wrote (record { end = end; count = t })) out last (resolveArgsAt names ws rows room scope name at)
+  pub args-shut : (s : Refusal) → ruling names rows right (end - at) room ≡ refused s → resolveArgsAt names ws rows room scope name at ≡ refused s
+  unfolding resolveArgsAt
+  args-shut s q = at-shut names rows right at room (λ T es. wordOf 1 (many es) ∷ wordsAll (resolveArgs T scope (places T name) es)) _ r s q
+
+  pub args-told : {n a t : ℕ} {out last : List ℕ} → Passed names rows right (end - at) room n → ResolvedArgs name (payOf (getD ws at 0)) (take (end - at) (drop at ws)) rows (set out 0 (getD ws at 0)) last n scope 1 1 a t → Tells (Did (record { end = end; count = t })) out last (resolveArgsAt names ws rows room scope name at)
   unfolding resolveArgsAt
   args-told {n} {out = out} {last} p d =
       let T : Tables = tablesOf (rowsOf n rows) in
@@ -229,7 +256,7 @@ module _ {names ws rows : List ℕ} {room scope name at end : ℕ} (few : length
 
 -- ---- a whole tree
 
-module _ {names ws rows : List ℕ} {room : ℕ} (r : Read (programAt ws names (length names)) (length ws)) where
+module _ (names ws rows : List ℕ) (room : ℕ) (r : Read (programAt ws names (length names)) (length ws)) where
   whole-is : programOf names ws ≡ gives (r .tree)
   unfolding programOf wholeOf
   whole-is = rw (r .is, eq-eqb (length ws) (length ws) refl)
@@ -242,23 +269,48 @@ module _ {names ws rows : List ℕ} {room : ℕ} (r : Read (programAt ws names (
   unfolding resolveAll takenOf after
   all-read = rw (whole-is, r .is)
 
-  pub all-shut : {s : Refusal} → ruling names rows true (length ws) room ≡ refused s → resolveAll names ws rows room ≡ refused s
-  all-shut q = all-read ∙ at-shut names rows true 0 room F _ r q
+  whole-size : length ws ≡ length ws - 0
+  whole-size = omega arith
+
+  pub all-shut : (s : Refusal) → ruling names rows true (length ws) room ≡ refused s → resolveAll names ws rows room ≡ refused s
+  all-shut s q = all-read ∙ at-shut names rows true 0 room F _ r s (subst (λ (k : ℕ). ruling names rows true k room ≡ refused s) whole-size q)
 
   pub ready-all : {n : ℕ} → Passed names rows true (length ws) room n → ReadyTree (one body) ws rows n 0 0 0 room
   ready-all p =
       let S = program-sound ws names (length names) (r .tree) (length ws) (r .is) in
       record { some = record { names = names; strings = length names; tree = r .tree; end = length ws; stands = record { wrote = S .wrote; valid = S .valid } }; room = room-for ws p (omega arith) (omega arith) 0 }
 
-  pub all-told : {n a t : ℕ} {out last : List ℕ} → Passed names rows true (length ws) room n → ResolvedTree (one body) ws rows out last n 0 0 0 a t → Tells (Wrote (record { end = length ws; count = t })) out last (resolveAll names ws rows room)
+  pub all-told : {n a t : ℕ} {out last : List ℕ} → Passed names rows true (length ws) room n → ResolvedTree (one body) ws rows out last n 0 0 0 a t → Tells (Did (record { end = length ws; count = t })) out last (resolveAll names ws rows room)
   unfolding resolveArrayAccesses
   all-told {n} p d =
       let S = program-sound ws names (length names) (r .tree) (length ws) (r .is) in
       let e = d .gives (rowsOf n rows) (holds-of p) names (length names) (r .tree) (length ws) (record { wrote = S .wrote; valid = S .valid }) in
-      said (all-read ∙ at-open names rows true 0 room F _ r p) (omega (arith, e .upto)) (e .now)
+      said (all-read ∙ at-open names rows true 0 room F _ r (subst (λ (k : ℕ). Passed names rows true k room n) whole-size p)) (omega (arith, e .upto)) (e .now)
 
 -- words over, and what is wrong or too deep
 module _ (names ws rows : List ℕ) (room : ℕ) where
+  abbrev S₀ : Strings
+  S₀ = strings names (length names)
+
+  pub expr-wrong : (scope at : ℕ) {s : Step} {p : ℕ} → s ≡ stepOf (exprAt ws S₀ maxDepth at) → s ≡ Wrong p → resolveExprAt names ws rows room scope at ≡ refused (Word p)
+  unfolding resolveExprAt
+  expr-wrong scope at e q = at-wrong names rows (scopeOk names scope) at room (λ T x. words (resolveExpr T scope x)) (exprAt ws S₀ maxDepth at) e q
+
+  pub expr-deep : (scope at : ℕ) {s : Step} {p : ℕ} → s ≡ stepOf (exprAt ws S₀ maxDepth at) → s ≡ Deep p → resolveExprAt names ws rows room scope at ≡ refused (Depth p)
+  unfolding resolveExprAt
+  expr-deep scope at e q = at-deep names rows (scopeOk names scope) at room (λ T x. words (resolveExpr T scope x)) (exprAt ws S₀ maxDepth at) e q
+
+  abbrev listed-at : ℕ → Got Exprs
+  listed-at at = listAt ws S₀ (λ x. exprAt ws S₀ maxDepth x) at
+
+  pub args-wrong : (scope name at : ℕ) {s : Step} {p : ℕ} → s ≡ stepOf (listed-at at) → s ≡ Wrong p → resolveArgsAt names ws rows room scope name at ≡ refused (Word p)
+  unfolding resolveArgsAt
+  args-wrong scope name at e q = at-wrong names rows (scopeOk names scope && isName names name) at room (λ T es. wordOf 1 (many es) ∷ wordsAll (resolveArgs T scope (places T name) es)) (listed-at at) e q
+
+  pub args-deep : (scope name at : ℕ) {s : Step} {p : ℕ} → s ≡ stepOf (listed-at at) → s ≡ Deep p → resolveArgsAt names ws rows room scope name at ≡ refused (Depth p)
+  unfolding resolveArgsAt
+  args-deep scope name at e q = at-deep names rows (scopeOk names scope && isName names name) at room (λ T es. wordOf 1 (many es) ∷ wordsAll (resolveArgs T scope (places T name) es)) (listed-at at) e q
+
   pub all-over : {s : Step} {m : ℕ} → s ≡ stepOf (programAt ws names (length names)) → s ≡ Passed-by (record { at = m }) → (m ≡ length ws → ⊥) → resolveAll names ws rows room ≡ refused (Word m)
   unfolding resolveAll programOf wholeOf after refused
   all-over {m = m} e q f = let r = read-is (programAt ws names (length names)) e q in rw (r .is, ne-eqb m (length ws) f)

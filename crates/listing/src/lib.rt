@@ -39,11 +39,10 @@ fn put_answer(
             ends,
             notes,
             rows,
-            words,
+            &words[..n.words],
             Counts {
                 notes: n.notes,
                 rows: n.rows,
-                words: n.words,
             },
         ),
     }

@@ -1,5 +1,5 @@
 -- What an image's test says, and what a caller that has taken an image apart may conclude.
-use Prim.Native.Nat.{ℕ, zero, suc, _+_, _*_, _/_, _≤_}
+use Prim.Native.Nat.{ℕ, zero, suc, _+_, _*_, _/_, _≤_, _<_}
 use native.Mathlib.Omega.{arith}
 use mathlib.Core.Path.{_≡_, refl, sym, ap, _∙_}
 use mathlib.Core.Bool.{Bool, true, false, _&&_}
@@ -103,3 +103,14 @@ not-image l e = go (well l) refl e
     go : (t : Bool) → well l ≡ t → Malformed ≡ pick t (Whole (record { strings = strings l; words = treeWords l; erased = erasedNames l; bytes = byteCount l })) Malformed → pick (well l) (some (parts l)) none ≡ none
     go true q e = absurd (let z : _≡_ {A = ℕ} 0 1 = cc in omega arith)
     go false q e = rw q
+
+-- no image is longer: 12 bytes of counts, 1,024 ends, 8,192 words, 1,024 erased names and 16,384 string bytes
+pub longest : (l : List ℕ) → 57356 < length l → decode l ≡ none
+unfolding decode
+longest l h = go (well l) refl
+  where
+    go : (t : Bool) → well l ≡ t → pick (well l) (some (parts l)) none ≡ none
+    go true q =
+        let f = facts l q in
+        absurd (omega (arith, f .exact, f .strings-fit, f .words-fit, f .erased-fit, f .bytes-fit))
+    go false q = rw q

@@ -6,13 +6,13 @@ use native.Mathlib.Omega.{arith}
 use mathlib.Core.Path.{_≡_, refl, sym, ap, _∙_}
 use mathlib.Core.Bool.{Bool, true, false}
 use mathlib.Core.List.{List, [], _∷_, _++_}
-use borrow.Author.Tests.{eq-eqb, ne-eqb, le-leb}
+use borrow.Author.Tests.{eq-eqb, ne-eqb}
 use lib.ListN.{length, drop, getD, set, drop-of-length-le}
 use lib.Seq.{drop-cons, append-snoc, set-at}
 use Rattle.words.specs.Word.{pick}
-use Rattle.image.specs.Image.{wordAt, wordsAt, strings, treeWords, erasedNames, treeFrom, erasedFrom, bytesFrom, lastEnd, byteCount, zeros, padded, well, opened}
+use Rattle.image.specs.Image.{wordAt, wordsAt, strings, treeWords, erasedNames, treeFrom, erasedFrom, bytesFrom, lastEnd, byteCount, zeros, well, opened}
 use Rattle.image.specs.declared.Opened.the-variants.{Malformed, Whole}
-use Rattle.image.specs.Laws.{length-words, Facts, facts}
+use Rattle.image.specs.Laws.{length-words, Facts, facts, is-well}
 
 -- ---- words read
 
@@ -78,8 +78,8 @@ no l h = go (well l) refl
 
 -- an image, since they hold
 pub yes : (l : List ℕ) → Facts l → Whole (record { strings = strings l; words = treeWords l; erased = erasedNames l; bytes = byteCount l }) ≡ opened l
-unfolding opened well padded bytesFrom erasedFrom treeFrom
-yes l f = rw (le-leb _ _ (f .strings-fit), le-leb _ _ (f .words-fit), le-leb _ _ (f .erased-fit), le-leb _ _ (f .bytes-fit), eq-eqb _ _ (f .exact), f .filled)
+unfolding opened
+yes l f = rw (is-well l f)
 
 -- what the code read of a file
 module _ (l : List ℕ) (s w x b : ℕ) (p : s ≡ wordAt l 0) (q : w ≡ wordAt l 4) (r : x ≡ wordAt l 8) (t : b ≡ lastEnd (wordsAt l 12 s)) where

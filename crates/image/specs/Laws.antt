@@ -5,7 +5,7 @@ use mathlib.Core.Path.{_≡_, refl, sym, ap, _∙_}
 use mathlib.Core.Bool.{Bool, true, false, _&&_}
 use mathlib.Core.List.{List, _++_}
 use mathlib.Core.Option.{Option, none, some}
-use borrow.Author.Tests.{leb-true, eqb-true}
+use borrow.Author.Tests.{leb-true, eqb-true, le-leb, eq-eqb}
 use lib.ListN.{length, take, drop}
 use lib.Seq.{take-at}
 use Rattle.words.specs.Word.{pick}
@@ -27,7 +27,7 @@ front-length l i n old now e = rw (front l i n old now e) (sym (length-words l i
 
 -- ---- the image's test
 
-both : (a b : Bool) → a && b ≡ true → (a ≡ true) × (b ≡ true)
+pub both : (a b : Bool) → a && b ≡ true → (a ≡ true) × (b ≡ true)
 both true b e = (refl, e)
 both false b e = let z : _≡_ {A = Bool} false true = e in (z, absurd (let w : _≡_ {A = ℕ} 0 1 = cc in omega arith))
 
@@ -55,6 +55,10 @@ facts l e =
       exact = eqb-true _ _ (p₅ .0);
       filled = p₅ .1;
     }
+
+pub is-well : (l : List ℕ) → Facts l → well l ≡ true
+unfolding well padded bytesFrom erasedFrom treeFrom
+is-well l f = rw (le-leb _ _ (f .strings-fit), le-leb _ _ (f .words-fit), le-leb _ _ (f .erased-fit), le-leb _ _ (f .bytes-fit), eq-eqb _ _ (f .exact), f .filled)
 
 -- ---- an image by the counts that were read of it
 

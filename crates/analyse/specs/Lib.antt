@@ -1,2 +1,0 @@
-pub mod Analyse
-pub mod Laws

@@ -44,7 +44,7 @@ use Rattle.resolver.specs.Post.{Room, Ready, ReadyAll, Put, Resolved, ResolvedA
 use Rattle.accesses.specs.Post.{ReadyTree, ResolvedTree}
 use Rattle.resolution.specs.Entries.{Taken, Written, takenOf, ruling, rewritten, resolveExprAt, resolveArgsAt, resolveAll, told, counted, written, Tells, Rewrites}
 use Rattle.resolution.specs.Inner.{Passed, Read}
-use Rattle.resolution.specs.declared.Resolution.the-variants.{Wrote, Refused}
+use Rattle.resolution.specs.declared.Resolution.the-variants.{Wrote as Did, Refused}
 use Rattle.resolution.specs.declared.Resolution.{Resolution}
 
 -- ---- 6, 11, 10
@@ -105,7 +105,7 @@ pub stopped : (f : Refusal) (out : List ℕ) {u : Told Written} → u ≡ refuse
 unfolding told counted written refused
 stopped f out e = rw e (record { answer = refl; output = refl })
 
-pub said : {out last : List ℕ} {end count : ℕ} {w : List ℕ} {u : Told Written} → u ≡ gives (record { words′ = w; end = end }) → count ≡ length w → last ≡ sets out 0 w → Tells (Wrote (record { end = end; count = count })) out last u
+pub said : {out last : List ℕ} {end count : ℕ} {w : List ℕ} {u : Told Written} → u ≡ gives (record { words′ = w; end = end }) → count ≡ length w → last ≡ sets out 0 w → Tells (Did (record { end = end; count = count })) out last u
 unfolding told counted written
 said e c o = rw (e, c) (record { answer = refl; output = o })
 
@@ -171,7 +171,7 @@ module _ {names ws rows : List ℕ} {room scope at end : ℕ} (few : length name
   pub ready-expr : {n : ℕ} → Passed names rows (scopeOk names scope) (end - at) room n → Ready (take (end - at) (drop at ws)) rows n scope 0 0 room
   ready-expr p = record { some = record { strings = strings names (length names); tree = r .tree; end = end - at; stands = part }; room = room-for (take (end - at) (drop at ws)) p (take-short (end - at) (drop at ws)) (scope-fits few (p .admitted)) 0 }
 
-  pub expr-told : {n a t : ℕ} {out last : List ℕ} → room ≡ length out → Passed names rows (scopeOk names scope) (end - at) room n → Resolved (take (end - at) (drop at ws)) rows out last n scope 0 0 a t → Tells (Wrote (record { end = end; count = t })) out last (resolveExprAt names ws rows room scope at)
+  pub expr-told : {n a t : ℕ} {out last : List ℕ} → room ≡ length out → Passed names rows (scopeOk names scope) (end - at) room n → Resolved (take (end - at) (drop at ws)) rows out last n scope 0 0 a t → Tells (Did (record { end = end; count = t })) out last (resolveExprAt names ws rows room scope at)
   unfolding resolveExprAt
   expr-told {n} q p d =
       let e = d .gives (rowsOf n rows) (holds-of p) (strings names (length names)) (r .tree) (end - at) part in
@@ -218,7 +218,7 @@ module _ {names ws rows : List ℕ} {room scope name at end : ℕ} (few : length
       let b = and-both (scopeOk names scope) (isName names name) (p .admitted) in
       omega (arith, name-below names name (b .1))
 
-  pub args-told : {n a t : ℕ} {out last : List ℕ} → Passed names rows right (end - at) room n → ResolvedArgs name (payOf (getD ws at 0)) (take (end - at) (drop at ws)) rows (set out 0 (getD ws at 0)) last n scope 1 1 a t → Tells (Wrote (record { end = end; count = t })) out last (resolveArgsAt names ws rows room scope name at)
+  pub args-told : {n a t : ℕ} {out last : List ℕ} → Passed names rows right (end - at) room n → ResolvedArgs name (payOf (getD ws at 0)) (take (end - at) (drop at ws)) rows (set out 0 (getD ws at 0)) last n scope 1 1 a t → Tells (Did (record { end = end; count = t })) out last (resolveArgsAt names ws rows room scope name at)
   unfolding resolveArgsAt
   args-told {n} {out = out} {last} p d =
       let T : Tables = tablesOf (rowsOf n rows) in
@@ -250,7 +250,7 @@ module _ {names ws rows : List ℕ} {room : ℕ} (r : Read (programAt ws names (
       let S = program-sound ws names (length names) (r .tree) (length ws) (r .is) in
       record { some = record { names = names; strings = length names; tree = r .tree; end = length ws; stands = record { wrote = S .wrote; valid = S .valid } }; room = room-for ws p (omega arith) (omega arith) 0 }
 
-  pub all-told : {n a t : ℕ} {out last : List ℕ} → Passed names rows true (length ws) room n → ResolvedTree (one body) ws rows out last n 0 0 0 a t → Tells (Wrote (record { end = length ws; count = t })) out last (resolveAll names ws rows room)
+  pub all-told : {n a t : ℕ} {out last : List ℕ} → Passed names rows true (length ws) room n → ResolvedTree (one body) ws rows out last n 0 0 0 a t → Tells (Did (record { end = length ws; count = t })) out last (resolveAll names ws rows room)
   unfolding resolveArrayAccesses
   all-told {n} p d =
       let S = program-sound ws names (length names) (r .tree) (length ws) (r .is) in

@@ -1,0 +1,3 @@
+pub mod Analyse
+pub mod ReadOff
+pub mod Run

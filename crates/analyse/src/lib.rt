@@ -1,0 +1,173 @@
+// Collecting, the collision check and resolving in one call: rows, diagnostics and resolved words into three lent buffers.
+use reader::Accepted;
+use steps::Counts;
+use strings::Verdict;
+use words::Refusal;
+ghost use mathlib.Core.Path.{_≡_};
+ghost use mathlib.Core.Bool.{true};
+ghost use Prim.Native.Nat.{_≤_};
+ghost use lib.ListN.{length};
+ghost use Rattle.words.specs.Sizes.{maxStrings};
+ghost use Rattle.steps.specs.Held.{Fit};
+ghost use Rattle.collect.specs.Code.{Named};
+ghost use Rattle.analyse.specs.Analyse.{Tells, Analyses, work, zeroing};
+ghost use Rattle.analyse.specs.Run.{Passed, Collected, Compared, Tabled, Numbered};
+
+// How many diagnostics, rows and resolved words stand in their buffers.
+pub struct Given {
+    pub notes: usize,
+    pub rows: usize,
+    pub words: usize,
+}
+
+pub enum Answer {
+    Refused(Refusal),
+    Done(Given),
+}
+
+// STAND-IN for the walk of collecting.
+fn collect(
+    words: &[u32],
+    names: &[u8],
+    bytes: &[u8],
+    ends: &[u32],
+    erased: &[u32],
+    rows: &mut [u32],
+    notes: &mut [u32],
+    s: Counts,
+) -> Counts
+    requires { ⌜ Passed (now bytes) (now ends) (now erased) (now words) (now names) × Fit s (length (now rows)) (length (now notes)) ⌝ }
+    ensures { λ r. ⌜ Collected (now (bytes .entry)) (now (ends .entry)) (now (erased .entry)) (now (words .entry)) (now (names .entry)) s r (now (rows .entry)) (now (notes .entry)) (now (rows .exit)) (now (notes .exit)) ⌝ }
+{
+    s
+}
+
+// STAND-IN for the collision check.
+fn check_name_collisions(
+    bytes: &[u8],
+    ends: &[u32],
+    rows: &mut [u32],
+    notes: &mut [u32],
+    s: Counts,
+) -> Counts
+    requires { ⌜ Fit s (length (now rows)) (length (now notes)) ⌝ }
+    ensures { λ r. ⌜ Compared (now (bytes .entry)) (now (ends .entry)) s r (now (rows .entry)) (now (notes .entry)) (now (rows .exit)) (now (notes .exit)) ⌝ }
+{
+    s
+}
+
+// Rows and diagnostics of a program that passed the checks; a run that stops leaves zeros.
+fn tables(
+    words: &[u32],
+    names: &[u8],
+    bytes: &[u8],
+    ends: &[u32],
+    erased: &[u32],
+    rows: &mut [u32],
+    notes: &mut [u32],
+) -> Counts
+    requires { ⌜ Passed (now bytes) (now ends) (now erased) (now words) (now names) ⌝ }
+    ensures { λ r. ⌜ Tabled (now (bytes .entry)) (now (ends .entry)) (now (erased .entry)) (now (words .entry)) r (now (rows .entry)) (now (notes .entry)) (now (rows .exit)) (now (notes .exit)) ⌝ }
+{
+    let s = steps::begin(rows, notes);
+    let c = collect(words, names, bytes, ends, erased, rows, notes, s);
+    let d = check_name_collisions(bytes, ends, rows, notes, c);
+    steps::finish(rows, notes, d)
+}
+
+// The refusal of a stopped run.
+fn refusal(stop: u32) -> Refusal
+    requires { ⌜ zeroing stop ≡ true ⌝ }
+    ensures { λ r. ⌜ Numbered stop r ⌝ }
+{
+    match stop {
+        7 => Refusal::RowsFull,
+        8 => Refusal::DiagnosticsFull,
+        _ => Refusal::TypeWords,
+    }
+}
+
+// A program that passed the checks, into an output that is long enough.
+fn run(
+    words: &[u32],
+    names: &[u8],
+    bytes: &[u8],
+    ends: &[u32],
+    erased: &[u32],
+    notes: &mut [u32],
+    rows: &mut [u32],
+    out: &mut [u32],
+) -> Answer
+    requires { ⌜ Passed (now bytes) (now ends) (now erased) (now words) (now names) × (length (now words) ≤ length (now out)) ⌝ }
+    ensures { λ r. ⌜ Tells r (now (notes .entry)) (now (rows .entry)) (now (out .entry)) (now (notes .exit)) (now (rows .exit)) (now (out .exit)) (work (length (now (rows .entry))) (length (now (notes .entry))) (length (now (out .entry))) (now (bytes .entry)) (now (ends .entry)) (now (erased .entry)) (now (words .entry))) ⌝ }
+{
+    let s = tables(words, names, bytes, ends, erased, rows, notes);
+    if s.stop != 0 {
+        return Answer::Refused(refusal(s.stop));
+    }
+    let w = accesses::resolve_array_accesses(words, rows, s.rows, 0, out, 0, 0);
+    let count = w.to;
+    Answer::Done(Given {
+        notes: s.notes,
+        rows: s.rows,
+        words: count,
+    })
+}
+
+// Where the names' marks are known: 2 or 3, 4, 10, and then the run.
+fn checked(
+    words: &[u32],
+    names: &[u8],
+    bytes: &[u8],
+    ends: &[u32],
+    erased: &[u32],
+    notes: &mut [u32],
+    rows: &mut [u32],
+    out: &mut [u32],
+) -> Answer
+    requires { ⌜ Named (now bytes) (now ends) (now names) × (length (now names) ≤ maxStrings) ⌝ }
+    ensures { λ r. ⌜ Tells r (now (notes .entry)) (now (rows .entry)) (now (out .entry)) (now (notes .exit)) (now (rows .exit)) (now (out .exit)) (work (length (now (rows .entry))) (length (now (notes .entry))) (length (now (out .entry))) (now (bytes .entry)) (now (ends .entry)) (now (erased .entry)) (now (words .entry))) ⌝ }
+{
+    match reader::check_program(words, erased, names) {
+        Accepted::Refused(f) => Answer::Refused(f),
+        Accepted::Fine => {
+            if out.len() < words.len() {
+                return Answer::Refused(Refusal::Output);
+            }
+            run(words, names, bytes, ends, erased, notes, rows, out)
+        }
+    }
+}
+
+// A refusal leaves the buffers as they came, but for 7, 8 and 9, which leave rows and diagnostics zero.
+pub fn analyse(
+    bytes: &[u8],
+    ends: &[u32],
+    words: &[u32],
+    erased: &[u32],
+    notes: &mut [u32],
+    rows: &mut [u32],
+    out: &mut [u32],
+) -> Answer
+    ensures { λ r. ⌜ Analyses (now (bytes .entry)) (now (ends .entry)) (now (erased .entry)) (now (words .entry)) r (now (notes .entry)) (now (rows .entry)) (now (out .entry)) (now (notes .exit)) (now (rows .exit)) (now (out .exit)) ⌝ }
+{
+    if !reader::sized_program(bytes, ends, words, erased) {
+        return Answer::Refused(Refusal::Size);
+    }
+    let v = strings::check(bytes, ends);
+    if let Verdict::Breaks(p) = v {
+        return Answer::Refused(Refusal::Strings(p));
+    }
+    let names = strings::names_of(bytes, ends);
+    let n = ends.len();
+    checked(
+        words,
+        &names[..n],
+        bytes,
+        ends,
+        erased,
+        notes,
+        rows,
+        out,
+    )
+}

@@ -4,21 +4,17 @@ use Prim.Native.Nat.{ℕ, zero, suc, _+_, _*_, _/_, _≤_, _<_}
 use native.Mathlib.Numerals.{add-one}
 use native.Mathlib.Omega.{arith}
 use mathlib.Core.Path.{_≡_, refl, sym, ap, _∙_}
-use mathlib.Core.Bool.{Bool, true, false, _&&_}
+use mathlib.Core.Bool.{Bool, true, false}
 use mathlib.Core.List.{List, [], _∷_, _++_}
-use borrow.Author.Tests.{eq-eqb, ne-eqb, le-leb, leb-true, eqb-true}
+use borrow.Author.Tests.{eq-eqb, ne-eqb}
 use lib.ListN.{length, drop, getD, set, drop-of-length-le}
 use lib.Seq.{drop-cons, append-snoc, set-at}
 use Rattle.words.specs.Word.{pick}
-use Rattle.image.specs.Image.{wordAt, wordsAt, strings, treeWords, erasedNames, treeFrom, erasedFrom, bytesFrom, lastEnd, byteCount, zeros, padded, well, opened}
+use Rattle.image.specs.Image.{wordAt, wordsAt, strings, treeWords, erasedNames, treeFrom, erasedFrom, bytesFrom, lastEnd, byteCount, zeros, well, opened}
 use Rattle.image.specs.declared.Opened.the-variants.{Malformed, Whole}
+use Rattle.image.specs.Laws.{length-words, Facts, facts, is-well}
 
 -- ---- words read
-
-pub length-words : (l : List ℕ) (i n : ℕ) → length (wordsAt l i n) ≡ n
-unfolding wordsAt
-length-words l i zero = refl
-length-words l i (suc n) = ap suc (length-words l (i + 4) n)
 
 words-snoc : (l : List ℕ) (i n : ℕ) → wordsAt l i (suc n) ≡ wordsAt l i n ++ (wordAt l (i + 4 * n) ∷ [])
 unfolding wordsAt
@@ -71,35 +67,6 @@ zeros-end l i h = rw (drop-of-length-le l {i = i} h)
 
 -- ---- the image's test
 
-both : (a b : Bool) → a && b ≡ true → (a ≡ true) × (b ≡ true)
-both true b e = (refl, e)
-both false b e = let z : _≡_ {A = Bool} false true = e in (z, absurd (let w : _≡_ {A = ℕ} 0 1 = cc in omega arith))
-
-pub record Facts (l : List ℕ) : Type 0 where
-  pub strings-fit : strings l ≤ 1024
-  pub words-fit : treeWords l ≤ 8192
-  pub erased-fit : erasedNames l ≤ 1024
-  pub bytes-fit : byteCount l ≤ 16384
-  pub exact : length l ≡ 12 + 4 * strings l + 4 * treeWords l + 4 * erasedNames l + (byteCount l + 3) / 4 * 4
-  pub filled : zeros (drop (bytesFrom l + byteCount l) l) ≡ true
-
-pub facts : (l : List ℕ) → well l ≡ true → Facts l
-unfolding well padded bytesFrom erasedFrom treeFrom
-facts l e =
-    let p₁ = both _ _ e in
-    let p₂ = both _ _ (p₁ .1) in
-    let p₃ = both _ _ (p₂ .1) in
-    let p₄ = both _ _ (p₃ .1) in
-    let p₅ = both _ _ (p₄ .1) in
-    record {
-      strings-fit = leb-true _ _ (p₁ .0);
-      words-fit = leb-true _ _ (p₂ .0);
-      erased-fit = leb-true _ _ (p₃ .0);
-      bytes-fit = leb-true _ _ (p₄ .0);
-      exact = eqb-true _ _ (p₅ .0);
-      filled = p₅ .1;
-    }
-
 -- not an image, since a fact fails
 pub no : (l : List ℕ) → (Facts l → ⊥) → Malformed ≡ opened l
 unfolding opened
@@ -111,8 +78,8 @@ no l h = go (well l) refl
 
 -- an image, since they hold
 pub yes : (l : List ℕ) → Facts l → Whole (record { strings = strings l; words = treeWords l; erased = erasedNames l; bytes = byteCount l }) ≡ opened l
-unfolding opened well padded bytesFrom erasedFrom treeFrom
-yes l f = rw (le-leb _ _ (f .strings-fit), le-leb _ _ (f .words-fit), le-leb _ _ (f .erased-fit), le-leb _ _ (f .bytes-fit), eq-eqb _ _ (f .exact), f .filled)
+unfolding opened
+yes l f = rw (is-well l f)
 
 -- what the code read of a file
 module _ (l : List ℕ) (s w x b : ℕ) (p : s ≡ wordAt l 0) (q : w ≡ wordAt l 4) (r : x ≡ wordAt l 8) (t : b ≡ lastEnd (wordsAt l 12 s)) where

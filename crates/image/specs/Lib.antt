@@ -1,1 +1,3 @@
 pub mod Image
+pub mod Laws
+pub mod File

@@ -1,55 +1,93 @@
-//! The boundary: lengths that just fit and don't, the tail, and memory that is not lent.
+//! The boundary: lengths that just fit and don't, the tail, memory that is not lent. What a listing says is for `listings.rs`.
 #![cfg(analyser)]
 
+mod common;
+
 use analyser::{ENOUGH, listing, listing_of};
-use std::fs;
-use std::path::Path;
+use common::{Guard, guarded};
 
-fn sample(name: &str, ending: &str) -> Vec<u8> {
-    let folder = Path::new(env!("CARGO_MANIFEST_DIR")).join("../../samples");
-    fs::read(folder.join(name).with_extension(ending)).expect("a sample")
+/// What a byte holds before the call.
+const MARK: u8 = 0x55;
+
+/// The longest image: 1,024 names of 16 bytes, all erased, and 8,191 statements of one word.
+fn longest() -> Vec<u8> {
+    let words =
+        |ws: &mut dyn Iterator<Item = u32>| -> Vec<u8> { ws.flat_map(u32::to_le_bytes).collect() };
+    let mut file = words(&mut [1_024, 8_192, 1_024].into_iter());
+    file.extend(words(&mut (1..=1_024).map(|n| 16 * n)));
+    file.extend(words(
+        &mut std::iter::once(0x0100_1fff).chain((1..8_192).map(|_| 0x6b00_0001)),
+    ));
+    file.extend(words(&mut (0..1_024)));
+    file.extend((0..1_024).flat_map(|n| format!("A{n:015}").into_bytes()));
+    assert_eq!(file.len(), 57_356);
+    file
 }
 
-const SAMPLES: [&str; 14] = [
-    "codes",
-    "constants",
-    "example",
-    "logscan",
-    "option-base",
-    "refused-1",
-    "refused-2",
-    "refused-3",
-    "refused-4",
-    "refused-5",
-    "refused-7",
-    "refused-8",
-    "refused-9",
-    "scopes",
-];
+/// Files of every sort: none, damaged, short, long, refused, listed.
+fn files() -> Vec<Vec<u8>> {
+    let mut files: Vec<_> = common::samples().into_iter().map(|s| s.image).collect();
+    files.extend([
+        vec![],
+        vec![0],
+        vec![0; 11],
+        vec![0; 12],
+        vec![255; 12],
+        vec![1; 57_356],
+    ]);
+    files.extend([
+        longest(),
+        [longest(), vec![0; 4]].concat(),
+        vec![1; 1 << 20],
+    ]);
+    files
+}
+
+fn text(file: &[u8]) -> String {
+    String::from_utf8(listing_of(file)).expect("ASCII")
+}
 
 #[test]
-fn samples_have_their_listings() {
-    for name in SAMPLES {
-        let text = String::from_utf8(listing_of(&sample(name, "img"))).expect("ASCII");
-        let wanted = String::from_utf8(sample(name, "list")).expect("ASCII");
-        assert_eq!(text, wanted, "{name}");
+fn no_image() {
+    for file in [
+        &[][..],
+        &[0],
+        &[0; 11],
+        &[255; 12],
+        &[1; 57_356],
+        &[0; 57_360],
+        &vec![1; 1 << 20],
+    ] {
+        assert_eq!(text(file), "E 5\n", "{} bytes", file.len());
     }
+    assert_eq!(text(&[0; 12]), "E 2\n", "no words: no list of statements");
 }
 
 #[test]
-fn lengths() {
-    for name in SAMPLES {
-        let file = sample(name, "img");
-        let wanted = sample(name, "list");
+fn longest_image() {
+    let file = longest();
+    assert!(
+        text(&file).starts_with('R'),
+        "accepted: {:.20}",
+        text(&file)
+    );
+    assert_eq!(text(&[&file[..], &[0; 4]].concat()), "E 5\n", "a word more");
+    assert_eq!(text(&file[..57_355]), "E 5\n", "a byte less");
+}
+
+#[test]
+fn room() {
+    for file in files() {
+        let wanted = listing_of(&file);
         let n = wanted.len();
-        for room in [n, n + 1, n + 100] {
-            let mut out = vec![0x55; room];
+        for room in [n, n + 1, n + 100, ENOUGH] {
+            let mut out = vec![MARK; room];
             assert_eq!(listing(&file, &mut out), Some(n));
             assert_eq!(out[..n], wanted);
-            assert!(out[n..].iter().all(|b| *b == 0x55), "the tail stays");
+            assert!(out[n..].iter().all(|b| *b == MARK), "the tail stays");
         }
         for room in [n - 1, n / 2, 1, 0] {
-            let mut out = vec![0x55; room];
+            let mut out = vec![MARK; room];
             assert_eq!(listing(&file, &mut out), None);
             assert!(out.iter().all(|b| *b == 0), "all zero");
         }
@@ -57,75 +95,32 @@ fn lengths() {
 }
 
 #[test]
-fn odd_files() {
-    let longest = vec![0; 57_356];
-    for file in [
-        &[][..],
-        &[0],
-        &[0; 11],
-        &[0; 12],
-        &[255; 12],
-        &longest,
-        &[0; 57_360],
-        &vec![1; 1 << 20],
-    ] {
-        assert_eq!(
-            String::from_utf8_lossy(&listing_of(file)).get(..2),
-            Some("E "),
-            "{} bytes",
-            file.len()
-        );
-    }
-}
-
-/// Pages from the system, so that one without access can stand on either side of what is lent.
-mod pages {
-    use std::ffi::c_void;
-
-    unsafe extern "C" {
-        fn mmap(
-            at: *mut c_void,
-            len: usize,
-            prot: i32,
-            flags: i32,
-            fd: i32,
-            offset: i64,
-        ) -> *mut c_void;
-        fn mprotect(at: *mut c_void, len: usize, prot: i32) -> i32;
-        fn munmap(at: *mut c_void, len: usize) -> i32;
-    }
-
-    const PAGE: usize = 4096;
-
-    /// Run `f` on `len` bytes that end, or start, at a page without access.
-    pub fn lent<T>(len: usize, at_end: bool, f: impl FnOnce(&mut [u8]) -> T) -> T {
-        let inside = len.div_ceil(PAGE).max(1) * PAGE;
-        // SAFETY: a mapping of its own, private and anonymous; its two outer pages lose all access.
-        unsafe {
-            let base = mmap(std::ptr::null_mut(), inside + 2 * PAGE, 3, 0x22, -1, 0);
-            assert!(base as isize != -1, "mmap");
-            assert_eq!(mprotect(base, PAGE, 0), 0);
-            assert_eq!(mprotect(base.add(PAGE + inside), PAGE, 0), 0);
-            let start = base.add(PAGE + if at_end { inside - len } else { 0 });
-            let answer = f(std::slice::from_raw_parts_mut(start.cast(), len));
-            munmap(base, inside + 2 * PAGE);
-            answer
-        }
+fn image_stays() {
+    for file in files() {
+        let copy = file.clone();
+        listing_of(&file);
+        assert!(file == copy);
     }
 }
 
 #[test]
 fn guard_pages() {
-    for name in SAMPLES {
-        let file = sample(name, "img");
-        let wanted = sample(name, "list");
-        for at_end in [false, true] {
-            for room in [wanted.len(), wanted.len() - 1, 0, ENOUGH] {
-                pages::lent(file.len(), at_end, |image| {
+    for file in files() {
+        let wanted = listing_of(&file);
+        let n = wanted.len();
+        for room in [n, n + 1, n - 1, 0, ENOUGH] {
+            for (a, b) in [
+                (Guard::Before, Guard::Before),
+                (Guard::Before, Guard::Behind),
+                (Guard::Behind, Guard::Before),
+                (Guard::Behind, Guard::Behind),
+            ] {
+                guarded(file.len(), a, |image| {
                     image.copy_from_slice(&file);
-                    pages::lent(room, at_end, |out| {
-                        let fits = room >= wanted.len();
-                        assert_eq!(listing(image, out), fits.then_some(wanted.len()), "{name}");
+                    guarded(room, b, |out| {
+                        let length = listing(image, out);
+                        assert_eq!(length, (room >= n).then_some(n), "{a:?}, {b:?}");
+                        assert!(length.is_none_or(|n| out[..n] == wanted));
                     });
                 });
             }
@@ -133,10 +128,27 @@ fn guard_pages() {
     }
 }
 
+/// The buffers of a call are on its stack, which need not be large.
 #[test]
 fn little_stack() {
-    let file = sample("codes", "img");
-    let thread = std::thread::Builder::new().stack_size(1 << 20);
-    let done = thread.spawn(move || listing_of(&file)).expect("a thread");
-    assert_eq!(done.join().expect("no overflow"), sample("codes", "list"));
+    for file in files() {
+        let wanted = listing_of(&file);
+        let thread = std::thread::Builder::new().stack_size(1 << 19);
+        let run = thread.spawn(move || listing_of(&file)).expect("a thread");
+        assert_eq!(run.join().expect("no overflow"), wanted);
+    }
+}
+
+/// No state: calls on several threads don't meet.
+#[test]
+fn threads() {
+    std::thread::scope(|s| {
+        for _ in 0..4 {
+            s.spawn(|| {
+                for file in files() {
+                    assert_eq!(listing_of(&file), listing_of(&file));
+                }
+            });
+        }
+    });
 }

@@ -70,29 +70,50 @@ fn median(mut times: Vec<Duration>) -> Duration {
     times[times.len() / 2]
 }
 
-/// Time each side on each set and print a table: the median image and the slowest, each image by the median of its runs.
+/// Time each side on each set and print a table: the median image and the slowest, each image by the median of its runs, and how
+/// many times as fast as the first side that is.
 pub fn report(sets: &[Set], runs: usize) {
     println!(
-        "| set | images | side | median | slowest | parts of the median |\n|---|---|---|---|---|---|"
+        "| set | images | side | median | slowest | times as fast | parts of the median |\n|---|---|---|---|---|---|---|"
     );
     for set in sets {
+        let mut first = None;
         for side in sides() {
             let mut images: Vec<(Duration, Vec<Duration>)> =
                 set.files.iter().map(|f| time(&side, f, runs)).collect();
             images.sort_unstable();
             let (typical, parts) = &images[images.len() / 2];
             let slowest = images[images.len() - 1].0;
+            let (m, s) = *first.get_or_insert((*typical, slowest));
             let named = side.parts.iter().zip(parts);
             let parts: Vec<String> = named.map(|(n, t)| format!("{n} {t:.1?}")).collect();
             println!(
-                "| {} | {} | {} | {typical:.1?} | {slowest:.1?} | {} |",
+                "| {} | {} | {} | {typical:.1?} | {slowest:.1?} | {:.1}, {:.1} | {} |",
                 set.name,
                 set.files.len(),
                 side.name,
+                m.div_duration_f64(*typical),
+                s.div_duration_f64(slowest),
                 parts.join(", ")
             );
         }
     }
+    if sides().len() < 2 {
+        return;
+    }
+    let parted = sets.iter().flat_map(|s| &s.files).filter(|f| parts(f));
+    match parted.count() {
+        0 => println!("\nThe sides' listings are equal on every image."),
+        n => println!(
+            "\nOn {n} images the sides' listings are not equal, so that these times say nothing."
+        ),
+    }
+}
+
+/// Whether two sides have different listings for an image.
+fn parts(file: &[u8]) -> bool {
+    let listings: Vec<_> = sides().iter().map(|s| (s.run)(file).1).collect();
+    listings.windows(2).any(|w| w[0] != w[1])
 }
 
 fn time(side: &Side, file: &[u8], runs: usize) -> (Duration, Vec<Duration>) {
@@ -136,8 +157,20 @@ pub fn sets() -> Vec<Set> {
             files: one(parameters()),
         },
         Set {
-            name: "8,192 words of calls",
-            files: one(calls()),
+            name: "calls, 1,000 words",
+            files: one(calls(30)),
+        },
+        Set {
+            name: "calls, 2,000 words",
+            files: one(calls(60)),
+        },
+        Set {
+            name: "calls, 4,000 words",
+            files: one(calls(120)),
+        },
+        Set {
+            name: "calls, 8,000 words",
+            files: one(calls(240)),
         },
         Set {
             name: "depth 100",
@@ -194,8 +227,8 @@ fn parameters() -> Vec<Stmt> {
     vec![at(1, sub)]
 }
 
-/// Nested calls of arrays and procedures, with pairs, up to the last word.
-fn calls() -> Vec<Stmt> {
+/// So many statements of nested calls of arrays and procedures, with pairs.
+fn calls(statements: usize) -> Vec<Stmt> {
     let dim = StmtKind::Dim {
         decls: vec![Declarator {
             name: "A".into(),
@@ -214,7 +247,7 @@ fn calls() -> Vec<Stmt> {
         args: vec![Expr::Paren(Box::new(element)); 4],
     };
     let mut program = vec![at(1, dim)];
-    program.extend((0..240).map(|n| {
+    program.extend((0..statements).map(|n| {
         let kind = StmtKind::Let {
             name: "X".into(),
             indices: None,

@@ -15,8 +15,10 @@ ghost use Prim.Native.Nat.{_*_};
 ghost use Rattle.text.specs.Wrote.{Wrote, size, laid};
 ghost use Rattle.table.specs.Rows.{width, noteWidth};
 ghost use Rattle.image.specs.Laws.{Shaped};
-ghost use Rattle.analyse.specs.Analyse.{analysis, told, Within};
+ghost use Rattle.equivalence.specs.Analysis.{analysis};
+ghost use Rattle.analyse.specs.ReadOff.{Within};
 ghost use Rattle.listing.specs.Listing.{textOf, listing as listingOf};
+ghost use Rattle.listing.specs.Shown.{answerText};
 
 // The text of an answer and of what stands in the buffers.
 fn put_answer(
@@ -29,7 +31,7 @@ fn put_answer(
     a: Answer,
 ) -> usize
     requires { ⌜ Within a (now notes) (now rows) (now words) ⌝ }
-    ensures { λ r. ⌜ Wrote (textOf (now (bytes .entry)) (now (ends .entry)) (told a (now (notes .entry)) (now (rows .entry)) (now (words .entry)))) (now (out .entry)) (now (out .exit)) 0 r ⌝ }
+    ensures { λ r. ⌜ Wrote (answerText (now (bytes .entry)) (now (ends .entry)) a (now (notes .entry)) (now (rows .entry)) (now (words .entry))) (now (out .entry)) (now (out .exit)) 0 r ⌝ }
 {
     match a {
         Answer::Refused(r) => put_refusal(out, number(r)),
@@ -39,11 +41,10 @@ fn put_answer(
             ends,
             notes,
             rows,
-            words,
+            &words[..n.words],
             Counts {
                 notes: n.notes,
                 rows: n.rows,
-                words: n.words,
             },
         ),
     }

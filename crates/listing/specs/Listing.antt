@@ -6,7 +6,7 @@ use Rattle.words.specs.Told.{Told, stops, gives}
 use Rattle.table.specs.Rows.{width, noteWidth}
 use Rattle.image.specs.Image.{Image, decode}
 use Rattle.page.specs.Page.{page, refusal}
-use Rattle.analyse.specs.Analyse.{Analysis, analysis}
+use Rattle.equivalence.specs.Analysis.{Analysis, analysis}
 
 -- the text of what was told: only `E number` of a refusal, whatever its place
 unfoldable pub textOf : (bytes ends : List ℕ) → Told Analysis → List ℕ

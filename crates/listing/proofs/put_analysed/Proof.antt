@@ -1,7 +1,7 @@
 -- put_analysed: what the passes tell has the text of what their definition gives, whatever the place of number 1 (`text-analysed`).
-use mathlib.Core.Option.{some}
+use mathlib.Core.Path.{refl}
 use Rattle.text.specs.Laws.{same}
-use Rattle.listing.proofs.Laws.{text-analysed}
+use Rattle.listing.proofs.Laws.{text-analysed, counts-within}
 use borrow.Author.Needs.{needs}
 use Rattle.listing.proofs.put_analysed.Statement.{statement}
 use Rattle.listing.proofs.put_analysed.Tie as tie
@@ -28,13 +28,13 @@ slice-aggregate-put-answer-3 : tie.Need-slice-aggregate-put-answer-3
 slice-aggregate-put-answer-3 c = search needs
 
 put-answer-requires : tie.Need-put-answer-requires
-put-answer-requires c κs = search needs
+put-answer-requires c κs = counts-within (c .before .before .before .before .before .before .before .analyse .ensures)
 
 same-length : tie.Need-same-length
 same-length c = search needs
 
 returns : tie.Need-returns
-returns c = same (text-analysed (some 12288) (some 12288) (c .before .before .before .before .before .before .before .before .before .before .before .before .before .before .before .before .before .before .before .args .bytes .now) (c .before .before .before .before .before .before .before .before .before .before .before .before .before .before .before .before .before .before .before .args .ends .now) (c .before .before .before .before .before .before .before .before .before .before .before .before .before .before .before .before .before .before .before .args .erased .now) (c .before .before .before .before .before .before .before .before .before .before .before .before .before .before .before .before .before .before .before .args .words .now) (c .before .before .before .before .before .before .before .before .before .before .analyse .ensures .0)) (c .before .before .put-answer .ensures)
+returns c = same (text-analysed (c .before .before .before .before .before .before .before .before .before .before .analyse .ensures) refl refl refl) (c .before .before .put-answer .ensures)
 
 pub put-analysed-spec : {M : Type 1} → statement M
 put-analysed-spec =

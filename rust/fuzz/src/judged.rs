@@ -235,12 +235,11 @@ fn record((count, list): &mut (usize, Vec<u8>), file: &[u8]) {
     }
 }
 
-/// Kept lists, a file a group: of all the seeds' cases the smallest that show each feature, a few of each.
+/// A kept list, group after group: of all the seeds' cases the smallest that show each feature, a few of each.
 ///
-/// A file is records, all numbers 32 bits little-endian: the image's length in bytes, the image, the listing's length,
+/// It is records, all numbers 32 bits little-endian: the image's length in bytes, the image, the listing's length,
 /// the listing. Nothing is padded.
-pub fn keep(seeds: Range<u64>, folder: &Path) {
-    fs::create_dir_all(folder).expect("the folder can be made");
+pub fn keep(seeds: Range<u64>, to: &Path) {
     // Cases, and constants each alone, the smallest first.
     let alone = |seed| Case {
         file: fold(&mut Rng::new(seed)).to_bytes(),
@@ -283,17 +282,12 @@ pub fn keep(seeds: Range<u64>, folder: &Path) {
         let file = image::text::parse(&text).unwrap_or_else(|f| panic!("{name}: {f}"));
         record(lists.entry("samples").or_default(), &file);
     }
+    let mut all = vec![];
     for (group, (count, list)) in lists {
-        let name = folder
-            .join(group.replace(' ', "-").to_lowercase())
-            .with_extension("kept");
-        fs::write(&name, &list).expect("the list can be written");
-        println!(
-            "{count:6} images {:8} bytes  {}",
-            list.len(),
-            name.display()
-        );
+        println!("{count:6} images {:8} bytes  {group}", list.len());
+        all.extend(list);
     }
+    fs::write(to, all).expect("the list can be written");
 }
 
 /// Beside each text of a folder, its image and the original's listing of it.

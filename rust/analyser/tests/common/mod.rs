@@ -40,29 +40,25 @@ pub fn samples() -> Vec<Kept> {
         .collect()
 }
 
-/// The images of the lists in `kept/`: length, image, length, listing.
+/// The images of the list that `replay` replays: length, image, length, listing.
 pub fn kept() -> Vec<Kept> {
+    let list = fs::read(root().join("crates/replay/stdin")).expect("a list");
+    let mut rest = &list[..];
+    let mut part = || {
+        let (length, after) = rest.split_first_chunk::<4>()?;
+        let (part, after) = after.split_at(u32::from_le_bytes(*length) as usize);
+        rest = after;
+        Some(part.to_vec())
+    };
     let mut all = vec![];
-    for path in files("kept", "kept") {
-        let list = fs::read(&path).expect("a list");
-        let mut rest = &list[..];
-        let mut part = || {
-            let (length, after) = rest.split_first_chunk::<4>()?;
-            let (part, after) = after.split_at(u32::from_le_bytes(*length) as usize);
-            rest = after;
-            Some(part.to_vec())
-        };
-        let mut n = 0;
-        while let Some(image) = part() {
-            let listing = part().expect("a listing behind an image");
-            let name = format!("{}, {n}", path.display());
-            all.push(Kept {
-                name,
-                image,
-                listing,
-            });
-            n += 1;
-        }
+    while let Some(image) = part() {
+        let listing = part().expect("a listing behind an image");
+        let name = format!("kept image {}", all.len());
+        all.push(Kept {
+            name,
+            image,
+            listing,
+        });
     }
     all
 }

@@ -11,7 +11,7 @@ fuzz compare FIRST COUNT         the analyser against the original, line by line
 fuzz steps FIRST COUNT           demand 3 by running: random steps, allowed and forbidden
 fuzz digest FIRST COUNT          a number for each listing, to compare two builds of the original
 fuzz vectors FIRST COUNT         small programs as words, with their listings, as text
-fuzz keep FIRST COUNT FOLDER     lists of small images with their listings, to be replayed
+fuzz keep FIRST COUNT FILE       a list of small images with their listings, to be replayed
 fuzz samples FOLDER              the image and the listing beside each text of a folder
 ";
 
@@ -39,8 +39,8 @@ fn main() -> ExitCode {
         #[cfg(original)]
         ["vectors", first, count] => range(first, count).map(fuzz::judged::vectors),
         #[cfg(original)]
-        ["keep", first, count, folder] => {
-            range(first, count).map(|seeds| fuzz::judged::keep(seeds, folder.as_ref()))
+        ["keep", first, count, file] => {
+            range(first, count).map(|seeds| fuzz::judged::keep(seeds, file.as_ref()))
         }
         _ => None,
     };

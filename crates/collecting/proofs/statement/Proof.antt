@@ -13,7 +13,7 @@ use Rattle.collecting.proofs.dim.Reads as dim-reads
 use Rattle.collecting.proofs.function.Reads as function-reads
 use Rattle.collecting.proofs.redim.Reads as redim-reads
 use Rattle.collecting.proofs.sub.Reads as sub-reads
-use Rattle.collecting.proofs.type_def.Reads as type-def-reads
+use Rattle.types.proofs.type_def.Reads as type-def-reads
 use Rattle.items.proofs.shared.Reads as shared-reads
 use Rattle.items.proofs.statics.Reads as statics-reads
 use Rattle.labels.proofs.constant.Reads as constant-reads

@@ -49,6 +49,12 @@ unfoldable pub Each : {A : Type 0} → (A → Type 0) → List A → Type 0
 Each P [] = Unit {0}
 Each P (x ∷ xs) = P x × Each P xs
 
+-- the numbers that collecting may stop with
+pub data Stopping : ℕ → Type 0 where
+  seven : Stopping 7
+  eight : Stopping 8
+  nine : Stopping 9
+
 module _ (ns : List ℕ) (n : ℕ) where
   -- ---- rows: they rise, each is in order by itself, each CONST holds a value
   pub record GoodRows (rows : List Row) : Type 0 where
@@ -59,7 +65,7 @@ module _ (ns : List ℕ) (n : ℕ) where
 
   abbrev pub Good : State → Type 0
   Good (running rows notes) = GoodRows rows
-  Good (stopped k) = Unit {0}
+  Good (stopped k) = Stopping k
 
   -- a row that may be entered
   pub record Entry (r : Row) : Type 0 where
@@ -111,11 +117,11 @@ module _ (ns : List ℕ) (n : ℕ) where
     where
       go : (rows notes : List Row) (b : Bool) → GoodRows rows → Good (pick b (running rows notes) (stopped 8))
       go rows notes true g = g
-      go rows notes false g = tt
+      go rows notes false g = eight
 
       by : (st : State) → Good st → Good (push room note st)
       by (running rows notes) g = go rows (notes ++ (note ∷ [])) (fits 6 room (notes ++ (note ∷ []))) g
-      by (stopped k) g = tt
+      by (stopped k) g = g
 
   pub change-k : (room : Option ℕ) (f : List Row → List Row) → ((rows : List Row) → GoodRows rows → GoodRows (f rows)) → Keeps (change room f)
   unfolding change
@@ -123,11 +129,11 @@ module _ (ns : List ℕ) (n : ℕ) where
     where
       go : (rows notes : List Row) (b : Bool) → GoodRows rows → Good (pick b (running rows notes) (stopped 7))
       go rows notes true g = g
-      go rows notes false g = tt
+      go rows notes false g = seven
 
       by : (st : State) → Good st → Good (change room f st)
       by (running rows notes) g = go (f rows) notes (fits width room (f rows)) (h rows g)
-      by (stopped k) g = tt
+      by (stopped k) g = g
 
   pub enter-k : (room : Option ℕ) (r : Row) → Entry r → Keeps (enter room r)
   unfolding enter
@@ -136,13 +142,13 @@ module _ (ns : List ℕ) (n : ℕ) where
   pub nothing-k : Keeps nothing
   nothing-k = record { on = λ st g. g }
 
-  pub stop-k : (k : ℕ) → Keeps (stop k)
+  pub stop-k : Keeps (stop 9)
   unfolding stop
-  stop-k k = record { on = by }
+  stop-k = record { on = by }
     where
-      by : (st : State) → Good st → Good (stop k st)
-      by (running rows notes) g = tt
-      by (stopped m) g = tt
+      by : (st : State) → Good st → Good (stop 9 st)
+      by (running rows notes) g = nine
+      by (stopped m) g = g
 
   pub then-k : {f h : Step} → Keeps f → Keeps h → Keeps (λ st. h (f st))
   then-k {f} F H = record { on = λ st g. H .on (f st) (F .on st g) }
@@ -161,7 +167,7 @@ module _ (ns : List ℕ) (n : ℕ) where
     where
       by : (st : State) → Good st → Good (asking f st)
       by (running rows notes) g = F rows g .on (running rows notes) g
-      by (stopped k) g = tt
+      by (stopped k) g = g
 
   pub each-k : {A : Type 0} {P : A → Type 0} {f : A → Step} → ((x : A) → P x → Keeps (f x)) → (xs : List A) → Each P xs → Keeps (each f xs)
   unfolding each Each

@@ -297,7 +297,7 @@ module _ (ns : List ℕ) (n : ℕ) where
         let k′ : Each Kept (info .fields ++ (f′ ∷ [])) = kept-append (info .fields) f′ k (record { name = a .0 .name; word = w; ty = a .0 .ty }) in
         let c′ : length (info .fields ++ (f′ ∷ [])) + length fs ≤ 16777216 = omega (arith, length-append (info .fields) (f′ ∷ [])) in
         orSay-k (rejected rows line x info f)
-        (pick-k ns n (leb (withField rows info f .words) 65535) (λ e. fields-k rows line x (withField rows info f) fs l h k′ (leb-true _ _ e) (a .1) c′) (λ e. stop-k ns n 9))
+        (pick-k ns n (leb (withField rows info f .words) 65535) (λ e. fields-k rows line x (withField rows info f) fs l h k′ (leb-true _ _ e) (a .1) c′) (λ e. stop-k ns n))
         (fields-k rows line x info fs l h k w (a .1) (omega arith))
 
     typeDef-k : (scope line x : ℕ) (fs : List FieldDecl) → line < 16777216 → Named ns x → Each (FineField ns n) fs → length fs < 16777216 → Keeps ns n (C.typeDef G scope line x fs)

@@ -1,16 +1,14 @@
 -- What the code asks, and what its answers are: the types, the array that was there, the erased names. Assumes nothing.
-use Prim.Native.Nat.{ℕ, suc, _+_, _*_, _<_, _≤_}
+use Prim.Native.Nat.{ℕ, _+_, _*_, _<_, _≤_}
 use native.Mathlib.Omega.{arith}
 use native.Mathlib.Numerals.{add-one}
 use mathlib.Core.Path.{_≡_, refl, sym, ap, subst, _∙_}
-use mathlib.Core.Bool.{Bool, true, false, not, _&&_, _||_}
-use mathlib.Core.List.{List, [], _∷_}
-use mathlib.Core.Option.{Option, none, some}
-use lib.Dec.{eqb}
+use mathlib.Core.Bool.{Bool, true, false, not, _&&_}
+use mathlib.Core.List.{List}
+use mathlib.Core.Option.{Option}
 use lib.ListN.{length, getD, drop}
 use lib.Seq.{drop-cons, drop-length}
 use borrow.Author.Tests.{eq-eqb, ne-eqb, not-true, not-false}
-use Rattle.words.specs.Word.{pick}
 use Rattle.strings.specs.Table.{stringAt}
 use Rattle.table.specs.Rows.{Row, width, Holds}
 use Rattle.table.specs.Images.{word-at}
@@ -18,7 +16,7 @@ use Rattle.table.specs.declared.Found.{Found}
 use Rattle.table.specs.declared.Found.the-variants.{At, Nothing}
 use Rattle.lookup.specs.Answers.{rowAt}
 use Rattle.views.specs.View.{TypeRef, head}
-use Rattle.collect.specs.Collect.{lastOf, disagrees, isRecord, member}
+use Rattle.collect.specs.Collect.{lastOf, disagrees, member}
 use Rattle.dims.specs.declared.Old.{Old}
 use Rattle.dims.specs.declared.Clash.{Clash}
 use Rattle.dims.specs.Declarators.{Contradicts, OldIs, clashOf}

@@ -13,7 +13,7 @@ use Rattle.strings.specs.Table.{stringAt}
 use Rattle.expr.specs.Expr.{Expr}
 use Rattle.tree.specs.Sorts.{Declarator as DeclaratorRow, many}
 use Rattle.tree.specs.Tree.{Tree, one, row as fields, over}
-use Rattle.tree.specs.Stands.{Stands, SomeTree}
+use Rattle.tree.specs.Stands.{SomeTree}
 use Rattle.tree.proofs.Nodes.{in-list}
 use Rattle.table.specs.Rows.{Row, width, noteWidth, find, Holds}
 use Rattle.entries.specs.Entries.{row as rowOf, entryKey, has, hasRow, rowWord, bit, arrayRow, typedVarRow, dimSharedRow}
@@ -25,15 +25,14 @@ use Rattle.steps.specs.Compose.{Stays, notes-does, rows-does, nothing-does, sam
 use Rattle.collect.specs.Diagnostics.{suffixDiffers, undefinedType, declaredTwice, noDimension, otherRank, dimSharedInside}
 use Rattle.collect.specs.Seen.{Seen, see}
 use Rattle.collect.specs.Collect.{given, lastOf, disagrees, isRecord, isSome, anySome, member, differs, undefined, declaredType, redeclared, declaredArray, declared, sharedAll, dimShared}
-use Rattle.collect.specs.Code.{Named}
 use Rattle.parts.specs.Parts.{NameAt}
 use Rattle.parts.specs.Names.{name-at}
 use Rattle.parts.specs.Over.{items-over}
-use Rattle.parts.specs.Turns.{RowAt, SomeRows, Turn, turn-start, turn-row, turn-told, turn-next, turn-end, some-row, list-rows, list-all}
+use Rattle.parts.specs.Turns.{RowAt, Turn, turn-start, turn-row, turn-next, turn-end, list-all}
 use Rattle.dims.specs.declared.Decl.{Decl}
 use Rattle.dims.specs.declared.Old.{Old}
 use Rattle.dims.specs.declared.Clash.{Clash}
-use Rattle.dims.specs.Declarators.{Is, Small, DeclIs, Ready, Contradicts, OldIs, clashOf, rankOf, declares, DeclaresType, DeclaresArray, Declares, DeclaresAll, sharing, SharesAll, Shares}
+use Rattle.dims.specs.Declarators.{Is, DeclIs, Ready, Contradicts, OldIs, clashOf, rankOf, declares, DeclaresType, DeclaresArray, Declares, DeclaresAll, sharing, SharesAll, Shares}
 
 -- ---- steps
 

@@ -1,10 +1,10 @@
 -- What the parts of a declarator are, by what its words say. No line here knows the code. Assumes nothing.
-use Prim.Native.Nat.{ℕ, _+_, _-_, _/_, _%_, _<_, _≤_}
+use Prim.Native.Nat.{ℕ, _+_, _-_, _<_, _≤_}
 use native.Mathlib.Omega.{arith}
 use mathlib.Core.Path.{_≡_, refl, sym, ap, subst, _∙_}
 use mathlib.Core.Bool.{Bool, true, false, _||_}
 use mathlib.Core.List.{List, [], _∷_, _++_, append-nil}
-use mathlib.Core.Option.{Option, none as absent, some}
+use mathlib.Core.Option.{Option}
 use lib.Dec.{eqb, lit<}
 use lib.ListN.{length, getD}
 use Rattle.words.specs.Word.{kindOf, payOf}
@@ -16,13 +16,13 @@ use Rattle.tree.specs.Sorts.{Sort, Sorts, expr, exprs, many, opt, nil, _&_, nam
 use Rattle.tree.specs.Tree.{Tree, one, row, rows, word, value, list, part, this, that, done, cons, count, over, strings, wordsT, Right}
 use Rattle.tree.specs.Stands.{Stands, SomeTree}
 use Rattle.skip.specs.Shape.{SomeExpr}
-use Rattle.views.specs.View.{optional, rowsOf, items, expression, expressions, lower, declarator, asType, headOf, argOf}
+use Rattle.views.specs.View.{optional, items, expression, expressions, lower, declarator, asType, headOf, argOf}
 use Rattle.collect.specs.Seen.{Seen, see}
 use Rattle.collect.specs.Collect.{isSome, anySome}
 use Rattle.parts.specs.declared.TypeAt.{TypeAt}
 use Rattle.parts.specs.Parts.{AsTypeIs}
 use Rattle.parts.specs.Over.{rows-length, count-over, items-over, as-over}
-use Rattle.parts.specs.Turns.{SomeRows, Turn, turn-start, turn-next, turn-end, list-inside, list-rows, list-all}
+use Rattle.parts.specs.Turns.{SomeRows, Turn, turn-start, turn-next, turn-end, list-rows, list-all}
 use Rattle.dims.specs.declared.Bound.{Bound}
 use Rattle.dims.specs.declared.Ranked.{Ranked}
 use Rattle.dims.specs.declared.Decl.{Decl}

@@ -1,5 +1,5 @@
 -- DIM and REDIM from what their parts did. No line here knows the code. Assumes nothing.
-use Prim.Native.Nat.{ℕ, _+_, _/_, _%_, _<_, _≤_}
+use Prim.Native.Nat.{ℕ, _+_, _<_}
 use native.Mathlib.Omega.{arith}
 use mathlib.Core.Path.{_≡_, refl, sym, ap, subst, _∙_}
 use mathlib.Core.Bool.{Bool, true, false}
@@ -11,18 +11,17 @@ use Rattle.words.specs.Word.{wordOf, payOf}
 use Rattle.expr.specs.Expr.{Expr}
 use Rattle.expr.specs.Stands.{Wrote}
 use Rattle.expr.proofs.Parts.{wrote-first, wrote-left, wrote-right, pay-is}
-use Rattle.tree.specs.Sorts.{Kind, sorts, numberOf, many, flag, nil, _&_, Declarator as DeclaratorRow, dim as dimKind, redim as redimKind}
+use Rattle.tree.specs.Sorts.{Kind, sorts, numberOf, many, flag, Declarator as DeclaratorRow, dim as dimKind, redim as redimKind}
 use Rattle.tree.specs.Tree.{Tree, one, row, word, Stmt, done, cons, over, wordsT, Right}
-use Rattle.tree.specs.Stands.{Stands, SomeTree}
+use Rattle.tree.specs.Stands.{Stands}
 use Rattle.views.specs.View.{View, Dim, Redim, Declarator, view, items, isSet, declarator}
 use Rattle.steps.specs.declared.Counts.{Counts}
 use Rattle.steps.specs.Held.{Fit, Does}
 use Rattle.steps.specs.Compose.{then}
 use Rattle.collect.specs.Seen.{Seen, see}
 use Rattle.collect.specs.Collect.{given, statement, dim, redim}
-use Rattle.collect.specs.Code.{StmtAt, Collects}
+use Rattle.collect.specs.Code.{Collects}
 use Rattle.dims.specs.Declarators.{Ready, ReadyStmt, DeclaresAll, Shares}
-use Rattle.dims.proofs.Doing.{ready-tree}
 
 -- its line, its list and the flag after it, where the words have them
 pub record Leads (ws ns : List ℕ) (n at line : ℕ) (l : Tree Expr (one (many DeclaratorRow))) (x : ℕ) : Type 0 where

@@ -1,7 +1,7 @@
 -- What the code of DIM and REDIM reads of a declarator, and what each of its parts does. Definitions only.
-use Prim.Native.Nat.{ℕ, _*_, _<_, _≤_}
+use Prim.Native.Nat.{ℕ, _<_}
 use mathlib.Core.Path.{_≡_}
-use mathlib.Core.Bool.{Bool, true, false, not, _&&_}
+use mathlib.Core.Bool.{Bool, true, not, _&&_}
 use mathlib.Core.List.{List}
 use mathlib.Core.Option.{Option, none, some}
 use lib.Dec.{eqb}
@@ -19,7 +19,7 @@ use Rattle.steps.specs.State.{each, when, enter}
 use Rattle.steps.specs.declared.Counts.{Counts}
 use Rattle.steps.specs.Held.{Fit, Sized, Does, Rows}
 use Rattle.collect.specs.Seen.{Seen, see}
-use Rattle.collect.specs.Collect.{Given, given, lastOf, disagrees, isRecord, isSome, anySome, member, declaredType, declaredArray, declared, dimShared}
+use Rattle.collect.specs.Collect.{given, lastOf, disagrees, isRecord, isSome, anySome, member, declaredType, declaredArray, declared, dimShared}
 use Rattle.collect.specs.Code.{StmtAt, Named}
 use Rattle.dims.specs.declared.Bound.{Bound}
 use Rattle.dims.specs.declared.Ranked.{Ranked}

@@ -1,5 +1,5 @@
 -- `kept`: neither REDIM nor erased. Assumes nothing.
-use mathlib.Core.Path.{ap, _∙_, refl}
+use mathlib.Core.Path.{ap}
 use mathlib.Core.Bool.{not}
 use borrow.Author.Needs.{needs}
 use Rattle.dims.proofs.kept.Statement.{statement}

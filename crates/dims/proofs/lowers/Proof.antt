@@ -1,8 +1,6 @@
 -- `lowers`: so many bounds, and whether one of them is written. Assumes nothing.
-use mathlib.Core.Path.{refl}
 use native.Mathlib.Omega.{arith}
-use Rattle.collect.specs.Collect.{anySome}
-use Rattle.parts.specs.Turns.{turn-start, turn-some, list-inside, list-rows}
+use Rattle.parts.specs.Turns.{turn-some, list-inside, list-rows}
 use Rattle.dims.proofs.Reading.{Lowering, low-start, low-next, low-end}
 use borrow.Author.Needs.{needs}
 use lib.ListN.{getD}

@@ -1,0 +1,240 @@
+-- From what the calls did, what a statement does: one law for each of the four kinds. No line here knows the code. Assumes nothing.
+use Prim.Native.Nat.{ℕ, _+_, _*_, _<_, _≤_}
+use mathlib.Core.Path.{_≡_, refl, sym, ap, _∙_, subst}
+use mathlib.Core.Bool.{Bool, true, false}
+use mathlib.Core.List.{List, [], _∷_, append-nil}
+use mathlib.Core.Option.{some}
+use native.Mathlib.Omega.{arith}
+use lib.ListN.{length, getD}
+use Rattle.words.specs.Word.{kindOf, payOf, wordOf, pick}
+use Rattle.expr.specs.Expr.{Expr, words}
+use Rattle.expr.specs.Stands.{Wrote}
+use Rattle.expr.specs.Stands as W
+use Rattle.expr.proofs.Parts.{wrote-first, pay-is}
+use Rattle.tree.specs.Sorts.{Kind, sorts, numberOf, label as labelKind, labelName as labelNameKind, optionBase as optionBaseKind, const as constKind}
+use Rattle.tree.specs.Tree.{strings, one, row, Tree, Stmt, word, value, cons, done, wordsT, Right, over}
+use Rattle.tree.specs.Stands.{Stands}
+use Rattle.table.specs.Rows.{Row, width, noteWidth, Holds}
+use Rattle.entries.specs.Entries.{has, lineRow, labelRow, constRow, optionBaseRow}
+use Rattle.views.specs.View.{View, Label, LabelName, OptionBase, Const, view}
+use Rattle.steps.specs.State.{_⨾_, asking, when, enter, push}
+use Rattle.steps.specs.declared.Counts.{Counts}
+use Rattle.steps.specs.Held.{Fit, Does, Notes, Rows, entering, pushing, noting}
+use Rattle.steps.specs.Compose.{Stays, then, asked, rows-does, notes-does, stays-then, stays-when, stays-pick, stays-enter, stays-push}
+use Rattle.fold.specs.Value.{literalKind, lowOf, highOf}
+use Rattle.fold.specs.declared.Fold.{Fold}
+use Rattle.fold.specs.declared.Fold.the-variants.{Is, Overflow, NotConstant}
+use Rattle.fold.specs.declared.Value.{Value}
+use Rattle.consteval.specs.ConstEval.{constEval}
+use Rattle.consteval.specs.Evaluates.{Ready, Evaluates}
+use Rattle.consteval.specs.declared.Folded.{Folded}
+use Rattle.collect.specs.Diagnostics.{duplicateLine, duplicateLabel, optionBaseTwice, optionBaseLate, constDefined, constOverflow, notConstant}
+use Rattle.collect.specs.Seen.{Seen, see}
+use Rattle.collect.specs.Collect.{given, statement, anyArray, constOf, label, labelName, optionBase, folded, const}
+use Rattle.collect.specs.Code.{StmtAt, Collects}
+use Rattle.labels.specs.Labels.{SomeStmt, CollectsAny, ConstAt, sayBase}
+use Rattle.labels.specs.Laws.{stopped-does}
+
+-- ---- a statement whose first field is a plain word: its line, and the word's payload
+
+pub record Leads (ws : List ℕ) (at line x : ℕ) : Type 0 where
+  pub inside : at + 1 < length ws
+  pub line-is : payOf (getD ws at 0) ≡ line
+  pub word-is : payOf (getD ws (at + 1) 0) ≡ x
+
+leads : (j k : ℕ) {ws : List ℕ} {at line x end : ℕ} {rest : List ℕ} → Wrote ws at (wordOf j line ∷ (wordOf k x ∷ rest)) end → line < 16777216 → x < 16777216 → Leads ws at line x
+leads j k {line} {x} W l h =
+    let f = wrote-first W in
+    let g = wrote-first (f .rest) in
+    record { inside = g .inside; line-is = ap payOf (f .is) ∙ pay-is j line l; word-is = ap payOf (g .is) ∙ pay-is k x h }
+
+-- what collecting sees of a statement of one plain word
+pub record Sees (ws : List ℕ) (at line : ℕ) (v : View Seen) (made : ℕ → View Seen) : Type 0 where
+  pub payload : ℕ
+  pub leads : Leads ws at line payload
+  pub is : made payload ≡ v
+
+module _ {ws ns : List ℕ} {n at line end : ℕ} where
+  label-seen : (fields : Tree Expr (row (sorts labelKind))) → Stands ws ns n at (Stmt labelKind line fields) end → Sees ws at line (view labelKind (over see fields)) Label
+  unfolding sorts numberOf wordsT Right over view
+  label-seen (cons (word x) done) S = record { payload = x; leads = leads 64 4 (S .wrote) (S .valid .0) (S .valid .1 .0 .1); is = refl }
+
+  name-seen : (fields : Tree Expr (row (sorts labelNameKind))) → Stands ws ns n at (Stmt labelNameKind line fields) end → Sees ws at line (view labelNameKind (over see fields)) LabelName
+  unfolding sorts numberOf wordsT Right over view
+  name-seen (cons (word x) done) S = record { payload = x; leads = leads 65 2 (S .wrote) (S .valid .0) (S .valid .1 .0 .1); is = refl }
+
+  base-seen : (fields : Tree Expr (row (sorts optionBaseKind))) → Stands ws ns n at (Stmt optionBaseKind line fields) end → Sees ws at line (view optionBaseKind (over see fields)) OptionBase
+  unfolding sorts numberOf wordsT Right over view
+  base-seen (cons (word x) done) S = record { payload = x; leads = leads 92 4 (S .wrote) (S .valid .0) (S .valid .1 .0 .1); is = refl }
+
+module _ {ws : List ℕ} {at : ℕ} where
+  pub label-inside : SomeStmt labelKind ws at → at + 1 < length ws
+  label-inside S = label-seen (S .stmt .fields) (S .stmt .stands) .leads .inside
+
+  pub name-inside : SomeStmt labelNameKind ws at → at + 1 < length ws
+  name-inside S = name-seen (S .stmt .fields) (S .stmt .stands) .leads .inside
+
+  pub base-inside : SomeStmt optionBaseKind ws at → at + 1 < length ws
+  base-inside S = base-seen (S .stmt .fields) (S .stmt .stands) .leads .inside
+
+-- what is done for the line and the payload that the words say is done for the statement that stands there
+seen-does : {ws : List ℕ} {at line : ℕ} {v : View Seen} {made : ℕ → View Seen} (scope : ℕ) {s r : Counts} {b d b′ d′ : List ℕ} (bytes ends erased : List ℕ) → Sees ws at line v made
+    → Does (λ N D. statement (given (some N) (some D) bytes ends erased) scope (payOf (getD ws at 0)) (made (payOf (getD ws (at + 1) 0)))) s r b d b′ d′
+    → Does (λ N D. statement (given (some N) (some D) bytes ends erased) scope line v) s r b d b′ d′
+seen-does {ws} {at} {line} {v} {made} scope {s} {r} {b} {d} {b′} {d′} bytes ends erased S F =
+    subst (λ (w : View Seen). Does (λ N D. statement (given (some N) (some D) bytes ends erased) scope line w) s r b d b′ d′) (ap made (S .leads .word-is) ∙ S .is)
+    (subst (λ (l : ℕ). Does (λ N D. statement (given (some N) (some D) bytes ends erased) scope l (made (payOf (getD ws (at + 1) 0)))) s r b d b′ d′) (S .leads .line-is) F)
+
+-- ---- a line number, a label: entered, and said to be double where one was there
+
+-- the line and the payload of a statement whose first field is a plain word
+abbrev pub lineAt : List ℕ → ℕ → ℕ
+lineAt ws at = payOf (getD ws at 0)
+
+abbrev pub leafAt : List ℕ → ℕ → ℕ
+leafAt ws at = payOf (getD ws (at + 1) 0)
+
+module _ {s t r : Counts} {b d b′ d′ : List ℕ} {x : Bool} (fit : Fit s (length b) (length d)) where
+  twice-does : (new note : Row) (kind name : ℕ) → ((rows : List Row) → Holds rows (s .rows) b → x ≡ has rows kind name 0)
+      → Rows (entering new) s t b b′ → Notes (noting x note) t r d d′
+      → Does (λ N D. asking (λ rows. enter (some N) new ⨾ when (has rows kind name 0) (push (some D) note))) s r b d b′ d′
+  unfolding entering noting
+  twice-does new note kind name told R F =
+      asked x (λ rows. has rows kind name 0) (λ (y : Bool) N D. enter (some N) new ⨾ when y (push (some D) note))
+      (λ y N D. stays-then (enter (some N) new) (when y (push (some D) note)) (stays-enter N new) (stays-when y (push (some D) note) (stays-push D note)))
+      told (then (rows-does R d (fit .1)) (notes-does F b′ (R .fit)))
+
+  module _ {ws : List ℕ} {at scope : ℕ} where
+    pub label-collects : ((rows : List Row) → Holds rows (s .rows) b → x ≡ has rows 128 (leafAt ws at) 0) → Rows (entering (lineRow (leafAt ws at) scope)) s t b b′
+        → Notes (noting x (duplicateLine (lineAt ws at) (leafAt ws at))) t r d d′ → CollectsAny labelKind ws scope at s r b d b′ d′
+    unfolding statement label
+    label-collects told R F =
+        record { all = λ ns n bytes ends erased. record { does = λ line fields end S. seen-does scope bytes ends erased (label-seen fields S) (twice-does (lineRow (leafAt ws at) scope) (duplicateLine (lineAt ws at) (leafAt ws at)) 128 (leafAt ws at) told R F) } }
+
+    pub name-collects : ((rows : List Row) → Holds rows (s .rows) b → x ≡ has rows 129 (leafAt ws at) 0) → Rows (entering (labelRow (leafAt ws at) scope)) s t b b′
+        → Notes (noting x (duplicateLabel (lineAt ws at) (leafAt ws at))) t r d d′ → CollectsAny labelNameKind ws scope at s r b d b′ d′
+    unfolding statement labelName
+    name-collects told R F =
+        record { all = λ ns n bytes ends erased. record { does = λ line fields end S. seen-does scope bytes ends erased (name-seen fields S) (twice-does (labelRow (leafAt ws at) scope) (duplicateLabel (lineAt ws at) (leafAt ws at)) 129 (leafAt ws at) told R F) } }
+
+-- ---- OPTION BASE
+
+module _ {s r : Counts} {d d′ : List ℕ} where
+  pub say-twice : (twice late : Bool) (line : ℕ) → twice ≡ true → Notes (pushing (optionBaseTwice line)) s r d d′ → Notes (sayBase twice late line) s r d d′
+  unfolding pushing sayBase
+  say-twice twice late line e F = record { fit = F .fit; kept = F .kept; after = λ b N D st H. rw e (F .after b N D st H) }
+
+  pub say-late : (twice late : Bool) (line : ℕ) → twice ≡ false → Notes (noting late (optionBaseLate line)) s r d d′ → Notes (sayBase twice late line) s r d d′
+  unfolding noting sayBase
+  say-late twice late line e F = record { fit = F .fit; kept = F .kept; after = λ b N D st H. rw e (F .after b N D st H) }
+
+say-stays : (twice late : Bool) (line N D : ℕ) → Stays (sayBase twice late line N D)
+unfolding sayBase
+say-stays twice late line N D =
+    stays-pick twice (push (some D) (optionBaseTwice line)) (when late (push (some D) (optionBaseLate line))) (stays-push D (optionBaseTwice line))
+    (stays-when late (push (some D) (optionBaseLate line)) (stays-push D (optionBaseLate line)))
+
+module _ {s t : Counts} {b d d′ : List ℕ} {x y : Bool} (fit : Fit s (length b) (length d)) where
+  base-said : (line : ℕ) → ((rows : List Row) → Holds rows (s .rows) b → x ≡ has rows 143 0 0) → ((rows : List Row) → Holds rows (s .rows) b → y ≡ anyArray rows)
+      → Notes (sayBase x y line) s t d d′ → Does (λ N D. asking (λ rows. sayBase (has rows 143 0 0) (anyArray rows) line N D)) s t b d b d′
+  base-said line first second F =
+      asked {A = Bool × Bool} (x, y) (λ rows. (has rows 143 0 0, anyArray rows)) (λ (p : Bool × Bool) N D. sayBase (p .0) (p .1) line N D) (λ p N D. say-stays (p .0) (p .1) line N D)
+      (λ rows H. ap (λ (a : Bool). (a, y)) (first rows H) ∙ ap (λ (a : Bool). (has rows 143 0 0, a)) (second rows H)) (notes-does F b (fit .0))
+
+  pub base-collects : {r : Counts} {b′ ws : List ℕ} {at : ℕ} → ((rows : List Row) → Holds rows (s .rows) b → x ≡ has rows 143 0 0) → ((rows : List Row) → Holds rows (s .rows) b → y ≡ anyArray rows)
+      → Notes (sayBase x y (lineAt ws at)) s t d d′ → Rows (entering (optionBaseRow (leafAt ws at))) t r b b′ → (scope : ℕ) → CollectsAny optionBaseKind ws scope at s r b d b′ d′
+  unfolding statement optionBase entering sayBase
+  base-collects {ws = ws} {at} first second F R scope =
+      record { all = λ ns n bytes ends erased. record { does = λ line fields end S. seen-does scope bytes ends erased (base-seen fields S) (then (base-said (lineAt ws at) first second F) (rows-does R d′ (F .fit))) } }
+
+-- ---- CONST
+
+pub const-entered : (name : ℕ) (v : Value) {kind low high : ℕ} {s r : Counts} {b b′ : List ℕ} → (kind ≡ literalKind v) × (low ≡ lowOf v) × (high ≡ highOf v)
+    → Rows (entering (constRow name kind low high)) s r b b′ → Rows (entering (constOf name v)) s r b b′
+unfolding constOf
+const-entered name v e R = rw (sym (e .0), sym (e .1), sym (e .2)) R
+
+module _ {s r : Counts} {b d : List ℕ} (line name : ℕ) where
+  pub folded-value : {b′ : List ℕ} {v : Value} {f : Fold} → Is v ≡ f → s .notes * noteWidth ≤ length d → Rows (entering (constOf name v)) s r b b′
+      → (bytes ends erased : List ℕ) → Does (λ N D. folded (given (some N) (some D) bytes ends erased) line name f) s r b d b′ d
+  unfolding folded entering
+  folded-value e h R bytes ends erased = rw (sym e) (rows-does R d h)
+
+  pub folded-over : {d′ : List ℕ} {f : Fold} → Overflow ≡ f → s .rows * width ≤ length b → Notes (pushing (constOverflow line name)) s r d d′
+      → (bytes ends erased : List ℕ) → Does (λ N D. folded (given (some N) (some D) bytes ends erased) line name f) s r b d b d′
+  unfolding folded pushing
+  folded-over e h F bytes ends erased = rw (sym e) (notes-does F b h)
+
+  pub folded-not : {d′ : List ℕ} {f : Fold} → NotConstant ≡ f → s .rows * width ≤ length b → Notes (pushing (notConstant line name)) s r d d′
+      → (bytes ends erased : List ℕ) → Does (λ N D. folded (given (some N) (some D) bytes ends erased) line name f) s r b d b d′
+  unfolding folded pushing
+  folded-not e h F bytes ends erased = rw (sym e) (notes-does F b h)
+
+folded-stays : (bytes ends erased : List ℕ) (line name : ℕ) (f : Fold) (N D : ℕ) → Stays (folded (given (some N) (some D) bytes ends erased) line name f)
+unfolding folded
+folded-stays bytes ends erased line name (Is v) N D = stays-enter N (constOf name v)
+folded-stays bytes ends erased line name Overflow N D = stays-push D (constOverflow line name)
+folded-stays bytes ends erased line name NotConstant N D = stays-push D (notConstant line name)
+
+-- what collecting sees of a CONST, and where its expression stands
+pub record SeesConst (ws ns : List ℕ) (n at line : ℕ) (v : View Seen) (end : ℕ) : Type 0 where
+  pub name : ℕ
+  pub expression : Expr
+  pub leads : Leads ws at line name
+  pub there : W.Stands ws (strings ns n) (at + 2) expression end
+  pub is : Const name (see expression) ≡ v
+
+const-seen : {ws ns : List ℕ} {n at line end : ℕ} (fields : Tree Expr (row (sorts constKind))) → Stands ws ns n at (Stmt constKind line fields) end
+    → SeesConst ws ns n at line (view constKind (over see fields)) end
+unfolding sorts numberOf wordsT Right over view
+const-seen {at = at} (cons (word x) (cons (value e) done)) S =
+    let q = wrote-first (wrote-first (S .wrote) .rest) .rest in
+    let p : at + 1 + 1 ≡ at + 2 = omega arith in
+    record { name = x; expression = e; leads = leads 89 2 (S .wrote) (S .valid .0) (S .valid .1 .0 .1); there = record { wrote = rw (append-nil (words e), p) at q; valid = S .valid .1 .1 .0 }; is = refl }
+
+module _ {ws : List ℕ} {at : ℕ} {s : Counts} {b : List ℕ} where
+  pub const-inside : ConstAt ws at s b → at + 1 < length ws
+  const-inside C = const-seen (C .stmt .fields) (C .stmt .stands) .leads .inside
+
+  pub const-ready : ConstAt ws at s b → s .stop ≡ 0 → Ready ws (at + 2) b (s .rows)
+  const-ready C go =
+      let h = C .held go in
+      let S = const-seen (C .stmt .fields) (C .stmt .stands) in
+      record { strings = strings (C .names) (C .strings); expr = S .expression; end = C .stmt .end; stands = S .there; rows = h .rows; holds = h .holds; consts = h .consts }
+
+module _ {s : Counts} {b d : List ℕ} {ws : List ℕ} {at : ℕ} where
+  const-does : {r : Counts} {b′ d′ : List ℕ} → ((bytes ends erased : List ℕ) (e : Expr) (end : ℕ) (ns : List ℕ) (n : ℕ) → W.Stands ws (strings ns n) (at + 2) e end
+      → Does (λ N D. const (given (some N) (some D) bytes ends erased) (lineAt ws at) (leafAt ws at) (see e)) s r b d b′ d′) → (scope : ℕ) → CollectsAny constKind ws scope at s r b d b′ d′
+  unfolding statement
+  const-does {r} {b′} {d′} F scope = record { all = λ ns n bytes ends erased. record { does = λ line fields end S. by ns n bytes ends erased (const-seen fields S) } }
+    where
+      by : (ns : List ℕ) (n : ℕ) (bytes ends erased : List ℕ) {line : ℕ} {v : View Seen} {end : ℕ} → SeesConst ws ns n at line v end
+          → Does (λ N D. statement (given (some N) (some D) bytes ends erased) scope line v) s r b d b′ d′
+      by ns n bytes ends erased {line} {v} {end} S =
+          subst (λ (w : View Seen). Does (λ N D. statement (given (some N) (some D) bytes ends erased) scope line w) s r b d b′ d′) (ap (λ (x : ℕ). Const x (see (S .expression))) (S .leads .word-is) ∙ S .is)
+          (subst (λ (l : ℕ). Does (λ N D. const (given (some N) (some D) bytes ends erased) l (leafAt ws at) (see (S .expression))) s r b d b′ d′) (S .leads .line-is) (F bytes ends erased (S .expression) end ns n (S .there)))
+
+  -- a stopped run passes by
+  pub const-stopped : Fit s (length b) (length d) → (s .stop ≡ 0 → ⊥) → (scope : ℕ) → CollectsAny constKind ws scope at s s b d b d
+  unfolding const asking
+  const-stopped fit h = const-does (λ bytes ends erased e end ns n S. stopped-does (λ N D. stays bytes ends erased N D e) h fit)
+    where
+      stays : (bytes ends erased : List ℕ) (N D : ℕ) (e : Expr) → Stays (const (given (some N) (some D) bytes ends erased) (lineAt ws at) (leafAt ws at) (see e))
+      stays bytes ends erased N D e k = refl
+
+  pub const-collects : {t r : Counts} {b′ d′ d″ : List ℕ} {x : Bool} {f : Folded} → Fit s (length b) (length d) → ((rows : List Row) → Holds rows (s .rows) b → x ≡ has rows 132 (leafAt ws at) 0)
+      → Evaluates ws (at + 2) b (s .rows) f → Notes (noting x (constDefined (lineAt ws at) (leafAt ws at))) s t d d′
+      → ((bytes ends erased : List ℕ) → Does (λ N D. folded (given (some N) (some D) bytes ends erased) (lineAt ws at) (leafAt ws at) (f .fold)) t r b d′ b′ d″)
+      → (scope : ℕ) → CollectsAny constKind ws scope at s r b d b′ d″
+  unfolding const noting see
+  const-collects {t} {r} {b′} {d′} {d″} {x} {f} fit told E F G = const-does by
+    where
+      by : (bytes ends erased : List ℕ) (e : Expr) (end : ℕ) (ns : List ℕ) (n : ℕ) → W.Stands ws (strings ns n) (at + 2) e end
+          → Does (λ N D. const (given (some N) (some D) bytes ends erased) (lineAt ws at) (leafAt ws at) (see e)) s r b d b′ d″
+      by bytes ends erased e end ns n S =
+          then
+          (asked x (λ rows. has rows 132 (leafAt ws at) 0) (λ (y : Bool) N D. when y (push (some D) (constDefined (lineAt ws at) (leafAt ws at))))
+          (λ y N D. stays-when y (push (some D) (constDefined (lineAt ws at) (leafAt ws at))) (stays-push D (constDefined (lineAt ws at) (leafAt ws at)))) told (notes-does F b (fit .0)))
+          (asked (f .fold) (λ rows. constEval rows e) (λ (g : Fold) N D. folded (given (some N) (some D) bytes ends erased) (lineAt ws at) (leafAt ws at) g)
+          (λ g N D. folded-stays bytes ends erased (lineAt ws at) (leafAt ws at) g N D)
+          (λ rows H. E (strings ns n) e end S rows (subst (λ (m : ℕ). Holds rows m b) (F .kept) H) .answer) (G bytes ends erased))

@@ -1,0 +1,4 @@
+pub mod Parts
+pub mod Over
+pub mod Names
+pub mod Turns

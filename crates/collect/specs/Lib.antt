@@ -4,3 +4,4 @@ pub mod Collect
 pub mod Blind
 pub mod Examples
 pub mod Code
+pub mod SeenLaws

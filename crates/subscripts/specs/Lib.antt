@@ -1,3 +1,4 @@
 pub mod Subscripts
 pub mod Blind
 pub mod Examples
+pub mod Over

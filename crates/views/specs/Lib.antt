@@ -2,3 +2,4 @@ pub mod View
 pub mod Uses
 pub mod Strip
 pub mod Build
+pub mod Over

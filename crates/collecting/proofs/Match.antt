@@ -1,0 +1,130 @@
+-- What each arm of the match asks of a statement of its kind, and that what it does is what the statement does. Assumes nothing.
+use Prim.Native.Nat.{ℕ, _+_, _≤_, _<_}
+use native.Mathlib.Omega.{arith}
+use mathlib.Core.Path.{_≡_, refl, sym, _∙_}
+use mathlib.Core.List.{List}
+use lib.ListN.{length, getD}
+use Rattle.words.specs.Word.{kindOf}
+use Rattle.tree.specs.Sorts.{stmt, Kind, kinds, kindAt, label, labelName, dim, shared, static, redim, sub, function, const, optionBase, typeDef}
+use Rattle.tree.specs.Tree.{one}
+use Rattle.steps.specs.State.{State, running, stopped}
+use Rattle.steps.specs.Held.{Fit, Held}
+use Rattle.steps.specs.declared.Counts.{Counts}
+use Rattle.collect.specs.Code.{StmtAt, Collects, Named}
+use Rattle.labels.specs.Labels.{SomeStmt, ConstAt, CollectsAny, HeldConsts, ConstsHeld}
+use Rattle.types.specs.Types.{SomeType, CollectsType}
+use Rattle.collecting.specs.Stub.{ReadyStmt}
+use Rattle.lawful.specs.Good.{Good}
+use Rattle.collecting.specs.Walk.{Kept, Ready, Stated}
+use Rattle.collecting.proofs.Heads.{at-kind, of-kind}
+
+-- CONST rows may be folded under
+consts-held : {ns : List ℕ} {n : ℕ} {s : Counts} {b d : List ℕ} → Kept ns n s b d → ConstsHeld n s b
+consts-held {ns} {n} {s} {b} {d} K go = by (K .state) (K .held) (K .good)
+  where
+    by : (st : State) → Held (K .rows-room) (K .notes-room) st s b d → Good ns n st → HeldConsts n s b
+    by (running rows notes) H g = record { rows = rows; holds = H .inside .1; consts = g .consts }
+    by (stopped k) H g = absurd (omega (arith, H .inside .0, H .inside .1))
+
+module _ {ws ns bytes ends : List ℕ} {scope at : ℕ} {s : Counts} {b d : List ℕ} (R : Ready (one stmt) ws ns bytes ends scope at s b d) (j : ℕ) (q : kindOf (getD ws at 0) ≡ 64 + j) where
+  there : StmtAt ns (length ends) (kindAt j) ws at
+  there = at-kind j q (R .tree)
+
+  any-there : SomeStmt (kindAt j) ws at
+  any-there = record { names = ns; strings = length ends; stmt = there }
+
+  declared-there : ReadyStmt (kindAt j) bytes ends ws at
+  declared-there = record { marks = ns; strings = length ends; named = R .around .named; stmt = there }
+
+-- ---- the arms
+
+module _ {ws ns bytes ends : List ℕ} {scope at : ℕ} {s : Counts} {b d : List ℕ} (R : Ready (one stmt) ws ns bytes ends scope at s b d) where
+  pub label-there : kindOf (getD ws at 0) ≡ 64 → SomeStmt label ws at × Fit s (length b) (length d)
+  unfolding kindAt kinds
+  label-there q = (any-there R 0 q, R .kept .fit)
+
+  pub label-name-there : kindOf (getD ws at 0) ≡ 65 → SomeStmt labelName ws at × Fit s (length b) (length d)
+  unfolding kindAt kinds
+  label-name-there q = (any-there R 1 q, R .kept .fit)
+
+  pub dim-there : kindOf (getD ws at 0) ≡ 79 → ReadyStmt dim bytes ends ws at × Fit s (length b) (length d)
+  unfolding kindAt kinds
+  dim-there q = (declared-there R 15 q, R .kept .fit)
+
+  pub shared-there : kindOf (getD ws at 0) ≡ 81 → SomeStmt shared ws at × Fit s (length b) (length d)
+  unfolding kindAt kinds
+  shared-there q = (any-there R 17 q, R .kept .fit)
+
+  pub statics-there : kindOf (getD ws at 0) ≡ 82 → SomeStmt static ws at × Fit s (length b) (length d)
+  unfolding kindAt kinds
+  statics-there q = (any-there R 18 q, R .kept .fit)
+
+  pub redim-there : kindOf (getD ws at 0) ≡ 83 → ReadyStmt redim bytes ends ws at × Fit s (length b) (length d)
+  unfolding kindAt kinds
+  redim-there q = (declared-there R 19 q, R .kept .fit)
+
+  pub sub-there : kindOf (getD ws at 0) ≡ 84 → StmtAt ns (length ends) sub ws at × Named bytes ends ns × (length ends ≤ 1024) × Fit s (length b) (length d)
+  unfolding kindAt kinds
+  sub-there q = (there R 20 q, R .around .named, R .around .few, R .kept .fit)
+
+  pub function-there : kindOf (getD ws at 0) ≡ 85 → StmtAt ns (length ends) function ws at × Named bytes ends ns × (length ends ≤ 1024) × Fit s (length b) (length d)
+  unfolding kindAt kinds
+  function-there q = (there R 21 q, R .around .named, R .around .few, R .kept .fit)
+
+  pub constant-there : kindOf (getD ws at 0) ≡ 89 → ConstAt ws at s b × Fit s (length b) (length d)
+  unfolding kindAt kinds
+  constant-there q = (record { names = ns; strings = length ends; stmt = there R 25 q; held = consts-held (R .kept) }, R .kept .fit)
+
+  pub option-base-there : kindOf (getD ws at 0) ≡ 92 → SomeStmt optionBase ws at × Fit s (length b) (length d)
+  unfolding kindAt kinds
+  option-base-there q = (any-there R 28 q, R .kept .fit)
+
+  pub type-def-there : kindOf (getD ws at 0) ≡ 93 → SomeType ws at × Fit s (length b) (length d)
+  unfolding kindAt kinds
+  type-def-there q = (record { names = ns; strings = length ends; few = omega (arith, R .around .counted, R .around .few); stmt = there R 29 q }, R .kept .fit)
+
+-- what the arm of the kind j does
+module _ {ws ns bytes ends erased : List ℕ} {n scope at : ℕ} {s r : Counts} {b d b′ d′ : List ℕ} where
+  pub label-done : kindOf (getD ws at 0) ≡ 64 → CollectsAny label ws scope at s r b d b′ d′ → Stated ws ns n bytes ends erased scope at s r b d b′ d′
+  unfolding kindAt kinds
+  label-done q c = of-kind 0 q (c .all ns n bytes ends erased)
+
+  pub label-name-done : kindOf (getD ws at 0) ≡ 65 → CollectsAny labelName ws scope at s r b d b′ d′ → Stated ws ns n bytes ends erased scope at s r b d b′ d′
+  unfolding kindAt kinds
+  label-name-done q c = of-kind 1 q (c .all ns n bytes ends erased)
+
+  pub dim-done : kindOf (getD ws at 0) ≡ 79 → ((ns : List ℕ) (n : ℕ) → Collects ns n dim ws bytes ends erased scope at s r b d b′ d′) → Stated ws ns n bytes ends erased scope at s r b d b′ d′
+  unfolding kindAt kinds
+  dim-done q c = of-kind 15 q (c ns n)
+
+  pub shared-done : kindOf (getD ws at 0) ≡ 81 → CollectsAny shared ws scope at s r b d b′ d′ → Stated ws ns n bytes ends erased scope at s r b d b′ d′
+  unfolding kindAt kinds
+  shared-done q c = of-kind 17 q (c .all ns n bytes ends erased)
+
+  pub statics-done : kindOf (getD ws at 0) ≡ 82 → CollectsAny static ws scope at s r b d b′ d′ → Stated ws ns n bytes ends erased scope at s r b d b′ d′
+  unfolding kindAt kinds
+  statics-done q c = of-kind 18 q (c .all ns n bytes ends erased)
+
+  pub redim-done : kindOf (getD ws at 0) ≡ 83 → ((ns : List ℕ) (n : ℕ) → Collects ns n redim ws bytes ends erased scope at s r b d b′ d′) → Stated ws ns n bytes ends erased scope at s r b d b′ d′
+  unfolding kindAt kinds
+  redim-done q c = of-kind 19 q (c ns n)
+
+  pub sub-done : kindOf (getD ws at 0) ≡ 84 → ((erased : List ℕ) → Collects ns n sub ws bytes ends erased scope at s r b d b′ d′) → Stated ws ns n bytes ends erased scope at s r b d b′ d′
+  unfolding kindAt kinds
+  sub-done q c = of-kind 20 q (c erased)
+
+  pub function-done : kindOf (getD ws at 0) ≡ 85 → ((erased : List ℕ) → Collects ns n function ws bytes ends erased scope at s r b d b′ d′) → Stated ws ns n bytes ends erased scope at s r b d b′ d′
+  unfolding kindAt kinds
+  function-done q c = of-kind 21 q (c erased)
+
+  pub constant-done : kindOf (getD ws at 0) ≡ 89 → ((scope : ℕ) → CollectsAny const ws scope at s r b d b′ d′) → Stated ws ns n bytes ends erased scope at s r b d b′ d′
+  unfolding kindAt kinds
+  constant-done q c = of-kind 25 q (c scope .all ns n bytes ends erased)
+
+  pub option-base-done : kindOf (getD ws at 0) ≡ 92 → ((scope : ℕ) → CollectsAny optionBase ws scope at s r b d b′ d′) → Stated ws ns n bytes ends erased scope at s r b d b′ d′
+  unfolding kindAt kinds
+  option-base-done q c = of-kind 28 q (c scope .all ns n bytes ends erased)
+
+  pub type-def-done : kindOf (getD ws at 0) ≡ 93 → CollectsType ws scope at s r b d b′ d′ → Stated ws ns n bytes ends erased scope at s r b d b′ d′
+  unfolding kindAt kinds
+  type-def-done q c = of-kind 29 q (c .all ns n bytes ends erased)

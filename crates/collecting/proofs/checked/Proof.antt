@@ -1,0 +1,72 @@
+use borrow.Author.Needs.{needs}
+use Rattle.collecting.proofs.checked.Statement.{statement}
+use Rattle.collecting.proofs.checked.Tie as tie
+use Rattle.collecting.proofs.checked.Reads as reads
+use Rattle.collecting.proofs.checked.Lts as lts
+use Rattle.collecting.proofs.refusal.Reads as refusal-reads
+use Rattle.collecting.proofs.tables.Reads as tables-reads
+use Rattle.reader.proofs.check_program.Reads as check-program-reads
+
+-- src/lib.rt:348:9
+check-program-requires : tie.Need-check-program-requires
+check-program-requires c κs = search needs
+
+-- src/lib.rt:349:30
+enum-known-a : tie.Need-enum-known-a
+enum-known-a c = search needs
+
+-- src/lib.rt:350:9
+returns : tie.Need-returns
+returns c = ?
+
+enum-told : tie.Need-enum-told
+enum-told c = search needs
+
+-- src/lib.rt:352:9
+tables-requires : tie.Need-tables-requires
+tables-requires c κs = ?
+
+-- src/lib.rt:354:32
+refusal-requires : tie.Need-refusal-requires
+refusal-requires c κs = ?
+
+-- src/lib.rt:354:9
+same-length : tie.Need-same-length
+same-length c = search needs
+
+-- src/lib.rt:354:9
+same-length-2 : tie.Need-same-length-2
+same-length-2 c = search needs
+
+-- src/lib.rt:354:9
+returns-2 : tie.Need-returns-2
+returns-2 c = ?
+
+-- src/lib.rt:336:1
+same-length-3 : tie.Need-same-length-3
+same-length-3 c = search needs
+
+-- src/lib.rt:336:1
+same-length-4 : tie.Need-same-length-4
+same-length-4 c = search needs
+
+-- src/lib.rt:336:1
+returns-3 : tie.Need-returns-3
+returns-3 c = ?
+
+pub checked-spec : {M : Type 1} → statement M
+checked-spec =
+    tie.close
+    (tie.spec
+    check-program-requires
+    enum-known-a
+    returns
+    enum-told
+    tables-requires
+    refusal-requires
+    same-length
+    same-length-2
+    returns-2
+    same-length-3
+    same-length-4
+    returns-3)

@@ -1,0 +1,20 @@
+use borrow.Author.Needs.{needs}
+use Rattle.collecting.proofs.refusal.Statement.{statement}
+use Rattle.collecting.proofs.refusal.Tie as tie
+use Rattle.collecting.proofs.refusal.Reads as reads
+use Rattle.collecting.proofs.refusal.Lts as lts
+
+-- src/lib.rt:324:1
+returns : tie.Need-returns
+returns c = search needs
+
+-- src/lib.rt:324:1
+returns-2 : tie.Need-returns-2
+returns-2 c = search needs
+
+-- src/lib.rt:324:1
+returns-3 : tie.Need-returns-3
+returns-3 c = ?
+
+pub refusal-spec : {M : Type 1} → statement M
+refusal-spec = tie.close (tie.spec returns returns-2 returns-3)

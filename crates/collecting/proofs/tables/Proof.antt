@@ -1,0 +1,37 @@
+use borrow.Author.Needs.{needs}
+use Rattle.collecting.proofs.tables.Statement.{statement}
+use Rattle.collecting.proofs.tables.Tie as tie
+use Rattle.collecting.proofs.tables.Reads as reads
+use Rattle.collecting.proofs.tables.Lts as lts
+use Rattle.collecting.proofs.statements.Reads as statements-reads
+use Rattle.steps.proofs.begin.Reads as begin-reads
+use Rattle.steps.proofs.finish.Reads as finish-reads
+
+-- src/lib.rt:317:9
+begin-requires : tie.Need-begin-requires
+begin-requires c κs = search needs
+
+-- src/lib.rt:318:9
+statements-requires : tie.Need-statements-requires
+statements-requires c κs = ?
+
+-- src/lib.rt:320:5
+finish-requires : tie.Need-finish-requires
+finish-requires c κs = search needs
+
+-- src/lib.rt:305:1
+same-length : tie.Need-same-length
+same-length c = search needs
+
+-- src/lib.rt:305:1
+same-length-2 : tie.Need-same-length-2
+same-length-2 c = search needs
+
+-- src/lib.rt:305:1
+returns : tie.Need-returns
+returns c = ?
+
+pub tables-spec : {M : Type 1} → statement M
+tables-spec =
+    tie.close
+    (tie.spec begin-requires statements-requires finish-requires same-length same-length-2 returns)

@@ -1,0 +1,86 @@
+-- What the walk of collecting asks and promises: whatever stands there is collected, and the lent rows stay such that a lent table may have them.
+-- Definitions only.
+use Prim.Native.Nat.{ℕ, _≤_}
+use mathlib.Core.Path.{_≡_}
+use mathlib.Core.List.{List}
+use mathlib.Core.Option.{some}
+use lib.ListN.{length}
+use Rattle.expr.specs.Expr.{Expr}
+use Rattle.tree.specs.Sorts.{stmt, body, Sorts, Kind, sorts}
+use Rattle.tree.specs.Tree.{Shape, one, row, Tree, Stmt, over}
+use Rattle.tree.specs.Stands.{Stands}
+use Rattle.views.specs.View.{view, inner, walk}
+use Rattle.steps.specs.State.{State, Step, _⨾_, nothing, each}
+use Rattle.steps.specs.Held.{Fit, Held, Does}
+use Rattle.steps.specs.declared.Counts.{Counts}
+use Rattle.collect.specs.Seen.{see}
+use Rattle.collect.specs.Collect.{Given, given, statement, collect}
+use Rattle.collect.specs.Code.{Named}
+use Rattle.plans.specs.Pieces.{Piece, exprPiece, stmtPiece}
+use Rattle.plans.specs.Plans.{Shallow, ShallowRows, Walks, WalksRows}
+use Rattle.lawful.specs.Good.{Good}
+use Rattle.lawful.specs.Views.{Scope}
+
+-- ---- what is asked
+
+-- the buffers hold a state whose rows are a lent table's
+pub record Kept (ns : List ℕ) (n : ℕ) (s : Counts) (b d : List ℕ) : Type 0 where
+  pub fit : Fit s (length b) (length d)
+  pub rows-room : ℕ
+  pub notes-room : ℕ
+  pub state : State
+  pub held : Held rows-room notes-room state s b d
+  pub good : Good ns n state
+
+-- strings, their marks, and a scope
+pub record Around (bytes ends ns : List ℕ) (scope : ℕ) : Type 0 where
+  pub named : Named bytes ends ns
+  pub counted : length ns ≡ length ends
+  pub few : length ends ≤ 1024
+  pub scoped : Scope ns (length ends) scope
+
+-- a tree of the shape stands there
+pub record Ready (i : Shape) (ws ns bytes ends : List ℕ) (scope at : ℕ) (s : Counts) (b d : List ℕ) : Type 0 where
+  pub tree : Shallow i ns (length ends) 100 ws at
+  pub around : Around bytes ends ns scope
+  pub kept : Kept ns (length ends) s b d
+
+-- so many rows of fields
+pub record ReadyRows (ss : Sorts) (k : ℕ) (ws ns bytes ends : List ℕ) (scope at : ℕ) (s : Counts) (b d : List ℕ) : Type 0 where
+  pub rows : ShallowRows ss k ns (length ends) 100 ws at
+  pub around : Around bytes ends ns scope
+  pub kept : Kept ns (length ends) s b d
+
+-- ---- what is promised
+
+-- `collect` of what stands in a tree but in no nested statement
+unfoldable pub piece : Given → ℕ → Piece Expr → Step
+piece G scope (exprPiece e) = nothing
+piece G scope (stmtPiece k line r) = statement G scope line (view k (over see r)) ⨾ walk (statement G) (inner scope (view k (over see r))) (over see r)
+
+-- these pieces are collected, of the program's strings
+abbrev pub Collected : (ns0 bytes ends erased : List ℕ) (scope : ℕ) (s r : Counts) (b d b′ d′ : List ℕ) → List ℕ → ℕ → List (Piece Expr) → Type 0
+Collected ns0 bytes ends erased scope s r b d b′ d′ ns n ps = ns ≡ ns0 → n ≡ length ends → Does (λ N D. each (piece (given (some N) (some D) bytes ends erased) scope) ps) s r b d b′ d′
+
+pub record Walked (i : Shape) (ws ns bytes ends erased : List ℕ) (scope at next : ℕ) (s r : Counts) (b d b′ d′ : List ℕ) : Type 0 where
+  pub walks : Walks i ws at next (Collected ns bytes ends erased scope s r b d b′ d′)
+  pub kept : Kept ns (length ends) r b′ d′
+
+pub record WalkedRows (ss : Sorts) (k : ℕ) (ws ns bytes ends erased : List ℕ) (scope at next : ℕ) (s r : Counts) (b d b′ d′ : List ℕ) : Type 0 where
+  pub walks : WalksRows ss k ws at next (Collected ns bytes ends erased scope s r b d b′ d′)
+  pub kept : Kept ns (length ends) r b′ d′
+
+-- one statement, but for its bodies
+pub record Stated (ws ns : List ℕ) (n : ℕ) (bytes ends erased : List ℕ) (scope at : ℕ) (s r : Counts) (b d b′ d′ : List ℕ) : Type 0 where
+  pub does : (k : Kind) (line : ℕ) (fields : Tree Expr (row (sorts k))) (end : ℕ) → Stands ws ns n at (Stmt k line fields) end
+      → Does (λ N D. statement (given (some N) (some D) bytes ends erased) scope line (view k (over see fields))) s r b d b′ d′
+
+-- the scope of its bodies
+pub record InsideAt (ws : List ℕ) (at scope within : ℕ) : Type 0 where
+  pub fits : within ≤ 16777216
+  pub gives : (ns : List ℕ) (n : ℕ) (k : Kind) (line : ℕ) (r : Tree Expr (row (sorts k))) (end : ℕ) → Stands ws ns n at (Stmt k line r) end → within ≡ inner scope (view k (over see r))
+
+-- a list of statements is collected, and the rows stay such that a lent table may have them
+pub record Collects (ws ns bytes ends erased : List ℕ) (scope at next : ℕ) (s r : Counts) (b d b′ d′ : List ℕ) : Type 0 where
+  pub does : (v : Tree Expr (one body)) (end : ℕ) → Stands ws ns (length ends) at v end → (next ≡ end) × Does (λ N D. collect (given (some N) (some D) bytes ends erased) scope (over see v)) s r b d b′ d′
+  pub kept : Kept ns (length ends) r b′ d′

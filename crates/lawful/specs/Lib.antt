@@ -1,0 +1,4 @@
+pub mod Good
+pub mod Uses
+pub mod Views
+pub mod Lawful

@@ -1,0 +1,128 @@
+-- The fields looked at in order: the loop of `check`. What is left to look at does the same as all of it. Assumes nothing.
+use Prim.Native.Nat.{ℕ, _+_, _*_, _≤_, _<_}
+use mathlib.Core.Path.{_≡_, refl, sym, ap, _∙_, subst}
+use mathlib.Core.Logic.{_⊎_, inl, inr}
+use mathlib.Core.List.{List, [], _∷_, _++_}
+use native.Mathlib.Omega.{arith}
+use lib.ListN.{length}
+use Rattle.expr.specs.Expr.{Expr}
+use Rattle.tree.specs.Sorts.{FieldDecl as FieldRow}
+use Rattle.tree.specs.Tree.{Tree, row as oneRow, rows as manyRows, count}
+use Rattle.tree.specs.Stands.{Stands, SomeTree}
+use Rattle.views.specs.View.{head, arg, FieldDecl, rowsOf, fieldDecl}
+use Rattle.table.specs.Rows.{Row, noteWidth, Holds}
+use Rattle.table.specs.Laws.{order}
+use Rattle.steps.specs.State.{State, running}
+use Rattle.steps.specs.declared.Counts.{Counts}
+use Rattle.steps.specs.Held.{Held}
+use Rattle.types.specs.Types.{SomeFields, FieldIs, Upto, codeOf, fieldCode, sized, looks, checks, total, Looks, Checks}
+use Rattle.types.specs.declared.FieldAt.{FieldAt}
+use Rattle.types.specs.declared.Summed.{Summed}
+use Rattle.types.proofs.Walk.{next-of, Rest, rest-all, rest-next, rest-before, rest-none}
+
+pub record Mid (N D : ℕ) (rows notes : List Row) (line owner : ℕ) (fs : List FieldDecl) (c : Summed) (b d : List ℕ) (before after : List FieldDecl) : Type 0 where
+  pub state : State
+  pub held : Held N D state (c .counts) b d
+  pub left : checks D rows line owner (c .words) before after state ≡ checks D rows line owner 0 [] fs (running rows notes)
+  pub size : total rows owner (c .words) before after ≡ total rows owner 0 [] fs
+
+pub record CheckingAt (ws ns : List ℕ) (m : ℕ) (v : Tree Expr (manyRows FieldRow)) (end line owner : ℕ) (s : Counts) (b d₀ : List ℕ) (c : Summed) (a i : ℕ) (d : List ℕ) : Type 0 where
+  pub past : Rest ws ns m v end a i
+  pub mid : (N D : ℕ) (rows notes : List Row) → Held N D (running rows notes) s b d₀ → Mid N D rows notes line owner (rowsOf fieldDecl v) c b d (past .before) (rowsOf fieldDecl (past .rest))
+
+pub record Checking (ws : List ℕ) (at n line owner : ℕ) (s : Counts) (b d₀ : List ℕ) (c : Summed) (a i : ℕ) (d : List ℕ) : Type 0 where
+  pub fit : c .counts .notes * noteWidth ≤ length d
+  pub kept : c .counts .rows ≡ s .rows
+  pub few : c .words ≤ 65535
+  pub upto : i ≤ n
+  pub walked : (ns : List ℕ) (m : ℕ) (v : Tree Expr (manyRows FieldRow)) (end : ℕ) → Stands ws ns m at v end → n ≤ count v → CheckingAt ws ns m v end line owner s b d₀ c a i d
+
+pub all-of : (i n : ℕ) → i ≤ n → (i < n → ⊥) → i ≡ n
+all-of i n le out = go (order i n)
+  where
+    go : (i < n) ⊎ (n ≤ i) → i ≡ n
+    go (inl h) = absurd (out h)
+    go (inr h) = omega arith
+
+-- one more field, by what the code knows of it
+module _ (D : ℕ) (rows : List Row) (line owner w w′ code name h a : ℕ) (before tail : List FieldDecl) (f : FieldDecl)
+    (ec : code ≡ fieldCode rows owner before f) (en : name ≡ f .name) (eh : h ≡ head (f .ty)) (ea : a ≡ arg (f .ty)) (ew : w′ ≡ sized rows w code h a) where
+  checks-step : (st : State) → checks D rows line owner w′ (before ++ (f ∷ [])) tail (looks D rows line owner w code name h a st) ≡ checks D rows line owner w before (f ∷ tail) st
+  unfolding checks
+  checks-step st = rw (ew, ec, en, eh, ea) refl
+
+  total-step : total rows owner w′ (before ++ (f ∷ [])) tail ≡ total rows owner w before (f ∷ tail)
+  unfolding total
+  total-step = rw (ew, ec, eh, ea) refl
+
+-- the code of the field there, as its tree has it
+pub code-there : {ws ns : List ℕ} {m : ℕ} {v : Tree Expr (manyRows FieldRow)} {end a i : ℕ} (at owner : ℕ) (rows : List Row) (f : FieldAt) (code : ℕ) (p : Rest ws ns m v end a i) (g : FieldDecl)
+    → f .name ≡ g .name → f .head ≡ head (g .ty) → f .arg ≡ arg (g .ty) → Stands ws ns m at v end → Upto ws at i (λ fs. code ≡ codeOf rows owner fs (f .name) (f .head) (f .arg)) → code ≡ fieldCode rows owner (p .before) g
+code-there {ws} {ns} {m} {v} {end} {a} {i} at owner rows f code p g en eh ea S U =
+    let e : code ≡ codeOf rows owner (p .before) (f .name) (f .head) (f .arg) =
+    U .of ns m v end S (omega (arith, p .counted)) ∙ ap (λ (l : List FieldDecl). codeOf rows owner l (f .name) (f .head) (f .arg)) (rest-before p) in
+    rw (en, eh, ea) at e
+
+module _ {ws : List ℕ} {at n line owner : ℕ} {s : Counts} {b d₀ : List ℕ} where
+  pub checking-all : s .notes * noteWidth ≤ length d₀ → Checking ws at n line owner s b d₀ (record { counts = s; words = 0 }) at 0 d₀
+  checking-all h =
+      record {
+        fit = h;
+        kept = refl;
+        few = omega arith;
+        upto = omega arith;
+        walked = λ ns m v end S e. record { past = rest-all S; mid = λ N D rows notes H. record { state = running rows notes; held = H; left = refl; size = refl } };
+      }
+
+  pub checking-some : {c : Summed} {a i : ℕ} {d : List ℕ} → SomeFields ws at n → Checking ws at n line owner s b d₀ c a i d → i < n → SomeTree (oneRow FieldRow) ws a
+  checking-some {c} {a} {i} {d} F C h =
+      let p = C .walked (F .names) (F .strings) (F .tree) (F .end) (F .stands) (F .enough) .past in
+      let q = next-of (p .rest) (omega (arith, p .counted, F .enough)) (p .there) in
+      record { names = F .names; strings = F .strings; tree = q .field; end = q .mid; stands = q .here }
+
+  pub checking-next : {c c′ : Summed} {a i : ℕ} {d d′ : List ℕ} → Checking ws at n line owner s b d₀ c a i d → i < n → (f : FieldAt) → FieldIs ws a f → (code : ℕ)
+      → ((rows : List Row) → Holds rows (s .rows) b → Upto ws at i (λ fs. code ≡ codeOf rows owner fs (f .name) (f .head) (f .arg)))
+      → Looks line owner code (f .name) (f .head) (f .arg) c c′ b d d′ → Checking ws at n line owner s b d₀ c′ (f .next) (i + 1) d′
+  checking-next {c} {c′} {a} {i} {d} {d′} C h f F code U L = record { fit = L .fit; kept = L .kept ∙ C .kept; few = L .few; upto = omega arith; walked = by }
+    where
+      by : (ns : List ℕ) (m : ℕ) (v : Tree Expr (manyRows FieldRow)) (end : ℕ) → Stands ws ns m at v end → n ≤ count v → CheckingAt ws ns m v end line owner s b d₀ c′ (f .next) (i + 1) d′
+      by ns m v end S e =
+          let w = C .walked ns m v end S e in
+          let p = w .past in
+          let q = next-of (p .rest) (omega (arith, p .counted)) (p .there) in
+          let g = F .is ns m (q .field) (q .mid) (q .here) in
+          let tail : List FieldDecl = rowsOf fieldDecl (q .tail) in
+          let decl : FieldDecl = fieldDecl (q .field) in
+          record {
+            past = rest-next p q (f .next) (g .3);
+            mid = λ N D rows notes H.
+                let M = w .mid N D rows notes H in
+                let holds : Holds rows (c .counts .rows) b = subst (λ (k : ℕ). Holds rows k b) (sym (C .kept)) (H .inside .1) in
+                let ec : code ≡ fieldCode rows owner (p .before) decl = code-there at owner rows f code p decl (g .0) (g .1) (g .2) S (U rows (H .inside .1)) in
+                let ew : c′ .words ≡ sized rows (c .words) code (f .head) (f .arg) = L .size rows holds in
+                record {
+                  state = looks D rows line owner (c .words) code (f .name) (f .head) (f .arg) (M .state);
+                  held = L .notes rows holds .after b N D (M .state) (M .held);
+                  left = checks-step D rows line owner (c .words) (c′ .words) code (f .name) (f .head) (f .arg) (p .before) tail decl ec (g .0) (g .1) (g .2) ew (M .state)
+                      ∙ ap (λ (l : List FieldDecl). checks D rows line owner (c .words) (p .before) l (M .state)) (sym (q .items)) ∙ M .left;
+                  size = total-step D rows line owner (c .words) (c′ .words) code (f .name) (f .head) (f .arg) (p .before) tail decl ec (g .0) (g .1) (g .2) ew
+                      ∙ ap (total rows owner (c .words) (p .before)) (sym (q .items)) ∙ M .size;
+                };
+          }
+
+  pub checking-done : {c : Summed} {a i : ℕ} {d : List ℕ} → Checking ws at n line owner s b d₀ c a i d → (i < n → ⊥) → Checks ws at n line owner s c b d₀ d
+  unfolding checks total
+  checking-done {c} {a} {i} {d} C h = record { fit = C .fit; kept = C .kept; after = by }
+    where
+      last : i ≡ n
+      last = all-of i n (C .upto) h
+
+      by : (ns : List ℕ) (m : ℕ) (v : Tree Expr (manyRows FieldRow)) (end : ℕ) → Stands ws ns m at v end → count v ≡ n → (N D : ℕ) (rows notes : List Row) → Held N D (running rows notes) s b d₀
+          → Held N D (checks D rows line owner 0 [] (rowsOf fieldDecl v) (running rows notes)) (c .counts) b d × (c .words ≡ total rows owner 0 [] (rowsOf fieldDecl v))
+      by ns m v end S e N D rows notes H =
+          let w = C .walked ns m v end S (omega arith) in
+          let M = w .mid N D rows notes H in
+          let z : rowsOf fieldDecl (w .past .rest) ≡ [] = rest-none (w .past) (e ∙ sym last) in
+          let l : M .state ≡ checks D rows line owner 0 [] (rowsOf fieldDecl v) (running rows notes) =
+          ap (λ (l : List FieldDecl). checks D rows line owner (c .words) (w .past .before) l (M .state)) (sym z) ∙ M .left in
+          (subst (λ (st : State). Held N D st (c .counts) b d) l (M .held), ap (total rows owner (c .words) (w .past .before)) (sym z) ∙ M .size)

@@ -1,0 +1,195 @@
+-- The kept fields entered in order: the loop of `enter_fields`. What it asks of the rows is as it was before the first. Assumes nothing.
+use Prim.Native.Nat.{ℕ, _+_, _*_, _≤_, _<_}
+use mathlib.Core.Path.{_≡_, refl, sym, ap, _∙_, subst}
+use mathlib.Core.Bool.{Bool, true, false}
+use mathlib.Core.List.{List, [], _∷_, _++_}
+use mathlib.Core.Option.{some}
+use native.Mathlib.Omega.{arith}
+use lib.Dec.{eqb}
+use lib.ListN.{length}
+use Rattle.words.specs.Word.{pick}
+use Rattle.expr.specs.Expr.{Expr}
+use Rattle.tree.specs.Sorts.{FieldDecl as FieldRow}
+use Rattle.tree.specs.Tree.{Tree, row as oneRow, rows as manyRows, count}
+use Rattle.tree.specs.Stands.{Stands, SomeTree}
+use Rattle.views.specs.View.{head, arg, FieldDecl, rowsOf, fieldDecl}
+use Rattle.table.specs.Rows.{Row, width, insert, Holds}
+use Rattle.entries.specs.Entries.{fieldRow}
+use Rattle.steps.specs.State.{State, running, stopped, asking, each, enter}
+use Rattle.steps.specs.declared.Counts.{Counts}
+use Rattle.steps.specs.Held.{Held, Rows}
+use Rattle.steps.specs.Compose.{stays-each, stays-enter}
+use Rattle.collect.specs.Collect.{FieldInfo, fieldRows}
+use Rattle.types.specs.Types.{SomeFields, FieldIs, Upto, codeOf, fieldCode, sized, sizedBy, keeps, Keeps, Enters}
+use Rattle.types.specs.declared.FieldAt.{FieldAt}
+use Rattle.types.specs.declared.Kept.{Kept}
+use Rattle.types.proofs.Alike.{Alike, alike-refl, alike-field, Small, small-left, small-right, code-alike, sized-alike, AlikeIn, change-alike, Entering}
+use Rattle.types.proofs.Walk.{rows-small, next-of, Rest, rest-all, rest-next, rest-none}
+use Rattle.types.proofs.Checking.{all-of, code-there}
+
+-- the rows that a run begins with
+abbrev pub rowsIn : State → List Row
+rowsIn (running r n) = r
+rowsIn (stopped k) = []
+
+-- what is left to enter does the same as all of it
+abbrev pub Inside : (owner N : ℕ) → List Row → (whole : State) → (k words : ℕ) → (before after : List FieldDecl) → State → Type 0
+Inside owner N rows whole k words before after (running r n) = Alike owner rows r × (each (enter (some N)) (fieldRows owner k (keeps rows owner words before after)) (running r n) ≡ whole)
+Inside owner N rows whole k words before after (stopped j) = stopped j ≡ whole
+
+module _ (owner N : ℕ) (rows : List Row) (whole : State) where
+  inside-of : (k words : ℕ) (before after : List FieldDecl) (st : State) → AlikeIn owner rows st
+      → each (enter (some N)) (fieldRows owner k (keeps rows owner words before after)) st ≡ whole → Inside owner N rows whole k words before after st
+  inside-of k words before after (running r n) A e = (A, e)
+  inside-of k words before after (stopped j) A e = sym (stays-each (enter (some N)) (fieldRows owner k (keeps rows owner words before after)) (λ row. stays-enter N row) j) ∙ e
+
+  inside-end : (k words : ℕ) (before : List FieldDecl) (st : State) → Inside owner N rows whole k words before [] st → st ≡ whole
+  unfolding keeps fieldRows each
+  inside-end k words before (running r n) I = I .1
+  inside-end k words before (stopped j) I = I
+
+  keep-alike : (t : Bool) (i name word h a : ℕ) (st : State) → AlikeIn owner rows st → AlikeIn owner rows (each (enter (some N)) (pick t (fieldRow owner i name word h a ∷ []) []) st)
+  unfolding each enter
+  keep-alike true i name word h a st A = change-alike owner N rows (insert (fieldRow owner i name word h a)) (λ r. alike-field owner r i name word h a) st A
+  keep-alike false i name word h a st A = A
+
+  keep-one : (k w : ℕ) (f : FieldDecl) (st : State) (t : Bool) (ks : List FieldInfo)
+      → each (enter (some N)) (fieldRows owner (pick t (k + 1) k) ks) (each (enter (some N)) (pick t (fieldRow owner k (f .name) w (head (f .ty)) (arg (f .ty)) ∷ []) []) st)
+      ≡ each (enter (some N)) (fieldRows owner k (pick t (record { name = f .name; word = w; ty = f .ty } ∷ ks) ks)) st
+  unfolding fieldRows each
+  keep-one k w f st true ks = refl
+  keep-one k w f st false ks = refl
+
+  keep-step : (k k′ w w′ code name h a : ℕ) (before tail : List FieldDecl) (f : FieldDecl) (st : State)
+      → code ≡ fieldCode rows owner before f → name ≡ f .name → h ≡ head (f .ty) → a ≡ arg (f .ty) → w′ ≡ sized rows w code h a → k′ ≡ pick (eqb code 0) (k + 1) k
+      → each (enter (some N)) (fieldRows owner k′ (keeps rows owner w′ (before ++ (f ∷ [])) tail)) (each (enter (some N)) (pick (eqb code 0) (fieldRow owner k name w h a ∷ []) []) st)
+      ≡ each (enter (some N)) (fieldRows owner k (keeps rows owner w before (f ∷ tail))) st
+  unfolding keeps
+  keep-step k k′ w w′ code name h a before tail f st ec en eh ea ew ek = rw (ek, ew, ec, en, eh, ea) (keep-one k w f st (eqb (fieldCode rows owner before f) 0) (keeps rows owner (sizedBy rows owner w before f) (before ++ (f ∷ [])) tail))
+
+pub inside-start : (owner N D : ℕ) (fs : List FieldDecl) (st : State) → Inside owner N (rowsIn st) (Entering owner fs N D st) 0 0 [] fs st
+unfolding asking
+inside-start owner N D fs (running r n) = (alike-refl, refl)
+inside-start owner N D fs (stopped k) = refl
+
+-- one more field
+module _ (owner N : ℕ) (rows : List Row) (whole : State) (k k′ w w′ code name h a cnt : ℕ) (before tail : List FieldDecl) (f : FieldDecl) (b : List ℕ)
+    (B : Small before) (s : arg (f .ty) < 16777216) (en : name ≡ f .name) (eh : h ≡ head (f .ty)) (ea : a ≡ arg (f .ty)) (ek : k′ ≡ pick (eqb code 0) (k + 1) k)
+    (told : (r : List Row) → Holds r cnt b → (code ≡ fieldCode r owner before f) × (w′ ≡ sized r w code h a)) where
+  pub inside-next : (st : State) → ((r n : List Row) → st ≡ running r n → Holds r cnt b) → Inside owner N rows whole k w before (f ∷ tail) st
+      → Inside owner N rows whole k′ w′ (before ++ (f ∷ [])) tail (each (enter (some N)) (pick (eqb code 0) (fieldRow owner k name w h a ∷ []) []) st)
+  inside-next (running r n) H I =
+      let q = told r (H r n refl) in
+      let ec : code ≡ fieldCode rows owner before f = q .0 ∙ code-alike owner rows r (I .0) before (f .name) (head (f .ty)) (arg (f .ty)) B s in
+      let ew₁ : w′ ≡ sized r w (fieldCode rows owner before f) (head (f .ty)) (arg (f .ty)) = rw (ec, eh, ea) at (q .1) in
+      let ew₂ : w′ ≡ sized rows w (fieldCode rows owner before f) (head (f .ty)) (arg (f .ty)) = ew₁ ∙ sized-alike owner rows r (I .0) before w (f .name) (head (f .ty)) (arg (f .ty)) s in
+      let ew : w′ ≡ sized rows w code h a = rw (ec, eh, ea) ew₂ in
+      inside-of owner N rows whole k′ w′ (before ++ (f ∷ [])) tail _
+      (keep-alike owner N rows whole (eqb code 0) k name w h a (running r n) (I .0))
+      (keep-step owner N rows whole k k′ w w′ code name h a before tail f (running r n) ec en eh ea ew ek ∙ I .1)
+  inside-next (stopped j) H I =
+      subst (Inside owner N rows whole k′ w′ (before ++ (f ∷ [])) tail) (sym (stays-each (enter (some N)) (pick (eqb code 0) (fieldRow owner k name w h a ∷ []) []) (λ row. stays-enter N row) j)) I
+
+-- ---- the loop
+
+pub record Mid (N D owner : ℕ) (st₀ : State) (fs : List FieldDecl) (c : Kept) (b d : List ℕ) (before after : List FieldDecl) : Type 0 where
+  pub state : State
+  pub held : Held N D state (c .counts) b d
+  pub inside : Inside owner N (rowsIn st₀) (Entering owner fs N D st₀) (c .fields) (c .words) before after state
+
+pub record EnteringAt (ws ns : List ℕ) (m : ℕ) (v : Tree Expr (manyRows FieldRow)) (end owner : ℕ) (s : Counts) (b₀ : List ℕ) (c : Kept) (a i : ℕ) (b : List ℕ) : Type 0 where
+  pub past : Rest ws ns m v end a i
+  pub mid : (d : List ℕ) (N D : ℕ) (st₀ : State) → Held N D st₀ s b₀ d → Mid N D owner st₀ (rowsOf fieldDecl v) c b d (past .before) (rowsOf fieldDecl (past .rest))
+
+pub record EnteringMid (ws : List ℕ) (at n owner : ℕ) (s : Counts) (b₀ : List ℕ) (c : Kept) (a i : ℕ) (b : List ℕ) : Type 0 where
+  pub fit : c .counts .rows * width ≤ length b
+  pub kept : c .counts .notes ≡ s .notes
+  pub few : c .words ≤ 65535
+  pub fields : c .fields ≤ i
+  pub upto : i ≤ n
+  pub walked : (ns : List ℕ) (m : ℕ) (v : Tree Expr (manyRows FieldRow)) (end : ℕ) → Stands ws ns m at v end → n ≤ count v → EnteringAt ws ns m v end owner s b₀ c a i b
+
+more-fields : (code k k′ i : ℕ) → k′ ≡ pick (eqb code 0) (k + 1) k → k ≤ i → k′ ≤ i + 1
+more-fields code k k′ i e h = go (eqb code 0) e
+  where
+    go : (t : Bool) → k′ ≡ pick t (k + 1) k → k′ ≤ i + 1
+    go true q = omega arith
+    go false q = omega arith
+
+held-rows : {N D : ℕ} {c : Counts} {b d : List ℕ} (st : State) → Held N D st c b d → (r n : List Row) → st ≡ running r n → Holds r (c .rows) b
+held-rows {N} {D} {c} {b} {d} st H r n e = subst (λ (x : State). Held N D x c b d) e H .inside .1
+
+module _ {ws : List ℕ} {at n owner : ℕ} {s : Counts} {b₀ : List ℕ} where
+  pub entering-all : s .rows * width ≤ length b₀ → EnteringMid ws at n owner s b₀ (record { counts = s; fields = 0; words = 0 }) at 0 b₀
+  entering-all h =
+      record {
+        fit = h;
+        kept = refl;
+        few = omega arith;
+        fields = omega arith;
+        upto = omega arith;
+        walked = λ ns m v end S e. record { past = rest-all S; mid = λ d N D st₀ H. record { state = st₀; held = H; inside = inside-start owner N D (rowsOf fieldDecl v) st₀ } };
+      }
+
+  pub entering-some : {c : Kept} {a i : ℕ} {b : List ℕ} → SomeFields ws at n → EnteringMid ws at n owner s b₀ c a i b → i < n → SomeTree (oneRow FieldRow) ws a
+  entering-some {c} {a} {i} {b} F C h =
+      let p = C .walked (F .names) (F .strings) (F .tree) (F .end) (F .stands) (F .enough) .past in
+      let q = next-of (p .rest) (omega (arith, p .counted, F .enough)) (p .there) in
+      record { names = F .names; strings = F .strings; tree = q .field; end = q .mid; stands = q .here }
+
+  pub entering-next : {c c′ : Kept} {a i : ℕ} {b b′ : List ℕ} → EnteringMid ws at n owner s b₀ c a i b → i < n → (f : FieldAt) → FieldIs ws a f → (code : ℕ)
+      → ((rows : List Row) → Holds rows (c .counts .rows) b → Upto ws at i (λ fs. code ≡ codeOf rows owner fs (f .name) (f .head) (f .arg)))
+      → Keeps owner code (f .name) (f .head) (f .arg) c c′ b b′ → EnteringMid ws at n owner s b₀ c′ (f .next) (i + 1) b′
+  entering-next {c} {c′} {a} {i} {b} {b′} C h f F code U K =
+      record {
+        fit = K .rows .fit;
+        kept = K .rows .kept ∙ C .kept;
+        few = K .few;
+        fields = more-fields code (c .fields) (c′ .fields) i (K .more) (C .fields);
+        upto = omega arith;
+        walked = by;
+      }
+    where
+      by : (ns : List ℕ) (m : ℕ) (v : Tree Expr (manyRows FieldRow)) (end : ℕ) → Stands ws ns m at v end → n ≤ count v → EnteringAt ws ns m v end owner s b₀ c′ (f .next) (i + 1) b′
+      by ns m v end S e =
+          let w = C .walked ns m v end S e in
+          let p = w .past in
+          let q = next-of (p .rest) (omega (arith, p .counted)) (p .there) in
+          let g = F .is ns m (q .field) (q .mid) (q .here) in
+          let tail : List FieldDecl = rowsOf fieldDecl (q .tail) in
+          let decl : FieldDecl = fieldDecl (q .field) in
+          let small : Small (p .before ++ (decl ∷ tail)) = subst Small (p .is ∙ ap (λ (l : List FieldDecl). p .before ++ l) (q .items)) (rows-small ns m v (S .valid)) in
+          record {
+            past = rest-next p q (f .next) (g .3);
+            mid = λ d N D st₀ H.
+                let M = w .mid d N D st₀ H in
+                record {
+                  state = each (enter (some N)) (pick (eqb code 0) (fieldRow owner (c .fields) (f .name) (c .words) (f .head) (f .arg) ∷ []) []) (M .state);
+                  held = K .rows .after d N D (M .state) (M .held);
+                  inside = inside-next owner N (rowsIn st₀) (Entering owner (rowsOf fieldDecl v) N D st₀) (c .fields) (c′ .fields) (c .words) (c′ .words) code (f .name) (f .head) (f .arg) (c .counts .rows) (p .before) tail decl b
+                      (small-left (p .before) (decl ∷ tail) small) (small-right (p .before) (decl ∷ tail) small .0) (g .0) (g .1) (g .2) (K .more)
+                      (λ r R. (code-there at owner r f code p decl (g .0) (g .1) (g .2) S (U r R), K .size r R)) (M .state) (held-rows (M .state) (M .held))
+                      (subst (λ (l : List FieldDecl). Inside owner N (rowsIn st₀) (Entering owner (rowsOf fieldDecl v) N D st₀) (c .fields) (c .words) (p .before) l (M .state)) (q .items) (M .inside));
+                };
+          }
+
+  pub entering-done : {c : Kept} {a i : ℕ} {b : List ℕ} → EnteringMid ws at n owner s b₀ c a i b → (i < n → ⊥) → Enters ws at n owner s (c .counts) b₀ b
+  entering-done {c} {a} {i} {b} C h = record { after = by }
+    where
+      last : i ≡ n
+      last = all-of i n (C .upto) h
+
+      by : (ns : List ℕ) (m : ℕ) (v : Tree Expr (manyRows FieldRow)) (end : ℕ) → Stands ws ns m at v end → count v ≡ n → Rows (Entering owner (rowsOf fieldDecl v)) s (c .counts) b₀ b
+      by ns m v end S e =
+          let w = C .walked ns m v end S (omega arith) in
+          let z : rowsOf fieldDecl (w .past .rest) ≡ [] = rest-none (w .past) (e ∙ sym last) in
+          record {
+            fit = C .fit;
+            kept = C .kept;
+            after = λ d N D st H.
+                let M = w .mid d N D st H in
+                subst (λ (x : State). Held N D x (c .counts) b d)
+                (inside-end owner N (rowsIn st) (Entering owner (rowsOf fieldDecl v) N D st) (c .fields) (c .words) (w .past .before) (M .state)
+                (subst (λ (l : List FieldDecl). Inside owner N (rowsIn st) (Entering owner (rowsOf fieldDecl v) N D st) (c .fields) (c .words) (w .past .before) l (M .state)) z (M .inside)))
+                (M .held);
+          }

@@ -1,0 +1,8 @@
+pub mod Laws
+pub mod Alike
+pub mod Walk
+pub mod Before
+pub mod Checking
+pub mod Entering
+pub mod Whole
+pub mod Turns

@@ -1,0 +1,43 @@
+-- The two passes, and the TYPE's row between them. Assumes nothing.
+use native.Mathlib.Omega.{arith}
+use Rattle.types.proofs.Whole.{defines-stopped, defines-done}
+use borrow.Author.Needs.{needs}
+use Rattle.types.proofs.fields.Statement.{statement}
+use Rattle.types.proofs.fields.Tie as tie
+
+returns : tie.Need-returns
+returns c = defines-stopped (c .before .before .before .before .before .pre .0) (c .if1 .taken)
+
+check-requires : tie.Need-check-requires
+check-requires c κs = search needs
+
+remove-under-requires : tie.Need-remove-under-requires
+remove-under-requires c κs = search needs
+
+enter-requires : tie.Need-enter-requires
+enter-requires c κs = search needs
+
+enter-fields-requires : tie.Need-enter-fields-requires
+enter-fields-requires c κs = (c .before .before .before .enter .ensures .fit, c .before .before .before .before .before .before .before .before .before .before .before .before .before .before .before .before .before .before .before .before .pre .1, omega (arith, c .before .before .before .before .before .before .before .before .before .before .before .before .before .before .before .before .before .before .before .before .pre .2), c .before .before .before .before .before .before .before .before .before .before .before .before .before .before .before .before .before .before .before .before .pre .3)
+
+same-length : tie.Need-same-length
+same-length c = search needs
+
+same-length-2 : tie.Need-same-length-2
+same-length-2 c = search needs
+
+returns-2 : tie.Need-returns-2
+returns-2 c = defines-done (c .before .before .before .before .before .before .before .before .before .before .before .before .before .before .before .before .before .before .if1 .left) (c .before .before .before .before .before .before .before .before .before .before .before .before .before .before .before .check .ensures) (c .before .before .before .before .before .before .before .before .before .before .remove-under .ensures) (c .before .before .before .before .before .before .enter .ensures) (c .before .before .enter-fields .ensures)
+
+pub fields-spec : {M : Type 1} → statement M
+fields-spec =
+    tie.close
+    (tie.spec
+    returns
+    check-requires
+    remove-under-requires
+    enter-requires
+    enter-fields-requires
+    same-length
+    same-length-2
+    returns-2)

@@ -1,0 +1,137 @@
+-- Every expression replaced: what a statement's targets and its own expressions are then.
+use mathlib.Core.Path.{_≡_, refl, sym, ap, ap₂, _∙_}
+use mathlib.Core.List.{List, [], _∷_, _++_, map}
+use mathlib.Core.Option.{Option, none as absent, some}
+use Rattle.tree.specs.Sorts.{Sorts, nil, _&_, expr, opt, many, exprs, LValue as LValueRow, Kind, sorts, label, labelName, let′, print, input, lineInput, if, for, while, doLoop, goto, gosub, return, onGoto, onGosub, dim, declare, shared, static, redim, sub, function, call, midAssign, swap, const, exitLoop, exitProc, optionBase, typeDef, fieldAssign, data′, read, defType, beep, erase, raiseError, onError, resume, locate, color, randomize, restore, cls, selectCase, end′, stop, open′, close, width, field′, setField, getPut, lock}
+use Rattle.tree.specs.Tree.{Shape, one, row, rows, Tree, word, value, Stmt, list, part, this, that, done, cons, none, more, over}
+use Rattle.views.specs.View.{LValue, lvalue, optional, rowsOf, items, expression, expressions}
+use Rattle.views.specs.Uses.{own, Uses, plain, uses}
+
+module _ {E F : Type 0} (g : E → F) where
+  -- ---- expressions, targets
+
+  unfoldable pub overIndices : Option (List E) → Option (List F)
+  overIndices absent = absent
+  overIndices (some es) = some (map g es)
+
+  unfoldable pub overTarget : LValue E → LValue F
+  unfolding overIndices
+  overTarget v = record { name = v .name; indices = overIndices (v .indices) }
+
+  unfoldable pub overUses : Uses E → Uses F
+  unfolding overTarget
+  overUses u = record { targets = map overTarget (u .targets); exprs = map g (u .exprs) }
+
+  map-append : (xs ys : List E) → map g (xs ++ ys) ≡ map g xs ++ map g ys
+  map-append [] ys = refl
+  map-append (x ∷ xs) ys = ap (λ (l : List F). g x ∷ l) (map-append xs ys)
+
+  pub own-over : {i : Shape} (t : Tree E i) → own (over g t) ≡ map g (own t)
+  unfolding over own
+  own-over (word x) = refl
+  own-over (value e) = refl
+  own-over (Stmt k line r) = refl
+  own-over (list rs) = own-over rs
+  own-over (part r) = own-over r
+  own-over (this r) = own-over r
+  own-over (that v) = own-over v
+  own-over done = refl
+  own-over (cons v r) = ap₂ _++_ (own-over v) (own-over r) ∙ sym (map-append (own v) (own r))
+  own-over none = refl
+  own-over (more r rs) = ap₂ _++_ (own-over r) (own-over rs) ∙ sym (map-append (own r) (own rs))
+
+  own-two : {i j : Shape} (a : Tree E i) (b : Tree E j) → own (over g a) ++ own (over g b) ≡ map g (own a ++ own b)
+  own-two a b = ap₂ _++_ (own-over a) (own-over b) ∙ sym (map-append (own a) (own b))
+
+  expressions-of : (rs : Tree E (rows (expr & nil))) → rowsOf expression (over g rs) ≡ map g (rowsOf expression rs)
+  unfolding over rowsOf expression
+  expressions-of none = refl
+  expressions-of (more (cons (value e) done) rs) = ap (λ (l : List F). g e ∷ l) (expressions-of rs)
+
+  pub expressions-over : (r : Tree E (row (exprs & nil))) → expressions (over g r) ≡ map g (expressions r)
+  unfolding over expressions items
+  expressions-over (cons (list rs) done) = expressions-of rs
+
+  pub indices-over : (is : Tree E (one (opt (exprs & nil)))) → optional expressions (over g is) ≡ overIndices (optional expressions is)
+  unfolding over optional overIndices
+  indices-over (this r) = refl
+  indices-over (that (part r)) = ap some (expressions-over r)
+
+  pub lvalue-over : (r : Tree E (row LValueRow)) → lvalue (over g r) ≡ overTarget (lvalue r)
+  unfolding over lvalue overTarget
+  lvalue-over (cons (word x) (cons is (cons fs done))) = ap (λ (o : Option (List F)). record { name = x; indices = o }) (indices-over is)
+
+  lvalues-of : (rs : Tree E (rows LValueRow)) → rowsOf lvalue (over g rs) ≡ map overTarget (rowsOf lvalue rs)
+  unfolding over rowsOf
+  lvalues-of none = refl
+  lvalues-of (more r rs) = ap₂ _∷_ (lvalue-over r) (lvalues-of rs)
+
+  pub items-over : (v : Tree E (one (many LValueRow))) → items lvalue (over g v) ≡ map overTarget (items lvalue v)
+  unfolding over items
+  items-over (list rs) = lvalues-of rs
+
+  -- ---- a statement
+
+  both : {t t′ : List (LValue F)} {e e′ : List F} → t ≡ t′ → e ≡ e′ → _≡_ {A = Uses F} (record { targets = t; exprs = e }) (record { targets = t′; exprs = e′ })
+  both p q = ap₂ (λ (t : List (LValue F)) (e : List F). record { targets = t; exprs = e }) p q
+
+  plain-over : {ss : Sorts} (r : Tree E (row ss)) → plain (over g r) ≡ overUses (plain r)
+  unfolding plain overUses
+  plain-over r = both refl (own-over r)
+
+  pub uses-over : (k : Kind) (r : Tree E (row (sorts k))) → uses k (over g r) ≡ overUses (uses k r)
+  unfolding sorts uses over overUses overTarget
+  uses-over label r = plain-over r
+  uses-over labelName r = plain-over r
+  uses-over let′ (cons (word x) (cons is e)) = both (ap (λ (o : Option (List F)). record { name = x; indices = o } ∷ []) (indices-over is)) (own-two is e)
+  uses-over print (cons file (cons its (cons (word newline) (cons using′ (cons (word write) done))))) = both refl (ap₂ _++_ (own-over file) (own-two using′ its) ∙ sym (map-append (own file) (own using′ ++ own its)))
+  uses-over input (cons prompt (cons (word query) (cons vars (cons file done)))) = both (items-over vars) (own-two file vars)
+  uses-over lineInput (cons prompt (cons (part var) (cons file done))) = both (ap (λ (v : LValue F). v ∷ []) (lvalue-over var)) (own-two file var)
+  uses-over if r = plain-over r
+  uses-over for r = plain-over r
+  uses-over while r = plain-over r
+  uses-over doLoop r = plain-over r
+  uses-over goto r = plain-over r
+  uses-over gosub r = plain-over r
+  uses-over return r = plain-over r
+  uses-over onGoto r = plain-over r
+  uses-over onGosub r = plain-over r
+  uses-over dim r = plain-over r
+  uses-over declare r = plain-over r
+  uses-over shared r = plain-over r
+  uses-over static r = plain-over r
+  uses-over redim r = plain-over r
+  uses-over sub r = plain-over r
+  uses-over function r = plain-over r
+  uses-over call r = plain-over r
+  uses-over midAssign r = plain-over r
+  uses-over swap (cons (part a) (cons (part b) done)) = both (ap₂ (λ (v w : LValue F). v ∷ w ∷ []) (lvalue-over a) (lvalue-over b)) (own-two a b)
+  uses-over const r = plain-over r
+  uses-over exitLoop r = plain-over r
+  uses-over exitProc r = plain-over r
+  uses-over optionBase r = plain-over r
+  uses-over typeDef r = plain-over r
+  uses-over fieldAssign r = plain-over r
+  uses-over data′ r = plain-over r
+  uses-over read (cons vars done) = both (items-over vars) (own-over vars)
+  uses-over defType r = plain-over r
+  uses-over beep r = plain-over r
+  uses-over erase r = plain-over r
+  uses-over raiseError r = plain-over r
+  uses-over onError r = plain-over r
+  uses-over resume r = plain-over r
+  uses-over locate r = plain-over r
+  uses-over color r = plain-over r
+  uses-over randomize r = plain-over r
+  uses-over restore r = plain-over r
+  uses-over cls r = plain-over r
+  uses-over selectCase r = plain-over r
+  uses-over end′ r = plain-over r
+  uses-over stop r = plain-over r
+  uses-over open′ r = plain-over r
+  uses-over close r = plain-over r
+  uses-over width r = plain-over r
+  uses-over field′ r = plain-over r
+  uses-over setField r = plain-over r
+  uses-over getPut r = plain-over r
+  uses-over lock r = plain-over r

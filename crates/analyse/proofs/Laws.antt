@@ -30,11 +30,16 @@ use Rattle.table.specs.Laws.{pick-true, pick-false}
 use Rattle.table.specs.Images.{holds-fits, holds-image, length-image, table-wide}
 use Rattle.steps.specs.State.{State, running, stopped}
 use Rattle.steps.specs.declared.Counts.{Counts}
-use Rattle.steps.specs.Held.{Fit, Held, Does, countsOf, rowsLeft, notesLeft, Left}
+use Rattle.steps.specs.Held.{Fit, Held, countsOf, rowsLeft, notesLeft, Left}
 use Rattle.steps.specs.Compose.{then}
-use Rattle.collect.specs.Seen.{see}
-use Rattle.collect.specs.Collect.{given, collect, checkNameCollisions, collected, analysed}
+use Rattle.collect.specs.Collect.{given, collected, analysed}
 use Rattle.collect.specs.Code.{Named}
+use Rattle.leaves.proofs.Laws.{names-length}
+use Rattle.lawful.specs.Good.{Good, no-rows}
+use Rattle.lawful.specs.Views.{module-scope}
+use Rattle.collecting.specs.Walk.{Kept, Ready, Collects}
+use Rattle.collisions.specs.Collisions.{NamesHeld, Ready as ReadyRows, Checks}
+use Rattle.collisions.specs.Laws.{OkIn, names-held}
 use Rattle.resolve.specs.Tables.{nowhere}
 use Rattle.resolve.specs.FromRows.{tablesOf}
 use Rattle.resolve.specs.Resolve.{resolveTree, resolveArrayAccesses}
@@ -44,7 +49,7 @@ use Rattle.accesses.specs.Post.{ReadyTree, ResolvedTree}
 use Rattle.equivalence.specs.Analysis.{Analysis, resolvedUnder, resultOf}
 use Rattle.equivalence.specs.AnalysisLaws.{Reads, reads}
 use Rattle.analyse.specs.Analyse.{work, analysisIn, told, counted, zeroing, rowsAfter, notesAfter, outAfter, Fits, Formed, Tells, Analyses}
-use Rattle.analyse.specs.Run.{Passed, Collected, Compared, Ends, Tabled, Numbered}
+use Rattle.analyse.specs.Run.{Passed, Ends, Tabled, Numbered}
 use Rattle.analyse.specs.declared.Given.{Given}
 use Rattle.analyse.specs.declared.Answer.{Answer}
 use Rattle.analyse.specs.declared.Answer.the-variants.{Refused, Done}
@@ -83,23 +88,44 @@ ends-of (running rows notes) H z =
 ends-of (stopped k) H z = z
 
 module _ {bytes ends erased ws marks : List ℕ} (P : Passed bytes ends erased ws marks) where
-  -- the counts after collecting
-  pub collected-fit : {s c : Counts} {b d b′ d′ : List ℕ} → Collected bytes ends erased ws marks s c b d b′ d′ → Fit c (length b′) (length d′)
-  collected-fit C = C .does (P .program) (length ws) (program-stands bytes ends erased ws marks (P .program) (P .named .names) (P .accepted)) .fit
+  -- a mark for each string
+  as-many : length marks ≡ length ends
+  as-many = ap length (P .named .names) ∙ names-length bytes ends
 
-  module _ {s c e r : Counts} {b d b₀ d₀ b₁ d₁ b₂ d₂ b₃ d₃ : List ℕ} where
-    -- begun, collected, compared and finished
-    pub tabled : Held (length b) (length d) (running [] []) s b₀ d₀ → Collected bytes ends erased ws marks s c b₀ d₀ b₁ d₁ → Compared bytes ends c e b₁ d₁ b₂ d₂
-        → ((N D : ℕ) (st : State) → Held N D st e b₂ d₂ → Left N D st r b₃ d₃) → Tabled bytes ends erased ws r b d b₃ d₃
-    unfolding analysed collected
-    tabled H C K L =
-        record {
-          left = λ p a. L _ _ _ (held p a);
-          ends-in = λ p a. ends-of _ (held p a) (analysed-zeroing (length b) (length d) bytes ends erased p);
-        }
-      where
-        held : (p : Program) → acceptedOf (namesOf bytes ends) ws erased ≡ gives p → Held (length b) (length d) (analysed (given (some (length b)) (some (length d)) bytes ends erased) p) e b₂ d₂
-        held p a = then (C .does p (length ws) (program-stands bytes ends erased ws marks p (P .named .names) a)) (K .does erased) .after (length b) (length d) (running [] []) H
+  stands-as : (p : Program) → acceptedOf (namesOf bytes ends) ws erased ≡ gives p → Stands ws marks (length ends) 0 p (length ws)
+  stands-as p a = subst (λ (n : ℕ). Stands ws marks n 0 p (length ws)) as-many (program-stands bytes ends erased ws marks p (P .named .names) a)
+
+  -- what collecting asks, from empty tables
+  pub collect-ready : {N D : ℕ} {s : Counts} {b d : List ℕ} → Held N D (running [] []) s b d → Ready (one body) ws marks bytes ends 0 0 s b d
+  collect-ready {s = s} {b} {d} H =
+      let p : Program = P .program in
+      let r = H .inside .1 .filled .count in
+      let n = H .inside .2 .count in
+      record {
+        tree = record { tree = p; end = length ws; stands = stands-as p (P .accepted); shallow = program-reads bytes ends erased ws p (P .accepted) .shallow };
+        around = record { named = P .named; counted = as-many; few = omega (arith, P .few, as-many); scoped = module-scope marks (length ends) };
+        kept = record { fit = (omega (arith, r), omega (arith, n)); rows-room = _; notes-room = _; state = running [] []; held = H; good = no-rows marks (length ends) };
+      }
+
+  -- what the collision check asks, after collecting
+  good-ok : (st : State) → Good marks (length ends) st → OkIn marks st
+  good-ok (running rows notes) g = g .ok
+  good-ok (stopped k) g = tt
+
+  pub check-ready : {c : Counts} {b d : List ℕ} → Kept marks (length ends) c b d → ReadyRows bytes ends b c × Fit c (length b) (length d)
+  check-ready {c} {b} K =
+      let named : c .stop ≡ 0 → NamesHeld marks c b = λ h. names-held (K .state) (K .held) (good-ok (K .state) (K .good)) h in
+      (record { strings = P .named .strings; held = subst (λ (ns : List ℕ). c .stop ≡ 0 → NamesHeld ns c b) (P .named .names) named }, K .fit)
+
+  -- begun, collected, compared and finished
+  pub tabled : {next : ℕ} {s c e r : Counts} {b d b₀ d₀ b₁ d₁ d₂ b₃ d₃ : List ℕ} → Held (length b) (length d) (running [] []) s b₀ d₀
+      → Collects ws marks bytes ends erased 0 0 next s c b₀ d₀ b₁ d₁ → Checks bytes ends c e b₁ d₁ d₂ → ((N D : ℕ) (st : State) → Held N D st e b₁ d₂ → Left N D st r b₃ d₃)
+      → Tabled bytes ends erased ws r b d b₃ d₃
+  unfolding analysed collected
+  tabled {e = e} {b = b} {d = d} {b₁ = b₁} {d₂ = d₂} H C K L = record { left = λ p a. L _ _ _ (held p a); ends-in = λ p a. ends-of _ (held p a) (analysed-zeroing (length b) (length d) bytes ends erased p) }
+    where
+      held : (p : Program) → acceptedOf (namesOf bytes ends) ws erased ≡ gives p → Held (length b) (length d) (analysed (given (some (length b)) (some (length d)) bytes ends erased) p) e b₁ d₂
+      held p a = then (C .does p (length ws) (stands-as p a) .1) (K .does erased) .after (length b) (length d) (running [] []) H
 
 -- ---- the refusal of a stopped run
 

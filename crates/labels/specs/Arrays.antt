@@ -1,16 +1,16 @@
 -- Where the arrays stand among sorted rows of 32-bit words: between the places of the first keys of kinds 133 and 134. Assumes nothing.
-use Prim.Native.Nat.{ℕ, zero, suc, _+_, _*_, _/_, _≤_, _<_}
-use mathlib.Core.Path.{_≡_, refl, sym, ap, _∙_}
-use mathlib.Core.Bool.{Bool, true, false, _||_}
+use Prim.Native.Nat.{ℕ, suc, _+_, _*_, _≤_, _<_}
+use mathlib.Core.Path.{_≡_, refl, _∙_}
+use mathlib.Core.Bool.{false}
 use mathlib.Core.Logic.{_⊎_, inl, inr}
 use mathlib.Core.List.{List, [], _∷_}
 use native.Mathlib.Omega.{arith}
-use lib.Dec.{eqb, ltb, leb·suc-suc}
-use lib.ListN.{length, getD}
+use lib.Dec.{ltb, leb·suc-suc}
+use lib.ListN.{length, take, drop, getD}
 use borrow.Author.Tests.{eq-eqb, ne-eqb, lt-ltb}
 use Rattle.words.specs.Word.{kindOf}
-use Rattle.table.specs.Rows.{Row, width, key, keyOf, rank, Table, Holds}
-use Rattle.table.specs.Laws.{zone, rank-lt, rank-ge}
+use Rattle.table.specs.Rows.{Row, width, key, rank, Table, Holds}
+use Rattle.table.specs.Laws.{zone, order, rank-lt, rank-ge, rank-le, rank-low, rank-high}
 use Rattle.table.specs.Images.{word-at}
 use Rattle.entries.specs.Entries.{entryKey}
 use Rattle.consteval.specs.EvalLaws.{Words32}
@@ -69,3 +69,40 @@ any-array b (r ∷ rs) t S = go (zone arraysFrom arraysTo (key r)) (any-array (s
         rw (rank-ge arraysFrom r rs (q .0), rank-lt arraysTo r rs (q .1), eq-eqb (kindOf (getD r 0 0)) 133 (omega (arith, lo, hi))) (lt-ltb 0 (suc (rank arraysTo rs)) (omega arith))
     go (inr (inr q)) ih =
         rw (rank-ge arraysFrom r rs (omega (arith, q)), rank-ge arraysTo r rs q, none-above (key r) (r ∷ rs) (t .0, omega arith, t .2) q S) refl
+
+-- ---- before the first of them, after the last, and between
+
+pub take-quiet : (rows : List Row) → anyArray (take (rank arraysFrom rows) rows) ≡ false
+unfolding anyArray rank
+take-quiet [] = refl
+take-quiet (r ∷ rs) = go (order (key r) arraysFrom) (take-quiet rs)
+  where
+    go : (key r < arraysFrom) ⊎ (arraysFrom ≤ key r) → anyArray (take (rank arraysFrom rs) rs) ≡ false → anyArray (take (rank arraysFrom (r ∷ rs)) (r ∷ rs)) ≡ false
+    go (inl q) ih =
+        let k : kindOf (getD r 0 0) < 133 = kind-below r 133 q in
+        rw (rank-lt arraysFrom r rs q, ne-eqb (kindOf (getD r 0 0)) 133 (λ e. omega (arith, e, k))) ih
+    go (inr q) ih = rw (rank-ge arraysFrom r rs q) refl
+
+pub drop-quiet : (b : ℕ) (rows : List Row) → Table b rows → Small rows → anyArray (drop (rank arraysTo rows) rows) ≡ false
+unfolding rank anyArray
+drop-quiet b [] t S = refl
+drop-quiet b (r ∷ rs) t S = go (order (key r) arraysTo) (drop-quiet (suc (key r)) rs (t .2) (small-next r rs S))
+  where
+    go : (key r < arraysTo) ⊎ (arraysTo ≤ key r) → anyArray (drop (rank arraysTo rs) rs) ≡ false → anyArray (drop (rank arraysTo (r ∷ rs)) (r ∷ rs)) ≡ false
+    go (inl q) ih = rw (rank-lt arraysTo r rs q) ih
+    go (inr q) ih = rw (rank-ge arraysTo r rs q) (none-above (key r) (r ∷ rs) (t .0, omega arith, t .2) q S)
+
+pub array-between : (rows : List Row) → Table 0 rows → Small rows → (i : ℕ) → rank arraysFrom rows ≤ i → i < rank arraysTo rows → kindOf (getD (getD rows i []) 0 0) ≡ 133
+array-between rows t S i p q =
+    let inside : i < length rows = omega (arith, q, rank-le arraysTo rows) in
+    let lo : arraysFrom ≤ key (getD rows i []) = low (order (key (getD rows i [])) arraysFrom) in
+    let hi : key (getD rows i []) < arraysTo = high (order (key (getD rows i [])) arraysTo) in
+    omega (arith, kind-from (getD rows i []) 133 lo (S i inside), kind-below (getD rows i []) 134 hi)
+  where
+    low : (key (getD rows i []) < arraysFrom) ⊎ (arraysFrom ≤ key (getD rows i [])) → arraysFrom ≤ key (getD rows i [])
+    low (inl h) = absurd (omega (arith, p, rank-high 0 arraysFrom rows t i (omega (arith, q, rank-le arraysTo rows)) h))
+    low (inr h) = h
+
+    high : (key (getD rows i []) < arraysTo) ⊎ (arraysTo ≤ key (getD rows i [])) → key (getD rows i []) < arraysTo
+    high (inl h) = h
+    high (inr h) = absurd (omega (arith, q, rank-low arraysTo rows i (omega (arith, q, rank-le arraysTo rows)) h))

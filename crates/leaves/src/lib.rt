@@ -77,7 +77,7 @@ pub enum Gate {
 }
 
 // Numbers 5 and 1.
-fn passes(bytes: &[u8], ends: &[u32]) -> Gate
+pub fn passes(bytes: &[u8], ends: &[u32]) -> Gate
     ensures told { λ r. ⌜ Answers (sizedOf (now (bytes .entry)) (now (ends .entry))) (now (bytes .entry)) (now (ends .entry)) (tellGate r) (gives tt) ⌝ }
     ensures passed { λ r. ⌜ Passes (now (bytes .entry)) (now (ends .entry)) r ⌝ }
 {
@@ -254,7 +254,7 @@ pub fn builtin(bytes: &[u8], ends: &[u32], name: u32) -> Taking
 }
 
 // The same of a number that is a name's.
-fn spelled(bytes: &[u8], ends: &[u32], name: u32) -> Arguments
+pub fn spelled(bytes: &[u8], ends: &[u32], name: u32) -> Arguments
     requires { ⌜ (sound (now bytes) (now ends) ≡ true) × (isName (namesOf (now bytes) (now ends)) name ≡ true) ⌝ }
     ensures { λ r. ⌜ r ≡ argumentsOf (builtinOf (stringAt (now (bytes .entry)) (now (ends .entry)) name)) ⌝ }
 {

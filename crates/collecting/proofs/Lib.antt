@@ -1,3 +1,4 @@
 pub mod Heads
 pub mod Match
 pub mod Walk
+pub mod Entry

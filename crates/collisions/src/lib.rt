@@ -59,13 +59,7 @@ fn collision(
 }
 
 // All arrays: their rows stand together, and no other is looked at.
-pub fn collisions(
-    bytes: &[u8],
-    ends: &[u32],
-    b: &[u32],
-    d: &mut [u32],
-    s: Counts,
-) -> Counts
+pub fn collisions(bytes: &[u8], ends: &[u32], b: &[u32], d: &mut [u32], s: Counts) -> Counts
     requires { ⌜ Ready (now bytes) (now ends) (now b) s × Fit s (length (now b)) (length (now d)) ⌝ }
     ensures { λ r. ⌜ Checks (now (bytes .entry)) (now (ends .entry)) s r (now (b .entry)) (now (d .entry)) (now (d .exit)) ⌝ }
 {
@@ -120,12 +114,7 @@ fn under(bytes: &[u8], ends: &[u32], names: &[u8], rows: &[u32], d: &mut [u32]) 
 }
 
 // The check over a lent string table and lent rows, which are only read: 5, 1, 6, 8 in this order.
-pub fn check_name_collisions(
-    bytes: &[u8],
-    ends: &[u32],
-    rows: &[u32],
-    d: &mut [u32],
-) -> Collided
+pub fn check_name_collisions(bytes: &[u8], ends: &[u32], rows: &[u32], d: &mut [u32]) -> Collided
     ensures { λ r. ⌜ Entry (now (bytes .entry)) (now (ends .entry)) (now (rows .entry)) (now (d .entry)) r (now (d .exit)) ⌝ }
 {
     match leaves::passes(bytes, ends) {

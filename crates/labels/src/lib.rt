@@ -75,13 +75,7 @@ fn say_base(d: &mut [u32], s: Counts, twice: bool, late: bool, line: u32) -> Cou
 }
 
 // OPTION BASE: once, and before any array. The last value stays.
-pub fn option_base(
-    words: &[u32],
-    b: &mut [u32],
-    d: &mut [u32],
-    s: Counts,
-    at: usize,
-) -> Counts
+pub fn option_base(words: &[u32], b: &mut [u32], d: &mut [u32], s: Counts, at: usize) -> Counts
     requires { ⌜ SomeStmt optionBase (now words) at × Fit s (length (now b)) (length (now d)) ⌝ }
     ensures { λ r. ⌜ ((scope : ℕ) → CollectsAny optionBase (now (words .entry)) scope at s r (now (b .entry)) (now (d .entry)) (now (b .exit)) (now (d .exit))) ⌝ }
 {
@@ -115,13 +109,7 @@ fn folded(b: &mut [u32], d: &mut [u32], s: Counts, line: u32, name: u32, f: Fold
 }
 
 // CONST: folded under the rows, which a stopped run has not.
-pub fn constant(
-    words: &[u32],
-    b: &mut [u32],
-    d: &mut [u32],
-    s: Counts,
-    at: usize,
-) -> Counts
+pub fn constant(words: &[u32], b: &mut [u32], d: &mut [u32], s: Counts, at: usize) -> Counts
     requires { ⌜ ConstAt (now words) at s (now b) × Fit s (length (now b)) (length (now d)) ⌝ }
     ensures { λ r. ⌜ ((scope : ℕ) → CollectsAny constKind (now (words .entry)) scope at s r (now (b .entry)) (now (d .entry)) (now (b .exit)) (now (d .exit))) ⌝ }
 {

@@ -1,17 +1,17 @@
 -- What the words of a type say. Assumes nothing.
-use Prim.Native.Nat.{ℕ, _+_, _/_, _%_, _<_, _≤_}
+use Prim.Native.Nat.{ℕ, _+_, _<_, _≤_}
 use native.Mathlib.Omega.{arith}
 use mathlib.Core.Path.{_≡_, refl, sym, ap, _∙_}
 use mathlib.Core.List.{List, [], _∷_, append-nil}
-use mathlib.Core.Option.{Option, none as absent, some}
+use mathlib.Core.Option.{none as absent, some}
 use lib.Dec.{lit<}
 use lib.ListN.{length, getD}
 use Rattle.words.specs.Word.{wordOf, kindOf, payOf}
 use Rattle.expr.specs.Expr.{Expr}
 use Rattle.expr.specs.Stands.{Wrote}
-use Rattle.expr.proofs.Parts.{First, wrote-first, kind-is, pay-is}
+use Rattle.expr.proofs.Parts.{wrote-first, kind-is, pay-is}
 use Rattle.tree.specs.Sorts.{TypeRef as TypeSort, opt, nil, _&_}
-use Rattle.tree.specs.Tree.{Tree, one, row, word, part, this, that, done, cons, wordsT, Right}
+use Rattle.tree.specs.Tree.{Tree, one, word, part, this, that, done, cons, wordsT, Right}
 use Rattle.tree.specs.Stands.{Stands, SomeTree}
 use Rattle.views.specs.View.{TypeRef, Integer, Long, Single, Double, FixedString, Record, head, arg, headOf, argOf, optional, typeRef, asType}
 use Rattle.parts.specs.Parts.{TypeIs, AsTypeIs}

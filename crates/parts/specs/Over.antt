@@ -1,13 +1,13 @@
 -- What views read where they read no expression: the same after every expression is replaced. Assumes nothing.
-use Prim.Native.Nat.{ℕ, suc, _+_}
+use Prim.Native.Nat.{suc, _+_}
 use native.Mathlib.Numerals.{add-one}
 use mathlib.Core.Path.{_≡_, refl, sym, ap, _∙_}
-use mathlib.Core.List.{List, [], _∷_}
-use mathlib.Core.Option.{Option, none as absent, some}
+use mathlib.Core.List.{List, _∷_}
+use mathlib.Core.Option.{some}
 use lib.ListN.{length}
 use Rattle.tree.specs.Sorts.{Sorts, nil, _&_, many, flag, opt, TypeRef as TypeSort, Param as ParamRow, ScopeItem as ScopeRow, FieldDecl as FieldRow}
 use Rattle.tree.specs.Tree.{Tree, one, row, rows, word, list, part, this, that, done, cons, none, more, count, over}
-use Rattle.views.specs.View.{TypeRef, Param, ScopeItem, FieldDecl, optional, rowsOf, items, isSet, typeRef, asType, param, scopeItem, fieldDecl}
+use Rattle.views.specs.View.{optional, rowsOf, items, isSet, typeRef, asType, param, scopeItem, fieldDecl}
 
 -- as many as there are rows
 pub rows-length : {E A : Type 0} {ss : Sorts} (f : Tree E (row ss) → A) (rs : Tree E (rows ss)) → length (rowsOf f rs) ≡ count rs

@@ -8,7 +8,7 @@ use Rattle.words.specs.Word.{payOf}
 use Rattle.expr.specs.Expr.{Expr}
 use Rattle.expr.proofs.Parts.{wrote-first}
 use Rattle.tree.specs.Sorts.{Sorts, many}
-use Rattle.tree.specs.Tree.{Tree, one, row, rows, list, none, more, count, wordsT, Right}
+use Rattle.tree.specs.Tree.{Tree, one, row, rows, list, none, more, count, wordsT}
 use Rattle.tree.specs.Stands.{Stands, SomeTree}
 use Rattle.tree.proofs.Nodes.{in-list, in-more}
 use Rattle.views.specs.View.{rowsOf, items}

@@ -1,3 +1,5 @@
+use lib.ListN.{length}
+use Rattle.collecting.proofs.Entry.{passed, refused-tells, run-stops, run-refused, run-done}
 use borrow.Author.Needs.{needs}
 use Rattle.collecting.proofs.checked.Statement.{statement}
 use Rattle.collecting.proofs.checked.Tie as tie
@@ -17,18 +19,18 @@ enum-known-a c = search needs
 
 -- src/lib.rt:350:9
 returns : tie.Need-returns
-returns c = ?
+returns c = refused-tells (c .before .before .before .before .before .before .before .before .before .before .before .args .erased .now) (c .before .before .before .before .before .before .before .before .before .before .before .args .words .now) (length (c .before .before .before .before .before .before .before .before .before .before .before .args .b .now)) (length (c .before .before .before .before .before .before .before .before .before .before .before .args .d .now)) (c .before .before .before .before .before .before .before .before .before .before .before .args .b .now) (c .before .before .before .before .before .before .before .before .before .before .before .args .d .now) (c .before .before .before .before .before .before .before .before .before .before .before .pre .0) (c .before .before .before .check-program .ensures) (c .before .a .given .1)
 
 enum-told : tie.Need-enum-told
 enum-told c = search needs
 
 -- src/lib.rt:352:9
 tables-requires : tie.Need-tables-requires
-tables-requires c κs = ?
+tables-requires c κs = passed (c .before .before .before .before .before .before .before .before .before .before .before .before .pre .0) (c .before .before .before .before .before .before .before .before .before .before .before .before .pre .1) (c .before .before .before .before .before .before .before .before .before .before .before .before .pre .2) (c .before .before .before .before .check-program .ensures) (c .before .before .enum-told .given .1)
 
 -- src/lib.rt:354:32
 refusal-requires : tie.Need-refusal-requires
-refusal-requires c κs = ?
+refusal-requires c κs = run-stops (passed (c .before .before .before .before .before .before .before .before .before .before .before .before .before .before .before .before .before .before .before .pre .0) (c .before .before .before .before .before .before .before .before .before .before .before .before .before .before .before .before .before .before .before .pre .1) (c .before .before .before .before .before .before .before .before .before .before .before .before .before .before .before .before .before .before .before .pre .2) (c .before .before .before .before .before .before .before .before .before .before .before .check-program .ensures) (c .before .before .before .before .before .before .before .before .before .enum-told .given .1)) (c .before .before .before .before .before .before .tables .ensures) (c .if1 .taken)
 
 -- src/lib.rt:354:9
 same-length : tie.Need-same-length
@@ -40,7 +42,7 @@ same-length-2 c = search needs
 
 -- src/lib.rt:354:9
 returns-2 : tie.Need-returns-2
-returns-2 c = ?
+returns-2 c = run-refused (passed (c .before .before .before .before .before .before .before .before .before .before .before .before .before .before .before .before .before .before .before .before .pre .0) (c .before .before .before .before .before .before .before .before .before .before .before .before .before .before .before .before .before .before .before .before .pre .1) (c .before .before .before .before .before .before .before .before .before .before .before .before .before .before .before .before .before .before .before .before .pre .2) (c .before .before .before .before .before .before .before .before .before .before .before .before .check-program .ensures) (c .before .before .before .before .before .before .before .before .before .before .enum-told .given .1)) (c .before .before .before .before .before .before .before .tables .ensures) (c .before .if1 .taken) (c .refusal .ensures)
 
 -- src/lib.rt:336:1
 same-length-3 : tie.Need-same-length-3
@@ -52,7 +54,7 @@ same-length-4 c = search needs
 
 -- src/lib.rt:336:1
 returns-3 : tie.Need-returns-3
-returns-3 c = ?
+returns-3 c = run-done (passed (c .before .before .before .before .before .before .before .before .before .before .before .before .before .before .before .before .before .before .before .pre .0) (c .before .before .before .before .before .before .before .before .before .before .before .before .before .before .before .before .before .before .before .pre .1) (c .before .before .before .before .before .before .before .before .before .before .before .before .before .before .before .before .before .before .before .pre .2) (c .before .before .before .before .before .before .before .before .before .before .before .check-program .ensures) (c .before .before .before .before .before .before .before .before .before .enum-told .given .1)) (c .before .before .before .before .before .before .tables .ensures) (c .if1 .left)
 
 pub checked-spec : {M : Type 1} → statement M
 checked-spec =

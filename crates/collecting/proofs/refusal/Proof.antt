@@ -1,3 +1,5 @@
+use Rattle.collecting.proofs.Entry.{only-nine}
+use mathlib.Core.Path.{refl}
 use borrow.Author.Needs.{needs}
 use Rattle.collecting.proofs.refusal.Statement.{statement}
 use Rattle.collecting.proofs.refusal.Tie as tie
@@ -14,7 +16,7 @@ returns-2 c = search needs
 
 -- src/lib.rt:324:1
 returns-3 : tie.Need-returns-3
-returns-3 c = ?
+returns-3 c = record { number = only-nine (c .before .pre) (c .match .rest .0 .1) (c .match .rest .1); place = refl }
 
 pub refusal-spec : {M : Type 1} → statement M
 refusal-spec = tie.close (tie.spec returns returns-2 returns-3)

@@ -1,3 +1,4 @@
+use Rattle.collecting.proofs.Entry.{run-ready, run-tabled}
 use borrow.Author.Needs.{needs}
 use Rattle.collecting.proofs.tables.Statement.{statement}
 use Rattle.collecting.proofs.tables.Tie as tie
@@ -13,7 +14,7 @@ begin-requires c κs = search needs
 
 -- src/lib.rt:318:9
 statements-requires : tie.Need-statements-requires
-statements-requires c κs = ?
+statements-requires c κs = run-ready (c .before .before .before .before .before .before .before .before .before .before .before .before .before .before .before .before .pre) (c .before .before .before .before .before .before .begin .ensures)
 
 -- src/lib.rt:320:5
 finish-requires : tie.Need-finish-requires
@@ -29,7 +30,7 @@ same-length-2 c = search needs
 
 -- src/lib.rt:305:1
 returns : tie.Need-returns
-returns c = ?
+returns c = run-tabled (λ i. c .before .before .before .before .before .before .before .before .before .before .before .before .before .before .before .before .before .before .before .before .before .before .before .before .before .before .before .before .shared-slice-known .given i .fits) (c .before .before .before .before .before .before .before .before .before .before .before .before .before .before .before .before .before .before .before .before .before .before .before .before .before .before .before .before .before .pre) (c .before .before .before .before .before .before .before .before .before .before .before .before .before .before .before .before .before .before .before .begin .ensures) (c .before .before .before .before .before .before .before .before .before .before .before .before .statements .ensures) (c .before .before .before .before .finish .ensures)
 
 pub tables-spec : {M : Type 1} → statement M
 tables-spec =

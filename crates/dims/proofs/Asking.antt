@@ -1,0 +1,97 @@
+-- What the code asks, and what its answers are: the types, the array that was there, the erased names. Assumes nothing.
+use Prim.Native.Nat.{ℕ, _+_, _*_, _<_, _≤_}
+use native.Mathlib.Omega.{arith}
+use native.Mathlib.Numerals.{add-one}
+use mathlib.Core.Path.{_≡_, refl, sym, ap, subst, _∙_}
+use mathlib.Core.Bool.{Bool, true, false, not, _&&_}
+use mathlib.Core.List.{List}
+use mathlib.Core.Option.{Option}
+use lib.ListN.{length, getD, drop}
+use lib.Seq.{drop-cons, drop-length}
+use borrow.Author.Tests.{eq-eqb, ne-eqb, not-true, not-false}
+use Rattle.strings.specs.Table.{stringAt}
+use Rattle.table.specs.Rows.{Row, width, Holds}
+use Rattle.table.specs.Images.{word-at}
+use Rattle.table.specs.declared.Found.{Found}
+use Rattle.table.specs.declared.Found.the-variants.{At, Nothing}
+use Rattle.lookup.specs.Answers.{rowAt}
+use Rattle.views.specs.View.{TypeRef, head}
+use Rattle.collect.specs.Collect.{lastOf, disagrees, member}
+use Rattle.dims.specs.declared.Old.{Old}
+use Rattle.dims.specs.declared.Clash.{Clash}
+use Rattle.dims.specs.Declarators.{Contradicts, OldIs, clashOf}
+
+-- ---- tests
+
+pub and-none : (t : Bool) {u : Bool} → u ≡ true → false ≡ (t && not u)
+and-none true e = rw e refl
+and-none false e = refl
+
+pub and-some : (t : Bool) {u : Bool} → u ≡ false → t ≡ (t && not u)
+and-some true e = rw e refl
+and-some false e = refl
+
+-- ---- a record's type
+
+module _ (bytes ends : List ℕ) (name h : ℕ) where
+  pub record-fits : h ≡ 45 → Contradicts bytes ends name h false
+  record-fits e ty f = rw (eq-eqb (head ty) 45 (sym f ∙ e)) refl
+
+  pub other-differs : (h ≡ 45 → ⊥) → {t : Bool} → ((ty : TypeRef) → h ≡ head ty → t ≡ disagrees (lastOf (stringAt bytes ends name)) ty) → Contradicts bytes ends name h t
+  other-differs n F ty f = F ty f ∙ rw (ne-eqb (head ty) 45 (λ e. n (f ∙ e))) refl
+
+-- ---- erased names
+
+module _ (xs : List ℕ) (x : ℕ) where
+  pub member-here : (i : ℕ) → i < length xs → getD xs i 0 ≡ x → member x (drop i xs) ≡ true
+  unfolding member
+  member-here i h e = rw (drop-cons xs i 0 h, eq-eqb (getD xs i 0) x e) refl
+
+  pub member-next : (i : ℕ) → i < length xs → (getD xs i 0 ≡ x → ⊥) → member x (drop i xs) ≡ member x (drop (i + 1) xs)
+  unfolding member
+  member-next i h n = rw (drop-cons xs i 0 h, ne-eqb (getD xs i 0) x n, add-one i) refl
+
+  pub member-end : (i : ℕ) → i ≤ length xs → length xs ≤ i → member x (drop i xs) ≡ false
+  unfolding member
+  member-end i h l =
+      let e : i ≡ length xs = omega arith in
+      rw (e, drop-length xs) refl
+
+-- ---- what is said of an array that is declared again
+
+module _ (erased : List ℕ) (is-redim preserve : Bool) (name rank : ℕ) (old : Old) where
+  abbrev nothing : Clash
+  nothing = record { code = 0; number = 0 }
+
+  pub clash-new : not (old .there) ≡ true → nothing ≡ clashOf erased is-redim preserve name rank old
+  unfolding clashOf
+  clash-new e = rw (not-true (old .there) e) refl
+
+  module _ (e : not (old .there) ≡ false) where
+    pub clash-kept : {t : Bool} → t ≡ (not is-redim && not (member name erased)) → t ≡ true → record { code = 19; number = 0 } ≡ clashOf erased is-redim preserve name rank old
+    unfolding clashOf
+    clash-kept k t = rw (not-false (old .there) e, sym k ∙ t) refl
+
+    module _ {t : Bool} (k : t ≡ (not is-redim && not (member name erased))) (n : t ≡ false) where
+      pub clash-same : old .rank ≡ rank → nothing ≡ clashOf erased is-redim preserve name rank old
+      unfolding clashOf
+      clash-same q = rw (not-false (old .there) e, sym k ∙ n, eq-eqb (old .rank) rank q) refl
+
+      pub clash-preserve : (old .rank ≡ rank → ⊥) → preserve ≡ true → record { code = 20; number = old .rank } ≡ clashOf erased is-redim preserve name rank old
+      unfolding clashOf
+      clash-preserve q p = rw (not-false (old .there) e, sym k ∙ n, ne-eqb (old .rank) rank q, p) refl
+
+      pub clash-other : (old .rank ≡ rank → ⊥) → preserve ≡ false → record { code = 21; number = old .rank } ≡ clashOf erased is-redim preserve name rank old
+      unfolding clashOf
+      clash-other q p = rw (not-false (old .there) e, sym k ∙ n, ne-eqb (old .rank) rank q, p) refl
+
+-- ---- the array that was there
+
+pub old-found : {rows : List Row} {n : ℕ} {buf : List ℕ} → Holds rows n buf → (i : ℕ) → i < n → {f : Found} {o : Option Row} → f ≡ At i → rowAt rows f ≡ o
+    → OldIs o (record { there = true; rank = getD buf (i * width + 2) 0; lower = getD buf (i * width + 4) 0 })
+old-found {rows} {n} {buf} H i h e q =
+    subst (λ (o : Option Row). OldIs o (record { there = true; rank = getD buf (i * width + 2) 0; lower = getD buf (i * width + 4) 0 })) (ap (rowAt rows) (sym e) ∙ q)
+    (record { there = refl; rank = word-at (H .filled) i 2 h (omega arith); lower = word-at (H .filled) i 4 h (omega arith) })
+
+pub old-missing : (rows : List Row) {f : Found} {o : Option Row} → f ≡ Nothing → rowAt rows f ≡ o → OldIs o (record { there = false; rank = 0; lower = 0 })
+old-missing rows e q = subst (λ (o : Option Row). OldIs o (record { there = false; rank = 0; lower = 0 })) (ap (rowAt rows) (sym e) ∙ q) (record { there = refl; rank = refl; lower = refl })

@@ -1,0 +1,4 @@
+pub mod Reading
+pub mod Asking
+pub mod Doing
+pub mod Statements

@@ -1,0 +1,3 @@
+pub mod Walk
+pub mod Reading
+pub mod Does

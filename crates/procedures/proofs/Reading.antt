@@ -1,0 +1,444 @@
+-- What the words of a parameter and of a procedure say. Assumes nothing.
+use Prim.Native.Nat.{ℕ, zero, suc, _+_, _<_, _≤_}
+use native.Mathlib.Omega.{arith}
+use mathlib.Core.Path.{_≡_, refl, sym, ap, ap₂, subst, _∙_}
+use mathlib.Core.Bool.{Bool, true, false, false≢true}
+use mathlib.Core.List.{List, [], _∷_, _++_, append-nil}
+use mathlib.Core.Option.{Option, none as absent}
+use lib.Dec.{eqb}
+use lib.ListN.{length, getD, length-append}
+use native.Mathlib.Numerals.{add-one}
+use Rattle.words.specs.Word.{wordOf, payOf}
+use Rattle.strings.specs.Table.{marksBelow, namesOf}
+use Rattle.expr.specs.Expr.{Expr}
+use Rattle.expr.specs.Stands.{Wrote}
+use Rattle.expr.specs.Reader.{exprAt}
+use Rattle.expr.specs.Answer.{stepOf}
+use Rattle.expr.specs.declared.Cursor.{Cursor}
+use Rattle.expr.specs.declared.Step.{Step}
+use Rattle.expr.specs.declared.Step.the-variants.{Read, Wrong, Deep}
+use Rattle.expr.proofs.Parts.{First, wrote-first, wrote-left, wrote-right, pay-is}
+use Rattle.tree.specs.Sorts.{name, Sort, Sorts, TypeRef as TypeSort, opt, nil, _&_, flag, numberOf, Param as ParamRow, body as bodySort, stmt, Kind, sorts, sub, function}
+use Rattle.tree.specs.Tree.{strings, one, row, rows, Tree, word, Stmt, list, done, cons, count, wordsT, Right, depthT, over}
+use Rattle.tree.specs.Stands.{Stands, SomeTree}
+use Rattle.tree.specs.Reader.{fieldAt, stmtAt}
+use Rattle.tree.proofs.Complete.{completes, one-tree, clear, clearR}
+use Rattle.views.specs.View.{TypeRef, Param, headOf, argOf, optional, asType, isSet, param, items, rowsOf, view}
+use Rattle.parts.specs.Parts.{AsTypeIs}
+use Rattle.parts.specs.Over.{set-over, as-over, param-rows-over}
+use Rattle.parts.specs.declared.TypeAt.{TypeAt}
+use Rattle.collect.specs.Seen.{see}
+use Rattle.collect.specs.Collect.{Given, statement, procedure}
+use Rattle.collect.specs.Code.{StmtAt, Named}
+use Rattle.procedures.specs.Post.{ParamOf, ParamIs, ParamsAt, SomeParams, BodyAt, SomeProc, Shown, ProcIs}
+use Rattle.procedures.specs.declared.ProcAt.{ProcAt}
+
+-- ---- words at a place
+
+at-place : {ws xs : List ℕ} {m m′ end : ℕ} → m ≡ m′ → Wrote ws m xs end → Wrote ws m′ xs end
+at-place {ws} {xs} {end = end} e w = subst (λ (x : ℕ). Wrote ws x xs end) e w
+
+first-at : {ws xs : List ℕ} {m m′ w end : ℕ} → m ≡ m′ → First ws m w xs end → First ws m′ w xs end
+first-at {ws} {xs} {w = w} {end} e f = subst (λ (x : ℕ). First ws x w xs end) e f
+
+-- a flag's word
+flag-is : (w x : ℕ) → w ≡ wordOf 3 x → x < 16777216 → eqb (payOf w) 1 ≡ eqb x 1
+flag-is w x e h = ap (λ (y : ℕ). eqb y 1) (ap payOf e ∙ pay-is 3 x h)
+
+-- ---- a parameter: three words, and its AS clause
+
+pub record InParam (ws ns : List ℕ) (n at end : ℕ) (p : Param) : Type 0 where
+  pub inside : at + 2 < length ws
+  pub name : payOf (getD ws at 0) ≡ p .name
+  pub byval : eqb (payOf (getD ws (at + 1) 0)) 1 ≡ p .byval
+  pub array : eqb (payOf (getD ws (at + 2) 0)) 1 ≡ p .array
+  pub clause : Tree Expr (one (opt (TypeSort & nil)))
+  pub there : Stands ws ns n (at + 3) clause end
+  pub type-is : optional asType clause ≡ p .ty
+
+pub in-param : {ws ns : List ℕ} {n at end : ℕ} (v : Tree Expr (row ParamRow)) → Stands ws ns n at v end → InParam ws ns n at end (param v)
+unfolding param isSet wordsT Right
+in-param {ws} {ns} {n} {at} {end} (cons (word x) (cons (word y) (cons (word z) (cons t done)))) s =
+    let f = wrote-first (s .wrote) in
+    let g = wrote-first (f .rest) in
+    let h = wrote-first (g .rest) in
+    let k = first-at {m′ = at + 2} (omega arith) h in
+    record {
+      inside = k .inside;
+      name = ap payOf (f .is) ∙ pay-is 2 x (s .valid .0 .1);
+      byval = flag-is _ y (g .is) (s .valid .1 .0 .1);
+      array = flag-is _ z (k .is) (s .valid .1 .1 .0 .1);
+      clause = t;
+      there = record { wrote = at-place (omega arith) (rw (append-nil (wordsT t)) at (h .rest)); valid = s .valid .1 .1 .1 .0 };
+      type-is = refl;
+    }
+
+module _ {ws : List ℕ} {at : ℕ} where
+  pub param-inside : SomeTree (row ParamRow) ws at → at + 2 < length ws
+  param-inside S = in-param (S .tree) (S .stands) .inside
+
+  pub param-clause : SomeTree (row ParamRow) ws at → SomeTree (one (opt (TypeSort & nil))) ws (at + 3)
+  param-clause S =
+      let p = in-param (S .tree) (S .stands) in
+      record { names = S .names; strings = S .strings; tree = p .clause; end = S .end; stands = p .there }
+
+  pub param-is : {byval array : Bool} {t : TypeAt} → byval ≡ eqb (payOf (getD ws (at + 1) 0)) 1 → array ≡ eqb (payOf (getD ws (at + 2) 0)) 1 → AsTypeIs ws (at + 3) t
+      → ParamIs ws at (record { name = payOf (getD ws at 0); byval = byval; array = array; head = t .head; arg = t .arg; next = t .next })
+  param-is {byval} {array} {t} e d T = record { is = by; name-small = omega arith; arg-small = T .small }
+    where
+      by : (ns : List ℕ) (n : ℕ) (v : Tree Expr (row ParamRow)) (end : ℕ) → Stands ws ns n at v end
+          → ParamOf (record { name = payOf (getD ws at 0); byval = byval; array = array; head = t .head; arg = t .arg; next = t .next }) (param v) × (t .next ≡ end)
+      by ns n v end s =
+          let p = in-param v s in
+          let q = T .is ns n (p .clause) end (p .there) in
+          (record { name = p .name; byval = e ∙ p .byval; array = d ∙ p .array; head = q .0 ∙ ap headOf (p .type-is); arg = q .1 ∙ ap argOf (p .type-is) }, q .2)
+
+-- ---- a body, and the place past it
+
+pub body-at : {ws : List ℕ} {at : ℕ} (S : SomeTree (one bodySort) ws at) → BodyAt ws at (over see (S .tree))
+body-at S = record { names = S .names; strings = S .strings; tree = S .tree; end = S .end; stands = S .stands; is = refl }
+
+module _ {ws ns : List ℕ} {n at : ℕ} (s : Step) (e : s ≡ stepOf (fieldAt ws ns n (exprAt ws (strings ns n) 100) (stmtAt ws ns n 100) bodySort at)) where
+  body-read : {v : Tree Expr (one bodySort)} {end : ℕ} → Stands ws ns n at v end → depthT v ≤ 100 → s ≡ Read (record { at = end })
+  unfolding stepOf clear clearR
+  body-read {v} {end} S d = e ∙ ap stepOf (completes ws ns n v 100 at end refl d (S .valid) (S .wrote))
+
+  pub body-past : (c : Cursor) → s ≡ Read c → (v : Tree Expr (one bodySort)) (end : ℕ) → Stands ws ns n at v end → depthT v ≤ 100 → c .at ≡ end
+  body-past c q v end S d = ap Cursor.at (the-cursor (sym q ∙ body-read S d))
+    where
+      the-cursor : {c c′ : Cursor} → Read c ≡ Read c′ → c ≡ c′
+      the-cursor q = cc
+
+  pub body-wrong : (p : ℕ) → s ≡ Wrong p → (v : Tree Expr (one bodySort)) (end : ℕ) → Stands ws ns n at v end → depthT v ≤ 100 → p ≡ end
+  body-wrong p q v end S d = let r = body-read S d in let z : _≡_ {A = ℕ} 0 1 = cc in absurd (omega arith)
+
+  pub body-deep : (p : ℕ) → s ≡ Deep p → (v : Tree Expr (one bodySort)) (end : ℕ) → Stands ws ns n at v end → depthT v ≤ 100 → p ≡ end
+  body-deep p q v end S d = let r = body-read S d in let z : _≡_ {A = ℕ} 0 1 = cc in absurd (omega arith)
+
+-- ---- what stands in a statement: its line, a name and a list, a part and the rest, a flag
+
+stmt-line : {ws ns : List ℕ} {n at end : ℕ} {k : Kind} {line : ℕ} {r : Tree Expr (row (sorts k))} → Stands ws ns n at (Stmt k line r) end
+    → (at < length ws) × (payOf (getD ws at 0) ≡ line) × Stands ws ns n (at + 1) r end
+unfolding wordsT Right
+stmt-line {k = k} {line} s =
+    let f = wrote-first (s .wrote) in
+    (f .inside, ap payOf (f .is) ∙ pay-is (64 + numberOf k) line (s .valid .0), record { wrote = f .rest; valid = s .valid .1 })
+
+record InHead (ws ns : List ℕ) (n at end x : ℕ) (ps : Tree Expr (rows ParamRow)) {ss : Sorts} (rest : Tree Expr (row ss)) : Type 0 where
+  inside : at + 2 < length ws
+  name-is : payOf (getD ws (at + 1) 0) ≡ x
+  named : eqb (getD ns x 0) 1 ≡ true
+  counted : count ps ≡ payOf (getD ws (at + 2) 0)
+  mid : ℕ
+  there : Stands ws ns n (at + 3) ps mid
+  next : Stands ws ns n mid rest end
+
+in-head : {ws ns : List ℕ} {n at end : ℕ} {ss : Sorts} (x : ℕ) (ps : Tree Expr (rows ParamRow)) (rest : Tree Expr (row ss))
+    → Stands ws ns n (at + 1) (cons (word {l = name} x) (cons (list ps) rest)) end → InHead ws ns n at end x ps rest
+unfolding wordsT Right
+in-head {ws} {ns} {n} {at} {end} x ps rest s =
+    let f = wrote-first (s .wrote) in
+    let g = first-at {m′ = at + 2} (omega arith) (wrote-first (f .rest)) in
+    let w : Wrote ws (at + 3) (wordsT ps ++ wordsT rest) end = at-place (omega arith) (g .rest) in
+    record {
+      inside = g .inside;
+      name-is = ap payOf (f .is) ∙ pay-is 2 x (s .valid .0 .1);
+      named = s .valid .0 .0;
+      counted = sym (ap payOf (g .is) ∙ pay-is 1 (count ps) (s .valid .1 .0 .0));
+      mid = at + 3 + length (wordsT ps);
+      there = record { wrote = wrote-left (wordsT ps) (wordsT rest) w; valid = s .valid .1 .0 .1 };
+      next = record { wrote = wrote-right (wordsT ps) w; valid = s .valid .1 .1 };
+    }
+
+record InCons (ws ns : List ℕ) (n at end : ℕ) {s : Sort} {ss : Sorts} (v : Tree Expr (one s)) (r : Tree Expr (row ss)) : Type 0 where
+  mid : ℕ
+  there : Stands ws ns n at v mid
+  next : Stands ws ns n mid r end
+
+in-cons : {ws ns : List ℕ} {n at end : ℕ} {s : Sort} {ss : Sorts} (v : Tree Expr (one s)) (r : Tree Expr (row ss)) → Stands ws ns n at (cons v r) end → InCons ws ns n at end v r
+unfolding wordsT Right
+in-cons v r s =
+    record {
+      mid = _;
+      there = record { wrote = wrote-left (wordsT v) (wordsT r) (s .wrote); valid = s .valid .0 };
+      next = record { wrote = wrote-right (wordsT v) (s .wrote); valid = s .valid .1 };
+    }
+
+in-flag : {ws ns : List ℕ} {n at end : ℕ} {ss : Sorts} (v : Tree Expr (one flag)) (r : Tree Expr (row ss)) → Stands ws ns n at (cons v r) end
+    → (at < length ws) × (eqb (payOf (getD ws at 0)) 1 ≡ isSet v) × Stands ws ns n (at + 1) r end
+unfolding wordsT Right isSet
+in-flag (word x) r s =
+    let f = wrote-first (s .wrote) in
+    (f .inside, flag-is _ x (f .is) (s .valid .0 .1), record { wrote = f .rest; valid = s .valid .1 })
+
+-- a place has one statement, so that any that stands there is shallow
+shallow-all : {ns : List ℕ} {n : ℕ} {k : Kind} {ws : List ℕ} {at line end : ℕ} {fields : Tree Expr (row (sorts k))} → StmtAt ns n k ws at → Stands ws ns n at (Stmt k line fields) end → depthT fields ≤ 100
+unfolding depthT clear
+shallow-all {ns} {n} {k} {ws} {at} {line} {end} {fields} S s =
+    let e = one-tree ws ns n (Stmt k line fields) (Stmt k (S .line) (S .fields)) at end (S .end) refl (s .valid) (S .stands .valid) (s .wrote) (S .stands .wrote) .0 in
+    let q : depthT fields + 1 ≡ depthT (S .fields) + 1 = ap (λ (v : Tree Expr (one stmt)). depthT v) e in
+    omega (arith, S .shallow)
+
+-- ---- a SUB
+
+record InSub (ws ns : List ℕ) (n at line : ℕ) (r : Tree Expr (row (sorts sub))) : Type 0 where
+  name : ℕ
+  params : Tree Expr (rows ParamRow)
+  body : Tree Expr (one bodySort)
+  keeps : Tree Expr (one flag)
+  inside : at + 2 < length ws
+  line-is : payOf (getD ws at 0) ≡ line
+  name-is : payOf (getD ws (at + 1) 0) ≡ name
+  named : eqb (getD ns name 0) 1 ≡ true
+  counted : count params ≡ payOf (getD ws (at + 2) 0)
+  mid : ℕ
+  params-there : Stands ws ns n (at + 3) params mid
+  past : ℕ
+  body-there : Stands ws ns n mid body past
+  shallow : depthT body ≤ depthT r
+  flag-inside : past < length ws
+  flag-set : eqb (payOf (getD ws past 0)) 1 ≡ isSet keeps
+  is : (G : Given) (scope : ℕ) → statement G scope line (view sub (over see r))
+      ≡ procedure G scope line (record { name = name; params = rowsOf param params; ret-ty = absent; body = over see body; is-function = false; is-static = isSet keeps; def-fn = false })
+
+in-sub : {ws ns : List ℕ} {n at end : ℕ} (line : ℕ) (r : Tree Expr (row (sorts sub))) → Stands ws ns n at (Stmt sub line r) end → InSub ws ns n at line r
+unfolding sorts view over statement items depthT
+in-sub line (cons (word x) (cons (list ps) (cons b (cons f done)))) s =
+    let l = stmt-line s in
+    let h = in-head x ps (cons b (cons f done)) (l .2) in
+    let c = in-cons b (cons f done) (h .next) in
+    let g = in-flag f done (c .next) in
+    record {
+      name = x;
+      params = ps;
+      body = b;
+      keeps = f;
+      inside = h .inside;
+      line-is = l .1;
+      name-is = h .name-is;
+      named = h .named;
+      counted = h .counted;
+      mid = h .mid;
+      params-there = h .there;
+      past = c .mid;
+      body-there = c .there;
+      shallow = omega arith;
+      flag-inside = g .0;
+      flag-set = g .1;
+      is = λ G scope.
+          ap₂ (λ (qs : List Param) (t : Bool). procedure G scope line (record { name = x; params = qs; ret-ty = absent; body = over see b; is-function = false; is-static = t; def-fn = false }))
+          (param-rows-over see ps) (set-over see f);
+    }
+
+-- what the code knows of the places past the parameters and past the body
+module _ {ws ns : List ℕ} {n : ℕ} (at : ℕ) {m : ℕ}
+    (past-params : (ps : List Param) (T : ParamsAt ws (at + 3) (payOf (getD ws (at + 2) 0)) ps) → m ≡ T .end) where
+  params-end : {ps : Tree Expr (rows ParamRow)} {end : ℕ} → count ps ≡ payOf (getD ws (at + 2) 0) → Stands ws ns n (at + 3) ps end → m ≡ end
+  params-end {ps} {end} c s = past-params (rowsOf param ps) (record { names = ns; strings = n; tree = ps; end = end; stands = s; counted = c; are = refl })
+
+module _ {ws ns : List ℕ} {n at : ℕ} (S : StmtAt ns n sub ws at) where
+  here : InSub ws ns n at (S .line) (S .fields)
+  here = in-sub (S .line) (S .fields) (S .stands)
+
+  pub sub-inside : at + 2 < length ws
+  sub-inside = here .inside
+
+  pub sub-params : SomeParams ws (at + 3) (payOf (getD ws (at + 2) 0))
+  sub-params =
+      let h = here in
+      record { params = rowsOf param (h .params); there = record { names = ns; strings = n; tree = h .params; end = h .mid; stands = h .params-there; counted = h .counted; are = refl } }
+
+  module _ {m e : ℕ} (past-params : (ps : List Param) (T : ParamsAt ws (at + 3) (payOf (getD ws (at + 2) 0)) ps) → m ≡ T .end)
+      (past-body : (v : Tree Expr (one bodySort)) (end : ℕ) → Stands ws ns n m v end → depthT v ≤ 100 → e ≡ end) where
+    -- of whatever SUB stands there
+    ends : {line : ℕ} {r : Tree Expr (row (sorts sub))} (h : InSub ws ns n at line r) → depthT r ≤ 100 → (m ≡ h .mid) × (e ≡ h .past)
+    ends h d =
+        let p = params-end at past-params (h .counted) (h .params-there) in
+        let s = h .shallow in
+        (p, past-body (h .body) (h .past) (subst (λ (x : ℕ). Stands ws ns n x (h .body) (h .past)) (sym p) (h .body-there)) (omega arith))
+
+    pub sub-flag : e < length ws
+    sub-flag = omega (arith, here .flag-inside, ends here (S .shallow) .1)
+
+    pub sub-is : (keeps : Bool) → keeps ≡ eqb (payOf (getD ws e 0)) 1
+        → ProcIs ns n sub ws at (record { line = payOf (getD ws at 0); name = payOf (getD ws (at + 1) 0); params = at + 3; count = payOf (getD ws (at + 2) 0); head = 0; arg = 0; body = m; function = false; keeps = keeps; deffn = false })
+    sub-is keeps q = record { shows = by; named = subst (λ (x : ℕ). eqb (getD ns x 0) 1 ≡ true) (sym (here .name-is)) (here .named) }
+      where
+        by : (line : ℕ) (r : Tree Expr (row (sorts sub))) (end : ℕ) → Stands ws ns n at (Stmt sub line r) end
+            → Shown ws sub (record { line = payOf (getD ws at 0); name = payOf (getD ws (at + 1) 0); params = at + 3; count = payOf (getD ws (at + 2) 0); head = 0; arg = 0; body = m; function = false; keeps = keeps; deffn = false }) line r
+        by line r end s =
+            let h = in-sub line r s in
+            let p = ends h (shallow-all S s) in
+            record {
+              proc = record { name = h .name; params = rowsOf param (h .params); ret-ty = absent; body = over see (h .body); is-function = false; is-static = isSet (h .keeps); def-fn = false };
+              is = h .is;
+              of = record {
+                name = h .name-is;
+                params = record { names = ns; strings = n; tree = h .params; end = h .mid; stands = h .params-there; counted = h .counted; are = refl };
+                head = refl;
+                arg = refl;
+                body = record { names = ns; strings = n; tree = h .body; end = h .past; stands = subst (λ (x : ℕ). Stands ws ns n x (h .body) (h .past)) (sym (p .0)) (h .body-there); is = refl };
+                function = refl;
+                static = q ∙ ap (λ (x : ℕ). eqb (payOf (getD ws x 0)) 1) (p .1) ∙ h .flag-set;
+                def-fn = refl;
+              };
+              line-is = h .line-is;
+            }
+
+-- ---- a FUNCTION: its AS clause stands before the body, and it has two flags
+
+record InFunction (ws ns : List ℕ) (n at line : ℕ) (r : Tree Expr (row (sorts function))) : Type 0 where
+  name : ℕ
+  params : Tree Expr (rows ParamRow)
+  clause : Tree Expr (one (opt (TypeSort & nil)))
+  body : Tree Expr (one bodySort)
+  keeps : Tree Expr (one flag)
+  deffn : Tree Expr (one flag)
+  inside : at + 2 < length ws
+  line-is : payOf (getD ws at 0) ≡ line
+  name-is : payOf (getD ws (at + 1) 0) ≡ name
+  named : eqb (getD ns name 0) 1 ≡ true
+  counted : count params ≡ payOf (getD ws (at + 2) 0)
+  mid : ℕ
+  params-there : Stands ws ns n (at + 3) params mid
+  next : ℕ
+  clause-there : Stands ws ns n mid clause next
+  past : ℕ
+  body-there : Stands ws ns n next body past
+  shallow : depthT body ≤ depthT r
+  flag-inside : past + 1 < length ws
+  keeps-set : eqb (payOf (getD ws past 0)) 1 ≡ isSet keeps
+  deffn-set : eqb (payOf (getD ws (past + 1) 0)) 1 ≡ isSet deffn
+  is : (G : Given) (scope : ℕ) → statement G scope line (view function (over see r))
+      ≡ procedure G scope line (record { name = name; params = rowsOf param params; ret-ty = optional asType clause; body = over see body; is-function = true; is-static = isSet keeps; def-fn = isSet deffn })
+
+in-function : {ws ns : List ℕ} {n at end : ℕ} (line : ℕ) (r : Tree Expr (row (sorts function))) → Stands ws ns n at (Stmt function line r) end → InFunction ws ns n at line r
+unfolding sorts view over statement items depthT
+in-function line (cons (word x) (cons (list ps) (cons t (cons b (cons f (cons g done)))))) s =
+    let l = stmt-line s in
+    let h = in-head x ps (cons t (cons b (cons f (cons g done)))) (l .2) in
+    let a = in-cons t (cons b (cons f (cons g done))) (h .next) in
+    let c = in-cons b (cons f (cons g done)) (a .next) in
+    let k = in-flag f (cons g done) (c .next) in
+    let d = in-flag g done (k .2) in
+    record {
+      name = x;
+      params = ps;
+      clause = t;
+      body = b;
+      keeps = f;
+      deffn = g;
+      inside = h .inside;
+      line-is = l .1;
+      name-is = h .name-is;
+      named = h .named;
+      counted = h .counted;
+      mid = h .mid;
+      params-there = h .there;
+      next = a .mid;
+      clause-there = a .there;
+      past = c .mid;
+      body-there = c .there;
+      shallow = omega arith;
+      flag-inside = d .0;
+      keeps-set = k .1;
+      deffn-set = d .1;
+      is = λ G scope.
+          ap₂ (λ (qs : List Param) (ty : Option TypeRef). procedure G scope line (record { name = x; params = qs; ret-ty = ty; body = over see b; is-function = true; is-static = isSet (over see f); def-fn = isSet (over see g) }))
+          (param-rows-over see ps) (as-over see t)
+          ∙ ap₂ (λ (k d : Bool). procedure G scope line (record { name = x; params = rowsOf param ps; ret-ty = optional asType t; body = over see b; is-function = true; is-static = k; def-fn = d }))
+          (set-over see f) (set-over see g);
+    }
+
+module _ {ws ns : List ℕ} {n at : ℕ} (S : StmtAt ns n function ws at) where
+  found : InFunction ws ns n at (S .line) (S .fields)
+  found = in-function (S .line) (S .fields) (S .stands)
+
+  pub function-inside : at + 2 < length ws
+  function-inside = found .inside
+
+  pub function-params : SomeParams ws (at + 3) (payOf (getD ws (at + 2) 0))
+  function-params =
+      let h = found in
+      record { params = rowsOf param (h .params); there = record { names = ns; strings = n; tree = h .params; end = h .mid; stands = h .params-there; counted = h .counted; are = refl } }
+
+  module _ {m : ℕ} (past-params : (ps : List Param) (T : ParamsAt ws (at + 3) (payOf (getD ws (at + 2) 0)) ps) → m ≡ T .end) where
+    -- the clause stands past the parameters, of whatever FUNCTION stands there
+    clause-at : {line : ℕ} {r : Tree Expr (row (sorts function))} (h : InFunction ws ns n at line r) → Stands ws ns n m (h .clause) (h .next)
+    clause-at h = subst (λ (x : ℕ). Stands ws ns n x (h .clause) (h .next)) (sym (params-end at past-params (h .counted) (h .params-there))) (h .clause-there)
+
+    pub function-clause : SomeTree (one (opt (TypeSort & nil))) ws m
+    function-clause = record { names = ns; strings = n; tree = found .clause; end = found .next; stands = clause-at found }
+
+    module _ {t : TypeAt} {e : ℕ} (T : AsTypeIs ws m t) (past-body : (v : Tree Expr (one bodySort)) (end : ℕ) → Stands ws ns n (t .next) v end → depthT v ≤ 100 → e ≡ end) where
+      record Ends {line : ℕ} {r : Tree Expr (row (sorts function))} (h : InFunction ws ns n at line r) : Type 0 where
+        head : t .head ≡ headOf (optional asType (h .clause))
+        arg : t .arg ≡ argOf (optional asType (h .clause))
+        body : Stands ws ns n (t .next) (h .body) (h .past)
+        past : e ≡ h .past
+
+      both : {line : ℕ} {r : Tree Expr (row (sorts function))} (h : InFunction ws ns n at line r) → depthT r ≤ 100 → Ends h
+      both h d =
+          let q = T .is ns n (h .clause) (h .next) (clause-at h) in
+          let s = h .shallow in
+          let b = subst (λ (x : ℕ). Stands ws ns n x (h .body) (h .past)) (sym (q .2)) (h .body-there) in
+          record { head = q .0; arg = q .1; body = b; past = past-body (h .body) (h .past) b (omega arith) }
+
+      pub function-flags : e + 1 < length ws
+      function-flags = omega (arith, found .flag-inside, both found (S .shallow) .past)
+
+      pub function-is : (keeps deffn : Bool) → keeps ≡ eqb (payOf (getD ws e 0)) 1 → deffn ≡ eqb (payOf (getD ws (e + 1) 0)) 1
+          → ProcIs ns n function ws at (record { line = payOf (getD ws at 0); name = payOf (getD ws (at + 1) 0); params = at + 3; count = payOf (getD ws (at + 2) 0); head = t .head; arg = t .arg; body = t .next; function = true; keeps = keeps; deffn = deffn })
+      function-is keeps deffn q d = record { shows = by; named = subst (λ (x : ℕ). eqb (getD ns x 0) 1 ≡ true) (sym (found .name-is)) (found .named) }
+        where
+          by : (line : ℕ) (r : Tree Expr (row (sorts function))) (end : ℕ) → Stands ws ns n at (Stmt function line r) end
+              → Shown ws function (record { line = payOf (getD ws at 0); name = payOf (getD ws (at + 1) 0); params = at + 3; count = payOf (getD ws (at + 2) 0); head = t .head; arg = t .arg; body = t .next; function = true; keeps = keeps; deffn = deffn }) line r
+          by line r end s =
+              let h = in-function line r s in
+              let p = both h (shallow-all S s) in
+              record {
+                proc = record { name = h .name; params = rowsOf param (h .params); ret-ty = optional asType (h .clause); body = over see (h .body); is-function = true; is-static = isSet (h .keeps); def-fn = isSet (h .deffn) };
+                is = h .is;
+                of = record {
+                  name = h .name-is;
+                  params = record { names = ns; strings = n; tree = h .params; end = h .mid; stands = h .params-there; counted = h .counted; are = refl };
+                  head = p .head;
+                  arg = p .arg;
+                  body = record { names = ns; strings = n; tree = h .body; end = h .past; stands = p .body; is = refl };
+                  function = refl;
+                  static = q ∙ ap (λ (x : ℕ). eqb (payOf (getD ws x 0)) 1) (p .past) ∙ h .keeps-set;
+                  def-fn = d ∙ ap (λ (x : ℕ). eqb (payOf (getD ws (x + 1) 0)) 1) (p .past) ∙ h .deffn-set;
+                };
+                line-is = h .line-is;
+              }
+
+-- ---- a name's number
+
+marks-length : (bytes ends : List ℕ) (i : ℕ) → length (marksBelow bytes ends i) ≡ i
+unfolding marksBelow
+marks-length bytes ends zero = refl
+marks-length bytes ends (suc i) = length-append (marksBelow bytes ends i) _ ∙ ap (λ (m : ℕ). m + 1) (marks-length bytes ends i) ∙ add-one i
+
+names-length : (bytes ends : List ℕ) → length (namesOf bytes ends) ≡ length ends
+unfolding namesOf
+names-length bytes ends = marks-length bytes ends (length ends)
+
+marked-below : (ns : List ℕ) (x : ℕ) → eqb (getD ns x 0) 1 ≡ true → x < length ns
+marked-below [] x e = absurd (false≢true e)
+marked-below (m ∷ ns) zero e = omega arith
+marked-below (m ∷ ns) (suc x) e = omega (arith, marked-below ns x e)
+
+pub name-below : {bytes ends ns : List ℕ} → Named bytes ends ns → length ends ≤ 1024 → (x : ℕ) → eqb (getD ns x 0) 1 ≡ true → x < 1024
+name-below {bytes} {ends} {ns} N h x e = omega (arith, marked-below ns x e, ap length (N .names), names-length bytes ends)
+
+-- ---- from what was read to what the code asks
+
+pub some-proc : {ns : List ℕ} {n : ℕ} {k : Kind} {ws : List ℕ} {at : ℕ} {r : ProcAt} → StmtAt ns n k ws at → ProcIs ns n k ws at r → SomeProc ws r
+some-proc S I = let h = I .shows (S .line) (S .fields) (S .end) (S .stands) in record { proc = h .proc; of = h .of }
+
+module _ {ws : List ℕ} {r : ProcAt} (P : SomeProc ws r) where
+  pub proc-body : SomeTree (one bodySort) ws (r .body)
+  proc-body = let B = P .of .body in record { names = B .names; strings = B .strings; tree = B .tree; end = B .end; stands = B .stands }
+
+  pub proc-params : SomeParams ws (r .params) (r .count)
+  proc-params = record { params = P .proc .params; there = P .of .params }

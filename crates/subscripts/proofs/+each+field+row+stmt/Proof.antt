@@ -1,0 +1,728 @@
+use mathlib.Core.Path.{_≡_, refl, sym, ap, _∙_}
+use native.Mathlib.Omega.{arith}
+use borrow.Author.Needs.{needs}
+use lib.ListN.{length, drop, getD}
+use Rattle.words.specs.Word.{kindOf}
+use Rattle.tree.specs.Tree.{one}
+use Rattle.tree.specs.Codes.{codes, decode, sortAt, rowOf}
+use Rattle.tree.proofs.Steps.{sizeS, sizeR, size-start, size-step, small-row, is-9, is-10}
+use Rattle.plans.proofs.Walk.{of-some, to-some, of-some-rows, to-some-rows, some-as, walks-as, open-fits, open-rows, open-done, WalkedRows, rows-start, next-row, rows-done, WalkedRow, row-start, next-field, row-stop, row-full, head-range, fields-there}
+use Rattle.subscripts.specs.Code.{Counted}
+use Rattle.subscripts.proofs.Walk.{counted-none, each-step, field-step, value-some, value-walked, stmt-walked, stmt-done}
+use Prim.Native.Nat.{ℕ, _+_, _-_, _*_, _<_, _≤_}
+use borrow.Fn.Kinds.{In}
+use borrow.Fn.PlainCycle.{Measures, is, falls, and}
+use Rattle.subscripts.proofs.each.Reads as each
+use Rattle.subscripts.proofs.each.Kinds as each-kinds
+use Rattle.subscripts.proofs.+each+field+row+stmt.Lts-each as each-lts
+use Rattle.subscripts.proofs.field.Reads as field
+use Rattle.subscripts.proofs.field.Kinds as field-kinds
+use Rattle.subscripts.proofs.+each+field+row+stmt.Lts-field as field-lts
+use Rattle.subscripts.proofs.row.Reads as row
+use Rattle.subscripts.proofs.row.Kinds as row-kinds
+use Rattle.subscripts.proofs.+each+field+row+stmt.Lts-row as row-lts
+use Rattle.subscripts.proofs.stmt.Reads as stmt
+use Rattle.subscripts.proofs.stmt.Kinds as stmt-kinds
+use Rattle.subscripts.proofs.+each+field+row+stmt.Lts-stmt as stmt-lts
+use Rattle.plans.proofs.plan_for.Reads as plan-for-reads
+use Rattle.subscripts.proofs.by_hand.Reads as by-hand-reads
+use Rattle.subscripts.proofs.expr.Reads as expr-reads
+use Rattle.subscripts.proofs.joined.Reads as joined-reads
+use Rattle.subscripts.proofs.no_use.Reads as no-use-reads
+use Rattle.subscripts.proofs.or_else.Reads as or-else-reads
+use Rattle.subscripts.proofs.targeted.Reads as targeted-reads
+use Rattle.tree.proofs.sort.Reads as sort-reads
+use Rattle.subscripts.proofs.+each+field+row+stmt.{statement}
+use Rattle.subscripts.proofs.+each+field+row+stmt.Tie.{close}
+
+abbrev μ-each : Measures 1 each-kinds.ps ℕ
+μ-each κs a = (length (a .0 .now) - a .1 .0) * 1000 + sizeR (rowOf (a .1 .1 .1 .0)) + 1
+
+abbrev μ-field : Measures 1 field-kinds.ps ℕ
+μ-field κs a = (length (a .0 .now) - a .1 .0) * 1000 + sizeS (sortAt (a .1 .1 .1 .0)) + 1
+
+abbrev μ-row : Measures 1 row-kinds.ps ℕ
+μ-row κs a = (length (a .0 .now) - a .1 .0) * 1000 + sizeR (rowOf (a .1 .1 .1 .0))
+
+abbrev μ-stmt : Measures 1 stmt-kinds.ps ℕ
+μ-stmt κs a = (length (a .0 .now) - a .1 .0) * 1000
+
+abbrev each-at : ℕ → In 1 each-kinds.ps
+each-at t = and 1 each-kinds.ps (is 1 each-kinds.ps μ-each t) each.Pre
+
+abbrev each-below : ℕ → In 1 each-kinds.ps
+each-below t = and 1 each-kinds.ps (falls 1 each-kinds.ps _<_ μ-each t) each.Pre
+
+abbrev field-at : ℕ → In 1 field-kinds.ps
+field-at t = and 1 field-kinds.ps (is 1 field-kinds.ps μ-field t) field.Pre
+
+abbrev field-below : ℕ → In 1 field-kinds.ps
+field-below t = and 1 field-kinds.ps (falls 1 field-kinds.ps _<_ μ-field t) field.Pre
+
+abbrev row-at : ℕ → In 1 row-kinds.ps
+row-at t = and 1 row-kinds.ps (is 1 row-kinds.ps μ-row t) row.Pre
+
+abbrev row-below : ℕ → In 1 row-kinds.ps
+row-below t = and 1 row-kinds.ps (falls 1 row-kinds.ps _<_ μ-row t) row.Pre
+
+abbrev stmt-at : ℕ → In 1 stmt-kinds.ps
+stmt-at t = and 1 stmt-kinds.ps (is 1 stmt-kinds.ps μ-stmt t) stmt.Pre
+
+abbrev stmt-below : ℕ → In 1 stmt-kinds.ps
+stmt-below t = and 1 stmt-kinds.ps (falls 1 stmt-kinds.ps _<_ μ-stmt t) stmt.Pre
+
+abbrev each-Inv-loop : each-lts.InvT-loop
+each-Inv-loop words at name r n w₀ i₀ w i = WalkedRows (rowOf r) n words at (w .next) i (Counted name (w .own) (w .nested))
+
+abbrev each-μ-loop : each-lts.MeasureT-loop
+each-μ-loop words at name r n w₀ i₀ w i = n - i
+
+-- src/lib.rt:415:14
+each-no-use-requires : (t : ℕ) → each-lts.Need-no-use-requires (
+  no-use-reads.Asked,
+  no-use-reads.Learnt,
+  row-below t,
+  row.Post,
+  joined-reads.Asked,
+  joined-reads.Learnt,
+) (each-at t) each.Post each-Inv-loop each-μ-loop
+each-no-use-requires t c κs = search needs
+
+-- src/lib.rt:416:17
+each-no-use-requires-2 : (t : ℕ) → each-lts.Need-no-use-requires-2 (
+  no-use-reads.Asked,
+  no-use-reads.Learnt,
+  row-below t,
+  row.Post,
+  joined-reads.Asked,
+  joined-reads.Learnt,
+) (each-at t) each.Post each-Inv-loop each-μ-loop
+each-no-use-requires-2 t c κs = search needs
+
+-- src/lib.rt:420:5
+each-loop-holds : (t : ℕ) → each-lts.Need-loop-holds (
+  no-use-reads.Asked,
+  no-use-reads.Learnt,
+  row-below t,
+  row.Post,
+  joined-reads.Asked,
+  joined-reads.Learnt,
+) (each-at t) each.Post each-Inv-loop each-μ-loop
+each-loop-holds t c = rows-start (rowOf (c .before .before .before .args .r)) (c .before .before .before .args .n) (c .before .before .before .args .words .now) (c .before .before .before .args .at) (counted-none (c .before .no-use .ensures) (c .no-use2 .ensures))
+
+-- src/lib.rt:421:13
+each-row-requires : (t : ℕ) → each-lts.Need-row-requires (
+  no-use-reads.Asked,
+  no-use-reads.Learnt,
+  row-below t,
+  row.Post,
+  joined-reads.Asked,
+  joined-reads.Learnt,
+) (each-at t) each.Post each-Inv-loop each-μ-loop
+each-row-requires t c κs = (omega (arith, c .before .before .before .before .before .pre .0, next-row (of-some-rows (c .before .before .before .before .before .pre .1)) (c .before .loop .inv) (c .loop-test .taken) .from), to-some (next-row (of-some-rows (c .before .before .before .before .before .pre .1)) (c .before .loop .inv) (c .loop-test .taken) .ready))
+
+-- src/lib.rt:422:9
+each-joined-requires : (t : ℕ) → each-lts.Need-joined-requires (
+  no-use-reads.Asked,
+  no-use-reads.Learnt,
+  row-below t,
+  row.Post,
+  joined-reads.Asked,
+  joined-reads.Learnt,
+) (each-at t) each.Post each-Inv-loop each-μ-loop
+each-joined-requires t c κs = search needs
+
+-- src/lib.rt:423:9
+each-add-i : (t : ℕ) → each-lts.Need-add-i (
+  no-use-reads.Asked,
+  no-use-reads.Learnt,
+  row-below t,
+  row.Post,
+  joined-reads.Asked,
+  joined-reads.Learnt,
+) (each-at t) each.Post each-Inv-loop each-μ-loop
+each-add-i t c = omega (arith, c .before .before .loop-test .taken)
+
+-- src/lib.rt:420:5
+each-loop-less : (t : ℕ) → each-lts.Need-loop-less (
+  no-use-reads.Asked,
+  no-use-reads.Learnt,
+  row-below t,
+  row.Post,
+  joined-reads.Asked,
+  joined-reads.Learnt,
+) (each-at t) each.Post each-Inv-loop each-μ-loop
+each-loop-less t c = omega (arith, c .before .before .loop-test .taken)
+
+-- src/lib.rt:420:5
+each-loop-again : (t : ℕ) → each-lts.Need-loop-again (
+  no-use-reads.Asked,
+  no-use-reads.Learnt,
+  row-below t,
+  row.Post,
+  joined-reads.Asked,
+  joined-reads.Learnt,
+) (each-at t) each.Post each-Inv-loop each-μ-loop
+each-loop-again t c = each-step (c .before .before .before .loop .inv) (c .before .before .loop-test .taken) (c .before .row .ensures) (c .joined .ensures)
+
+-- src/lib.rt:410:1
+each-returns : (t : ℕ) → each-lts.Need-returns (
+  no-use-reads.Asked,
+  no-use-reads.Learnt,
+  row-below t,
+  row.Post,
+  joined-reads.Asked,
+  joined-reads.Learnt,
+) (each-at t) each.Post each-Inv-loop each-μ-loop
+each-returns t c = rows-done (c .before .loop .inv) (c .loop-test .left)
+
+-- src/lib.rt:369:13
+field-expr-requires : (t : ℕ) → field-lts.Need-expr-requires (
+  expr-reads.Asked,
+  expr-reads.Learnt,
+  no-use-reads.Asked,
+  no-use-reads.Learnt,
+  stmt-below t,
+  stmt.Post,
+  plan-for-reads.Asked,
+  plan-for-reads.Learnt,
+  each-below t,
+  each.Post,
+) (field-at t) field.Post
+field-expr-requires t c κs = value-some (some-as (ap one (is-9 (c .if1 .taken))) (c .before .before .pre .1 .0))
+
+-- src/lib.rt:373:21
+field-no-use-requires : (t : ℕ) → field-lts.Need-no-use-requires (
+  expr-reads.Asked,
+  expr-reads.Learnt,
+  no-use-reads.Asked,
+  no-use-reads.Learnt,
+  stmt-below t,
+  stmt.Post,
+  plan-for-reads.Asked,
+  plan-for-reads.Learnt,
+  each-below t,
+  each.Post,
+) (field-at t) field.Post
+field-no-use-requires t c κs = search needs
+
+-- src/lib.rt:371:9
+field-returns : (t : ℕ) → field-lts.Need-returns (
+  expr-reads.Asked,
+  expr-reads.Learnt,
+  no-use-reads.Asked,
+  no-use-reads.Learnt,
+  stmt-below t,
+  stmt.Post,
+  plan-for-reads.Asked,
+  plan-for-reads.Learnt,
+  each-below t,
+  each.Post,
+) (field-at t) field.Post
+field-returns t c = walks-as (ap one (is-9 (c .before .before .before .if1 .taken))) (value-walked (c .before .before .expr .ensures) (c .no-use .ensures))
+
+-- src/lib.rt:378:13
+field-stmt-requires : (t : ℕ) → field-lts.Need-stmt-requires (
+  expr-reads.Asked,
+  expr-reads.Learnt,
+  no-use-reads.Asked,
+  no-use-reads.Learnt,
+  stmt-below t,
+  stmt.Post,
+  plan-for-reads.Asked,
+  plan-for-reads.Learnt,
+  each-below t,
+  each.Post,
+) (field-at t) field.Post
+field-stmt-requires t c κs = (omega (arith, c .before .before .before .pre .0), some-as (ap one (is-10 (c .if2 .taken))) (c .before .before .before .pre .1 .0))
+
+-- src/lib.rt:381:18
+field-no-use-requires-2 : (t : ℕ) → field-lts.Need-no-use-requires-2 (
+  expr-reads.Asked,
+  expr-reads.Learnt,
+  no-use-reads.Asked,
+  no-use-reads.Learnt,
+  stmt-below t,
+  stmt.Post,
+  plan-for-reads.Asked,
+  plan-for-reads.Learnt,
+  each-below t,
+  each.Post,
+) (field-at t) field.Post
+field-no-use-requires-2 t c κs = search needs
+
+-- src/lib.rt:380:9
+field-returns-2 : (t : ℕ) → field-lts.Need-returns-2 (
+  expr-reads.Asked,
+  expr-reads.Learnt,
+  no-use-reads.Asked,
+  no-use-reads.Learnt,
+  stmt-below t,
+  stmt.Post,
+  plan-for-reads.Asked,
+  plan-for-reads.Learnt,
+  each-below t,
+  each.Post,
+) (field-at t) field.Post
+field-returns-2 t c = walks-as (ap one (is-10 (c .before .before .before .if2 .taken))) (stmt-walked (c .before .before .stmt .ensures) (c .no-use2 .ensures))
+
+-- src/lib.rt:386:9
+field-plan-for-requires : (t : ℕ) → field-lts.Need-plan-for-requires (
+  expr-reads.Asked,
+  expr-reads.Learnt,
+  no-use-reads.Asked,
+  no-use-reads.Learnt,
+  stmt-below t,
+  stmt.Post,
+  plan-for-reads.Asked,
+  plan-for-reads.Learnt,
+  each-below t,
+  each.Post,
+) (field-at t) field.Post
+field-plan-for-requires t c κs = (c .before .before .before .pre .1 .0, c .before .before .before .pre .1 .1, c .before .if1 .left, c .if2 .left)
+
+-- src/lib.rt:390:17
+field-add-each : (t : ℕ) → field-lts.Need-add-each (
+  expr-reads.Asked,
+  expr-reads.Learnt,
+  no-use-reads.Asked,
+  no-use-reads.Learnt,
+  stmt-below t,
+  stmt.Post,
+  plan-for-reads.Asked,
+  plan-for-reads.Learnt,
+  each-below t,
+  each.Post,
+) (field-at t) field.Post
+field-add-each t c = omega (arith, open-fits (of-some (c .before .before .before .before .pre .1 .0)) (c .plan-for .ensures))
+
+-- src/lib.rt:390:5
+field-each-requires : (t : ℕ) → field-lts.Need-each-requires (
+  expr-reads.Asked,
+  expr-reads.Learnt,
+  no-use-reads.Asked,
+  no-use-reads.Learnt,
+  stmt-below t,
+  stmt.Post,
+  plan-for-reads.Asked,
+  plan-for-reads.Learnt,
+  each-below t,
+  each.Post,
+) (field-at t) field.Post
+field-each-requires t c κs = (omega (arith, c .before .before .before .before .pre .0, c .plan-for .ensures .falls, open-fits (of-some (c .before .before .before .before .pre .1 .0)) (c .plan-for .ensures)), to-some-rows (open-rows (of-some (c .before .before .before .before .pre .1 .0)) (c .plan-for .ensures)))
+
+-- src/lib.rt:364:1
+field-returns-3 : (t : ℕ) → field-lts.Need-returns-3 (
+  expr-reads.Asked,
+  expr-reads.Learnt,
+  no-use-reads.Asked,
+  no-use-reads.Learnt,
+  stmt-below t,
+  stmt.Post,
+  plan-for-reads.Asked,
+  plan-for-reads.Learnt,
+  each-below t,
+  each.Post,
+) (field-at t) field.Post
+field-returns-3 t c = open-done (c .before .plan-for .ensures) (c .each .ensures)
+
+abbrev row-Inv-loop : row-lts.InvT-loop
+row-Inv-loop words at name r w₀ i₀ w i = (sizeR (decode (drop i (codes r))) ≤ sizeR (rowOf r)) × WalkedRow r words at (w .next) i (Counted name (w .own) (w .nested))
+
+abbrev row-μ-loop : row-lts.MeasureT-loop
+row-μ-loop words at name r w₀ i₀ w i = 6 - i
+
+-- src/lib.rt:434:14
+row-no-use-requires : (t : ℕ) → row-lts.Need-no-use-requires (
+  no-use-reads.Asked,
+  no-use-reads.Learnt,
+  sort-reads.Asked,
+  sort-reads.Learnt,
+  field-below t,
+  field.Post,
+  joined-reads.Asked,
+  joined-reads.Learnt,
+) (row-at t) row.Post row-Inv-loop row-μ-loop
+row-no-use-requires t c κs = search needs
+
+-- src/lib.rt:435:17
+row-no-use-requires-2 : (t : ℕ) → row-lts.Need-no-use-requires-2 (
+  no-use-reads.Asked,
+  no-use-reads.Learnt,
+  sort-reads.Asked,
+  sort-reads.Learnt,
+  field-below t,
+  field.Post,
+  joined-reads.Asked,
+  joined-reads.Learnt,
+) (row-at t) row.Post row-Inv-loop row-μ-loop
+row-no-use-requires-2 t c κs = search needs
+
+-- src/lib.rt:439:5
+row-loop-holds : (t : ℕ) → row-lts.Need-loop-holds (
+  no-use-reads.Asked,
+  no-use-reads.Learnt,
+  sort-reads.Asked,
+  sort-reads.Learnt,
+  field-below t,
+  field.Post,
+  joined-reads.Asked,
+  joined-reads.Learnt,
+) (row-at t) row.Post row-Inv-loop row-μ-loop
+row-loop-holds t c = (size-start (c .before .before .before .args .r), row-start (c .before .before .before .args .r) (c .before .before .before .args .words .now) (c .before .before .before .args .at) (counted-none (c .before .no-use .ensures) (c .no-use2 .ensures)))
+
+-- src/lib.rt:440:13
+row-sort-requires : (t : ℕ) → row-lts.Need-sort-requires (
+  no-use-reads.Asked,
+  no-use-reads.Learnt,
+  sort-reads.Asked,
+  sort-reads.Learnt,
+  field-below t,
+  field.Post,
+  joined-reads.Asked,
+  joined-reads.Learnt,
+) (row-at t) row.Post row-Inv-loop row-μ-loop
+row-sort-requires t c κs = c .loop-test .taken
+
+-- src/lib.rt:442:13
+row-returns : (t : ℕ) → row-lts.Need-returns (
+  no-use-reads.Asked,
+  no-use-reads.Learnt,
+  sort-reads.Asked,
+  sort-reads.Learnt,
+  field-below t,
+  field.Post,
+  joined-reads.Asked,
+  joined-reads.Learnt,
+) (row-at t) row.Post row-Inv-loop row-μ-loop
+row-returns t c = row-stop (c .before .before .before .loop .inv .1) (c .before .sort .ensures) (c .if1 .taken)
+
+-- src/lib.rt:444:13
+row-field-requires : (t : ℕ) → row-lts.Need-field-requires (
+  no-use-reads.Asked,
+  no-use-reads.Learnt,
+  sort-reads.Asked,
+  sort-reads.Learnt,
+  field-below t,
+  field.Post,
+  joined-reads.Asked,
+  joined-reads.Learnt,
+) (row-at t) row.Post row-Inv-loop row-μ-loop
+row-field-requires t c κs = (omega (arith, c .before .before .before .before .before .before .before .pre .0, c .before .before .before .loop .inv .0, size-step (c .before .before .before .before .before .before .before .args .r) _ _ (c .before .sort .ensures) (c .if1 .left), next-field (of-some (c .before .before .before .before .before .before .before .pre .1)) (c .before .before .before .loop .inv .1) (c .before .sort .ensures) (c .if1 .left) .from), (to-some (next-field (of-some (c .before .before .before .before .before .before .before .pre .1)) (c .before .before .before .loop .inv .1) (c .before .sort .ensures) (c .if1 .left) .ready), record { row = (c .before .before .before .before .before .before .before .args .r); place = c .before .before .before .loop .i; is = c .before .sort .ensures }))
+
+-- src/lib.rt:445:9
+row-joined-requires : (t : ℕ) → row-lts.Need-joined-requires (
+  no-use-reads.Asked,
+  no-use-reads.Learnt,
+  sort-reads.Asked,
+  sort-reads.Learnt,
+  field-below t,
+  field.Post,
+  joined-reads.Asked,
+  joined-reads.Learnt,
+) (row-at t) row.Post row-Inv-loop row-μ-loop
+row-joined-requires t c κs = search needs
+
+-- src/lib.rt:446:9
+row-add-i : (t : ℕ) → row-lts.Need-add-i (
+  no-use-reads.Asked,
+  no-use-reads.Learnt,
+  sort-reads.Asked,
+  sort-reads.Learnt,
+  field-below t,
+  field.Post,
+  joined-reads.Asked,
+  joined-reads.Learnt,
+) (row-at t) row.Post row-Inv-loop row-μ-loop
+row-add-i t c = omega (arith, c .before .before .before .before .loop-test .taken)
+
+-- src/lib.rt:439:5
+row-loop-less : (t : ℕ) → row-lts.Need-loop-less (
+  no-use-reads.Asked,
+  no-use-reads.Learnt,
+  sort-reads.Asked,
+  sort-reads.Learnt,
+  field-below t,
+  field.Post,
+  joined-reads.Asked,
+  joined-reads.Learnt,
+) (row-at t) row.Post row-Inv-loop row-μ-loop
+row-loop-less t c = omega (arith, c .before .before .before .before .loop-test .taken)
+
+-- src/lib.rt:439:5
+row-loop-again : (t : ℕ) → row-lts.Need-loop-again (
+  no-use-reads.Asked,
+  no-use-reads.Learnt,
+  sort-reads.Asked,
+  sort-reads.Learnt,
+  field-below t,
+  field.Post,
+  joined-reads.Asked,
+  joined-reads.Learnt,
+) (row-at t) row.Post row-Inv-loop row-μ-loop
+row-loop-again t c = (omega (arith, c .before .before .before .before .before .loop .inv .0, size-step (c .before .before .before .before .before .before .before .before .before .args .r) _ _ (c .before .before .before .sort .ensures) (c .before .before .if1 .left)), field-step (c .before .before .before .before .before .loop .inv .1) (c .before .before .before .sort .ensures) (c .before .before .if1 .left) (c .before .field .ensures) (c .joined .ensures))
+
+-- src/lib.rt:429:1
+row-returns-2 : (t : ℕ) → row-lts.Need-returns-2 (
+  no-use-reads.Asked,
+  no-use-reads.Learnt,
+  sort-reads.Asked,
+  sort-reads.Learnt,
+  field-below t,
+  field.Post,
+  joined-reads.Asked,
+  joined-reads.Learnt,
+) (row-at t) row.Post row-Inv-loop row-μ-loop
+row-returns-2 t c = row-full (c .before .loop .inv .1) (c .loop-test .left)
+
+-- src/lib.rt:398:13
+stmt-mul-k : (t : ℕ) → stmt-lts.Need-mul-k (
+  targeted-reads.Asked,
+  targeted-reads.Learnt,
+  by-hand-reads.Asked,
+  by-hand-reads.Learnt,
+  row-below t,
+  row.Post,
+  or-else-reads.Asked,
+  or-else-reads.Learnt,
+) (stmt-at t) stmt.Post
+stmt-mul-k t c = omega (arith, head-range (c .before .pre .1 .stands))
+
+-- src/lib.rt:398:13
+stmt-shared-slice-read-k : (t : ℕ) → stmt-lts.Need-shared-slice-read-k (
+  targeted-reads.Asked,
+  targeted-reads.Learnt,
+  by-hand-reads.Asked,
+  by-hand-reads.Learnt,
+  row-below t,
+  row.Post,
+  or-else-reads.Asked,
+  or-else-reads.Learnt,
+) (stmt-at t) stmt.Post
+stmt-shared-slice-read-k t c = omega (arith, head-range (c .before .before .pre .1 .stands))
+
+-- src/lib.rt:399:8
+stmt-targeted-requires : (t : ℕ) → stmt-lts.Need-targeted-requires (
+  targeted-reads.Asked,
+  targeted-reads.Learnt,
+  by-hand-reads.Asked,
+  by-hand-reads.Learnt,
+  row-below t,
+  row.Post,
+  or-else-reads.Asked,
+  or-else-reads.Learnt,
+) (stmt-at t) stmt.Post
+stmt-targeted-requires t c κs = search needs
+
+-- src/lib.rt:400:9
+stmt-by-hand-requires : (t : ℕ) → stmt-lts.Need-by-hand-requires (
+  targeted-reads.Asked,
+  targeted-reads.Learnt,
+  by-hand-reads.Asked,
+  by-hand-reads.Learnt,
+  row-below t,
+  row.Post,
+  or-else-reads.Asked,
+  or-else-reads.Learnt,
+) (stmt-at t) stmt.Post
+stmt-by-hand-requires t c κs = (c .before .before .before .before .pre .1, sym (c .before .targeted .ensures) ∙ c .if1 .taken)
+
+-- src/lib.rt:400:9
+stmt-returns : (t : ℕ) → stmt-lts.Need-returns (
+  targeted-reads.Asked,
+  targeted-reads.Learnt,
+  by-hand-reads.Asked,
+  by-hand-reads.Learnt,
+  row-below t,
+  row.Post,
+  or-else-reads.Asked,
+  or-else-reads.Learnt,
+) (stmt-at t) stmt.Post
+stmt-returns t c = c .by-hand .ensures
+
+-- src/lib.rt:402:24
+stmt-add-row : (t : ℕ) → stmt-lts.Need-add-row (
+  targeted-reads.Asked,
+  targeted-reads.Learnt,
+  by-hand-reads.Asked,
+  by-hand-reads.Learnt,
+  row-below t,
+  row.Post,
+  or-else-reads.Asked,
+  or-else-reads.Learnt,
+) (stmt-at t) stmt.Post
+stmt-add-row t c = omega (arith, head-range (c .before .before .before .before .pre .1 .stands))
+
+-- src/lib.rt:402:39
+stmt-sub-row : (t : ℕ) → stmt-lts.Need-sub-row (
+  targeted-reads.Asked,
+  targeted-reads.Learnt,
+  by-hand-reads.Asked,
+  by-hand-reads.Learnt,
+  row-below t,
+  row.Post,
+  or-else-reads.Asked,
+  or-else-reads.Learnt,
+) (stmt-at t) stmt.Post
+stmt-sub-row t c = head-range (c .before .before .before .before .pre .1 .stands) .0
+
+-- src/lib.rt:402:38
+stmt-cast-row : (t : ℕ) → stmt-lts.Need-cast-row (
+  targeted-reads.Asked,
+  targeted-reads.Learnt,
+  by-hand-reads.Asked,
+  by-hand-reads.Learnt,
+  row-below t,
+  row.Post,
+  or-else-reads.Asked,
+  or-else-reads.Learnt,
+) (stmt-at t) stmt.Post
+stmt-cast-row t c = omega (arith, head-range (c .before .before .before .before .pre .1 .stands))
+
+-- src/lib.rt:402:38
+stmt-add-row-2 : (t : ℕ) → stmt-lts.Need-add-row-2 (
+  targeted-reads.Asked,
+  targeted-reads.Learnt,
+  by-hand-reads.Asked,
+  by-hand-reads.Learnt,
+  row-below t,
+  row.Post,
+  or-else-reads.Asked,
+  or-else-reads.Learnt,
+) (stmt-at t) stmt.Post
+stmt-add-row-2 t c = omega (arith, head-range (c .before .before .before .before .pre .1 .stands))
+
+-- src/lib.rt:402:9
+stmt-row-requires : (t : ℕ) → stmt-lts.Need-row-requires (
+  targeted-reads.Asked,
+  targeted-reads.Learnt,
+  by-hand-reads.Asked,
+  by-hand-reads.Learnt,
+  row-below t,
+  row.Post,
+  or-else-reads.Asked,
+  or-else-reads.Learnt,
+) (stmt-at t) stmt.Post
+stmt-row-requires t c κs = (omega (arith, c .before .before .before .before .pre .0, head-range (c .before .before .before .before .pre .1 .stands), small-row (kindOf (getD (c .before .before .before .before .args .words .now) (c .before .before .before .before .args .at) 0) - 64 + 39)), to-some (fields-there (of-some (c .before .before .before .before .pre .1))))
+
+-- src/lib.rt:404:16
+stmt-or-else-requires : (t : ℕ) → stmt-lts.Need-or-else-requires (
+  targeted-reads.Asked,
+  targeted-reads.Learnt,
+  by-hand-reads.Asked,
+  by-hand-reads.Learnt,
+  row-below t,
+  row.Post,
+  or-else-reads.Asked,
+  or-else-reads.Learnt,
+) (stmt-at t) stmt.Post
+stmt-or-else-requires t c κs = search needs
+
+-- src/lib.rt:394:1
+stmt-returns-2 : (t : ℕ) → stmt-lts.Need-returns-2 (
+  targeted-reads.Asked,
+  targeted-reads.Learnt,
+  by-hand-reads.Asked,
+  by-hand-reads.Learnt,
+  row-below t,
+  row.Post,
+  or-else-reads.Asked,
+  or-else-reads.Learnt,
+) (stmt-at t) stmt.Post
+stmt-returns-2 t c = stmt-done (sym (c .before .before .before .targeted .ensures) ∙ c .before .before .if1 .left) (c .before .row .ensures) (c .or-else .ensures)
+
+pub +each+field+row+stmt-spec : {M : Type 1} → statement M
++each+field+row+stmt-spec = close μ-each μ-field μ-row μ-stmt (λ t. each-lts.spec (
+  no-use-reads.Asked,
+  no-use-reads.Learnt,
+  row-below t,
+  row.Post,
+  joined-reads.Asked,
+  joined-reads.Learnt,
+)
+    (each-at t)
+    each.Post
+    each-Inv-loop
+    each-μ-loop
+    (each-no-use-requires t)
+    (each-no-use-requires-2 t)
+    (each-loop-holds t)
+    (each-row-requires t)
+    (each-joined-requires t)
+    (each-add-i t)
+    (each-loop-less t)
+    (each-loop-again t)
+    (each-returns t))
+    (λ t. field-lts.spec (
+      expr-reads.Asked,
+      expr-reads.Learnt,
+      no-use-reads.Asked,
+      no-use-reads.Learnt,
+      stmt-below t,
+      stmt.Post,
+      plan-for-reads.Asked,
+      plan-for-reads.Learnt,
+      each-below t,
+      each.Post,
+    )
+    (field-at t)
+    field.Post
+    (field-expr-requires t)
+    (field-no-use-requires t)
+    (field-returns t)
+    (field-stmt-requires t)
+    (field-no-use-requires-2 t)
+    (field-returns-2 t)
+    (field-plan-for-requires t)
+    (field-add-each t)
+    (field-each-requires t)
+    (field-returns-3 t))
+    (λ t. row-lts.spec (
+      no-use-reads.Asked,
+      no-use-reads.Learnt,
+      sort-reads.Asked,
+      sort-reads.Learnt,
+      field-below t,
+      field.Post,
+      joined-reads.Asked,
+      joined-reads.Learnt,
+    )
+    (row-at t)
+    row.Post
+    row-Inv-loop
+    row-μ-loop
+    (row-no-use-requires t)
+    (row-no-use-requires-2 t)
+    (row-loop-holds t)
+    (row-sort-requires t)
+    (row-returns t)
+    (row-field-requires t)
+    (row-joined-requires t)
+    (row-add-i t)
+    (row-loop-less t)
+    (row-loop-again t)
+    (row-returns-2 t))
+    λ t. stmt-lts.spec (
+      targeted-reads.Asked,
+      targeted-reads.Learnt,
+      by-hand-reads.Asked,
+      by-hand-reads.Learnt,
+      row-below t,
+      row.Post,
+      or-else-reads.Asked,
+      or-else-reads.Learnt,
+    )
+    (stmt-at t)
+    stmt.Post
+    (stmt-mul-k t)
+    (stmt-shared-slice-read-k t)
+    (stmt-targeted-requires t)
+    (stmt-by-hand-requires t)
+    (stmt-returns t)
+    (stmt-add-row t)
+    (stmt-sub-row t)
+    (stmt-cast-row t)
+    (stmt-add-row-2 t)
+    (stmt-row-requires t)
+    (stmt-or-else-requires t)
+    (stmt-returns-2 t)

@@ -1,0 +1,5 @@
+pub mod Expressions
+pub mod Lists
+pub mod Targets
+pub mod Statements
+pub mod Walk

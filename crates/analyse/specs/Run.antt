@@ -10,15 +10,12 @@ use Rattle.words.specs.Told.{gives}
 use Rattle.words.specs.Refusals.{numberOf, placeOf}
 use Rattle.words.specs.declared.Refusal.{Refusal}
 use Rattle.strings.specs.Table.{namesOf}
-use Rattle.tree.specs.Tree.{over}
-use Rattle.tree.specs.Stands.{Stands}
 use Rattle.reader.specs.Program.{Program, acceptedOf}
 use Rattle.table.specs.Rows.{width, noteWidth, Wide, Table}
 use Rattle.steps.specs.State.{State, running, stopped}
 use Rattle.steps.specs.declared.Counts.{Counts}
-use Rattle.steps.specs.Held.{Does, Left}
-use Rattle.collect.specs.Seen.{see}
-use Rattle.collect.specs.Collect.{given, collect, checkNameCollisions, analysed}
+use Rattle.steps.specs.Held.{Left}
+use Rattle.collect.specs.Collect.{given, analysed}
 use Rattle.collect.specs.Code.{Named}
 use Rattle.analyse.specs.Analyse.{zeroing}
 
@@ -28,14 +25,6 @@ pub record Passed (bytes ends erased ws marks : List ℕ) : Type 0 where
   pub few : length marks ≤ maxStrings
   pub program : Program
   pub accepted : acceptedOf (namesOf bytes ends) ws erased ≡ gives program
-
--- collecting, whatever program the words are
-pub record Collected (bytes ends erased ws marks : List ℕ) (s r : Counts) (b d b′ d′ : List ℕ) : Type 0 where
-  pub does : (p : Program) (end : ℕ) → Stands ws marks (length marks) 0 p end → Does (λ N D. collect (given (some N) (some D) bytes ends erased) 0 (over see p)) s r b d b′ d′
-
--- the collision check
-pub record Compared (bytes ends : List ℕ) (s r : Counts) (b d b′ d′ : List ℕ) : Type 0 where
-  pub does : (erased : List ℕ) → Does (λ N D. checkNameCollisions (given (some N) (some D) bytes ends erased)) s r b d b′ d′
 
 -- what collecting and the collision check end in, in buffers of N and D words: a table with its diagnostics, or 7, 8 or 9
 unfoldable pub Ends : (N D : ℕ) → State → Type 0

@@ -9,10 +9,9 @@ ghost use mathlib.Core.Bool.{true};
 ghost use Prim.Native.Nat.{_≤_};
 ghost use lib.ListN.{length};
 ghost use Rattle.words.specs.Sizes.{maxStrings};
-ghost use Rattle.steps.specs.Held.{Fit};
 ghost use Rattle.collect.specs.Code.{Named};
 ghost use Rattle.analyse.specs.Analyse.{Tells, Analyses, work, zeroing};
-ghost use Rattle.analyse.specs.Run.{Passed, Collected, Compared, Tabled, Numbered};
+ghost use Rattle.analyse.specs.Run.{Passed, Tabled, Numbered};
 
 // How many diagnostics, rows and resolved words stand in their buffers.
 pub struct Given {
@@ -24,37 +23,6 @@ pub struct Given {
 pub enum Answer {
     Refused(Refusal),
     Done(Given),
-}
-
-// STAND-IN for the walk of collecting.
-fn collect(
-    words: &[u32],
-    names: &[u8],
-    bytes: &[u8],
-    ends: &[u32],
-    erased: &[u32],
-    rows: &mut [u32],
-    notes: &mut [u32],
-    s: Counts,
-) -> Counts
-    requires { ⌜ Passed (now bytes) (now ends) (now erased) (now words) (now names) × Fit s (length (now rows)) (length (now notes)) ⌝ }
-    ensures { λ r. ⌜ Collected (now (bytes .entry)) (now (ends .entry)) (now (erased .entry)) (now (words .entry)) (now (names .entry)) s r (now (rows .entry)) (now (notes .entry)) (now (rows .exit)) (now (notes .exit)) ⌝ }
-{
-    s
-}
-
-// STAND-IN for the collision check.
-fn check_name_collisions(
-    bytes: &[u8],
-    ends: &[u32],
-    rows: &mut [u32],
-    notes: &mut [u32],
-    s: Counts,
-) -> Counts
-    requires { ⌜ Fit s (length (now rows)) (length (now notes)) ⌝ }
-    ensures { λ r. ⌜ Compared (now (bytes .entry)) (now (ends .entry)) s r (now (rows .entry)) (now (notes .entry)) (now (rows .exit)) (now (notes .exit)) ⌝ }
-{
-    s
 }
 
 // Rows and diagnostics of a program that passed the checks; a run that stops leaves zeros.
@@ -71,8 +39,9 @@ fn tables(
     ensures { λ r. ⌜ Tabled (now (bytes .entry)) (now (ends .entry)) (now (erased .entry)) (now (words .entry)) r (now (rows .entry)) (now (notes .entry)) (now (rows .exit)) (now (notes .exit)) ⌝ }
 {
     let s = steps::begin(rows, notes);
-    let c = collect(words, names, bytes, ends, erased, rows, notes, s);
-    let d = check_name_collisions(bytes, ends, rows, notes, c);
+    let m = collecting::statements(words, names, bytes, ends, erased, rows, notes, s, 0, 0);
+    let c = m.counts;
+    let d = collisions::collisions(bytes, ends, rows, notes, c);
     steps::finish(rows, notes, d)
 }
 

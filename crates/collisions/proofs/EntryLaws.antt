@@ -1,24 +1,23 @@
 -- What the entry's answers tell, by the way that they took. No line here knows the code. Assumes nothing.
-use Prim.Native.Nat.{ℕ, _<_}
-use mathlib.Core.Path.{_≡_, refl, sym, ap, _∙_, subst}
+use Prim.Native.Nat.{ℕ}
+use mathlib.Core.Path.{_≡_, refl, sym, ap, _∙_}
 use mathlib.Core.Bool.{Bool, true, false}
 use mathlib.Core.List.{List, [], _∷_, _++_}
 use mathlib.Core.Option.{Option, none, some}
 use native.Mathlib.Omega.{arith}
 use lib.Dec.{eqb}
 use lib.ListN.{length, getD}
-use borrow.Author.Tests.{ne-eqb}
 use Rattle.words.specs.Word.{kindOf, payOf, pick}
-use Rattle.words.specs.Told.{Told, stops, gives, after, unless}
+use Rattle.words.specs.Told.{gives, after, unless}
 use Rattle.words.specs.Refusals.{refused}
 use Rattle.words.specs.declared.Refusal.{Refusal}
 use Rattle.words.specs.declared.Refusal.the-variants.{Rows as RowsRefused, DiagnosticsFull}
 use Rattle.strings.specs.Open.{entryOf, Answers}
 use Rattle.strings.specs.Table.{sound, namesOf}
-use Rattle.table.specs.Rows.{Row, noteWidth, zeros, image, rowsOf, find, Filled, Holds}
+use Rattle.table.specs.Rows.{Row, noteWidth, zeros, image, rowsOf, find, Filled}
 use Rattle.entries.specs.Entries.{entryKey}
 use Rattle.lookup.specs.Builtins.{isBuiltin}
-use Rattle.lent.specs.Lent.{checked, told as toldRows, lentRows, Lent}
+use Rattle.lent.specs.Lent.{checked, lentRows}
 use Rattle.lent.specs.LentLaws.{checked-sound}
 use Rattle.lent.specs.declared.Checked.{Checked}
 use Rattle.lent.specs.declared.Checked.the-variants.{Bad, Rows}

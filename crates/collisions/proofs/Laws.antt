@@ -1,5 +1,5 @@
 -- From what the calls did, what is done for one array, and for all of them. No line here knows the code. Assumes nothing.
-use Prim.Native.Nat.{ℕ, suc, _+_, _*_, _<_, _≤_}
+use Prim.Native.Nat.{ℕ, _+_, _*_, _<_, _≤_}
 use mathlib.Core.Path.{_≡_, refl, sym, ap, _∙_, subst}
 use mathlib.Core.Bool.{Bool, true, false, _||_}
 use mathlib.Core.List.{List, [], _∷_, _++_}
@@ -10,13 +10,12 @@ use lib.Dec.{eqb}
 use lib.ListN.{length, take, drop, getD, take-append-drop}
 use lib.Seq.{take-suc}
 use borrow.Author.Tests.{eq-eqb}
-use Rattle.words.specs.Word.{kindOf, payOf, pick}
-use Rattle.strings.specs.Table.{sound, stringAt, namesOf}
+use Rattle.words.specs.Word.{kindOf, payOf}
+use Rattle.strings.specs.Table.{stringAt, namesOf}
 use Rattle.lent.specs.Rules.{isName}
 use Rattle.table.specs.Rows.{Row, width, noteWidth, rank, find, Holds}
 use Rattle.table.specs.Laws.{rank-mono, rank-le}
 use Rattle.table.specs.Images.{word-at}
-use Rattle.table.specs.Answers.{Within}
 use Rattle.table.specs.declared.Found.{Found}
 use Rattle.table.specs.declared.Found.the-variants.{At, Nothing}
 use Rattle.entries.specs.Entries.{entryKey}
@@ -25,15 +24,15 @@ use Rattle.lookup.specs.Builtins.{Builtin, builtin, isBuiltin, isSome}
 use Rattle.lookup.specs.declared.Arguments.{Arguments}
 use Rattle.lookup.specs.declared.Arguments.the-variants.{Unknown, Takes}
 use Rattle.consteval.specs.EvalLaws.{Words32}
-use Rattle.steps.specs.State.{State, running, stopped, Step, _⨾_, when, asking, each, push}
+use Rattle.steps.specs.State.{State, running, stopped, Step, when, asking, each}
 use Rattle.steps.specs.declared.Counts.{Counts}
 use Rattle.steps.specs.Held.{Fit, Held, Sized, Does, Notes, pushing, noting}
-use Rattle.steps.specs.Compose.{Stays, same, nothing-does, each-next, notes-does, when-yes, stays-asking}
+use Rattle.steps.specs.Compose.{same, nothing-does, each-next, notes-does, when-yes, stays-asking}
 use Rattle.collect.specs.Diagnostics.{arrayAndProc, arrayAndBuiltin}
 use Rattle.collect.specs.Collect.{Given, given, anyArray, collides, collision, checkNameCollisions}
 use Rattle.labels.specs.Laws.{stopped-does}
 use Rattle.labels.specs.Arrays.{holds-small, arraysFrom, arraysTo, take-quiet, drop-quiet, array-between}
-use Rattle.collisions.specs.Collisions.{ArraysNamed, NamesHeld, Ready, Checks, headAt, wordAt, NamedAt, Collides}
+use Rattle.collisions.specs.Collisions.{Ready, Checks, headAt, wordAt, NamedAt, Collides}
 
 -- ---- a builtin's name
 

@@ -1,5 +1,5 @@
 -- Rows of a lent table name their arrays; what a state gives to the check. Assumes nothing.
-use Prim.Native.Nat.{ℕ, zero, suc, _≤_, _<_}
+use Prim.Native.Nat.{ℕ, zero, suc, _<_}
 use mathlib.Core.Path.{_≡_, refl, sym, _∙_}
 use mathlib.Core.Bool.{Bool, true, false}
 use mathlib.Core.List.{List, [], _∷_}
@@ -7,7 +7,6 @@ use native.Mathlib.Omega.{arith}
 use native.Mathlib.Nat.{not-suc-le-zero, le-of-suc-le-suc}
 use lib.ListN.{length, getD}
 use Rattle.words.specs.Word.{kindOf, payOf, pick}
-use Rattle.strings.specs.Table.{namesOf}
 use Rattle.lent.specs.Rules.{isName, wordOk, wordsOk, kindOk, rowOk}
 use Rattle.lent.specs.Lent.{AllOk}
 use Rattle.table.specs.Rows.{Row}

@@ -1,3 +1,4 @@
 pub mod Collisions
 pub mod Laws
 pub mod Entry
+pub mod Examples

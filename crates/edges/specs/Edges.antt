@@ -1,15 +1,21 @@
 -- Document 01's starred edges, and those that a reader would ask for beside them, as rows of one table: tree words, and what they must give. The
--- checker reads the words and folds them by the definition of the entry `const_eval`.
+-- checker reads the words, and folds them by the definition of the entry `const_eval` or resolves them by that of `resolve_expr`.
 use mathlib.Core.Path.{_≡_, refl}
 use mathlib.Core.List.{List, [], _∷_, _++_}
 use Prim.Native.Nat.{ℕ}
 use lib.ListN.{length}
 use lib.Ieee.{ofBits, toBits, ofInt, add as addF, sub as subF, mul as mulF, div as divF, neg, eq, round}
-use Rattle.words.specs.Told.{Told, gives, after}
+use mathlib.Core.Bool.{true, false}
+use Rattle.words.specs.Told.{Told, gives, after, unless}
+use Rattle.expr.specs.Expr.{many, words as wordsE, wordsL, wordsAll}
 use Rattle.expr.specs.Got.{bind}
 use Rattle.expr.specs.Reader.{rawAt, testAt, leafAt, nameAt, headAt, floatAt, literalBody, literalAt, exprsAt, listAt, bodyAt, exprAt}
 use Rattle.table.specs.Rows.{key, find, rowsOf}
-use Rattle.entries.specs.Entries.{constRow}
+use Rattle.entries.specs.Entries.{constRow, arrayRow, procRow, paramRow}
+use Rattle.lookup.specs.Lookup.{visible, lookupArray}
+use Rattle.resolve.specs.Tables.{places, after as past, element as isElement}
+use Rattle.resolve.specs.FromRows.{tablesOf}
+use Rattle.resolve.specs.Resolve.{passed, called, resolveExpr, resolveArgs}
 use Rattle.numbers.specs.Numbers.{wholeOf, narrowed}
 use Rattle.fold.specs.Value.{valueOf, constRule}
 use Rattle.fold.specs.Fold.{negateOf, divOf, wholeDivOf, arithOf, opOf, binaryOf}
@@ -18,11 +24,13 @@ use Rattle.lent.specs.Lent.{allZero, endedAt, scan, checked, lentRows}
 use Rattle.consteval.specs.ConstEval.{literal, constEval}
 use Rattle.evaluate.specs.Outcome.{Outcome, constant, code, outcomeOf}
 use Rattle.evaluate.specs.Evaluate.{Past, underOf, readUnder, evalOf}
-use Rattle.edges.specs.Written.{integer, long, single, float, text, name, element, paren, minus, not, add, sub, mul, div, whole, modulo, power, equals}
+use Rattle.resolution.specs.Entries.{Written, takenOf, ruling, rewritten, resolveExprAt}
+use Rattle.edges.specs.Written.{integer, long, single, float, text, name, element, call, paren, minus, not, add, sub, mul, div, whole, modulo, power, equals}
 
--- two strings, both names: K is a CONST of the lent table, a Long that no fold gives; U is unknown
+-- six strings, all names: K is a CONST of the lent table, a Long that no fold gives; U is unknown; A and P are arrays; F and P are procedures, and F's one
+-- parameter is by reference, neither array nor record; X is its argument
 abbrev pub marks : List ℕ
-marks = 1 ∷ 1 ∷ []
+marks = 1 ∷ 1 ∷ 1 ∷ 1 ∷ 1 ∷ 1 ∷ []
 
 abbrev pub K : ℕ
 K = 0
@@ -30,20 +38,39 @@ K = 0
 abbrev pub U : ℕ
 U = 1
 
-abbrev pub lent : List ℕ
-lent = constRow K 25 0x80000000 0
+abbrev pub A : ℕ
+A = 2
 
--- a row: the words of an expression, and what they fold to
+abbrev pub F : ℕ
+F = 3
+
+abbrev pub P : ℕ
+P = 4
+
+abbrev pub X : ℕ
+X = 5
+
+abbrev pub lent : List ℕ
+lent = constRow K 25 0x80000000 0 ++ (arrayRow A 0 1 1 false ++ (arrayRow P 0 1 1 false ++ (procRow F true 1 0 0 ++ (procRow P true 2 0 0 ++ paramRow F 0 X false false 0 0))))
+
+-- a row: the words of an expression, and what they fold to, or what they resolve to in the module's scope
 pub data Edge : Type 0 where
   folds : (words : List ℕ) → Outcome → Edge
+  resolves : (words resolved : List ℕ) → Edge
+
+pub data Result : Type 0 where
+  folded : Past → Result
+  wrote : Written → Result
 
 -- what the definition gives
-abbrev pub computed : Edge → Told Past
-computed (folds words o) = evalOf marks words 0 lent
+abbrev pub computed : Edge → Told Result
+computed (folds words o) = after (evalOf marks words 0 lent) (λ p. gives (folded p))
+computed (resolves words w) = after (resolveExprAt marks words lent (length words) 0 0) (λ r. gives (wrote r))
 
--- what it must give: the outcome, and the place past all words
-abbrev pub wanted : Edge → Told Past
-wanted (folds words o) = gives (record { outcome = o; end = length words })
+-- what it must give: the outcome or the words, and the place past all words
+abbrev pub wanted : Edge → Told Result
+wanted (folds words o) = gives (folded (record { outcome = o; end = length words }))
+wanted (resolves words w) = gives (wrote (record { words′ = w; end = length words }))
 
 abbrev pub starred : List Edge
 starred =
@@ -64,7 +91,9 @@ starred =
     folds (modulo (long 0x80000000) (minus (integer 1))) (constant 25 0 0) ∷
     -- NOT (30000 + 30000); 1 = (30000 + 30000)
     folds (not (add (integer 30000) (integer 30000))) (code 12) ∷
-    folds (equals (integer 1) (add (integer 30000) (integer 30000))) (code 11) ∷ []
+    folds (equals (integer 1) (add (integer 30000) (integer 30000))) (code 11) ∷
+    -- by-reference F(((X)))
+    resolves (call F 1 (paren (paren (name X)))) (call F 1 (paren (name X))) ∷ []
 
 abbrev pub asked : List Edge
 asked =
@@ -109,19 +138,26 @@ asked =
     -- K, a lent Long of 2147483648: itself, negated, and less 1
     folds (name K) (constant 25 0x80000000 0) ∷
     folds (minus (name K)) (constant 25 0x80000000 0xffffffff) ∷
-    folds (sub (name K) (integer 1)) (constant 25 0x7fffffff 0) ∷ []
+    folds (sub (name K) (integer 1)) (constant 25 0x7fffffff 0) ∷
+    -- F((X), (X)): past its parameters F keeps no pair; (F(X)): nor does what is no argument
+    resolves (call F 2 (paren (name X) ++ paren (name X))) (call F 2 (paren (name X) ++ name X)) ∷
+    resolves (paren (call F 1 (name X))) (call F 1 (name X)) ∷
+    -- A((X)) is an element; P, an array and a procedure, stays a call; an element stays one
+    resolves (call A 1 (paren (name X))) (element A (name X)) ∷
+    resolves (call P 1 (paren (name X))) (call P 1 (name X)) ∷
+    resolves (element F (paren (name X))) (element F (name X)) ∷ []
 
 -- one table
 abbrev pub edges : List Edge
 edges = starred ++ asked
 
-abbrev pub each : (Edge → Told Past) → List Edge → List (Told Past)
+abbrev pub each : (Edge → Told Result) → List Edge → List (Told Result)
 each f [] = []
 each f (e ∷ es) = f e ∷ each f es
 
 -- THE TABLE HOLDS
 pub edges-hold : each computed edges ≡ each wanted edges
-unfolding evalOf readUnder underOf after exprAt bodyAt literalAt literalBody headAt leafAt nameAt rawAt testAt floatAt listAt exprsAt bind lentRows checked scan endedAt allZero key rowOk kindOk wordsOk wordOk constOk constRule typeOk scopeOk rowsOf find constEval literal outcomeOf valueOf negateOf binaryOf opOf arithOf divOf wholeDivOf wholeOf narrowed ofBits toBits ofInt addF subF mulF divF neg eq round
+unfolding evalOf readUnder underOf resolveExprAt takenOf ruling rewritten unless wordsE wordsL wordsAll many tablesOf places past isElement visible lookupArray passed called resolveExpr resolveArgs after exprAt bodyAt literalAt literalBody headAt leafAt nameAt rawAt testAt floatAt listAt exprsAt bind lentRows checked scan endedAt allZero key rowOk kindOk wordsOk wordOk constOk constRule typeOk scopeOk rowsOf find constEval literal outcomeOf valueOf negateOf binaryOf opOf arithOf divOf wholeDivOf wholeOf narrowed ofBits toBits ofInt addF subF mulF divF neg eq round
 edges-hold = refl
 
 -- the notation once, in document 01's words: 30000 + 2767

@@ -26,6 +26,10 @@ name s = wordOf 17 0 ∷ wordOf 2 s ∷ []
 abbrev pub element : ℕ → List ℕ → List ℕ
 element s e = wordOf 18 0 ∷ wordOf 2 s ∷ wordOf 1 1 ∷ e
 
+-- a call with so many arguments
+abbrev pub call : (f count : ℕ) → List ℕ → List ℕ
+call f count es = wordOf 21 0 ∷ wordOf 2 f ∷ wordOf 1 count ∷ es
+
 -- operators by their position in `UnaryOp` and `BinaryOp`
 abbrev pub unary : ℕ → List ℕ → List ℕ
 unary op e = wordOf 19 0 ∷ wordOf 9 op ∷ e

@@ -1,26 +1,26 @@
 -- From what the calls did, what is read of an item, what is done for it, for all items of a list, for a statement. No line here knows the code. Assumes nothing.
 use Prim.Native.Nat.{ℕ, _+_, _-_, _*_, _%_, _<_, _≤_}
 use mathlib.Core.Path.{_≡_, refl, sym, ap, _∙_, subst}
-use mathlib.Core.Bool.{Bool, true, false, not}
-use mathlib.Core.List.{List, [], _∷_, _++_, append-nil}
+use mathlib.Core.Bool.{true, false}
+use mathlib.Core.List.{List, [], _∷_, append-nil}
 use mathlib.Core.Option.{Option, none, some}
 use native.Mathlib.Omega.{arith}
-use lib.Dec.{eqb, leb}
+use lib.Dec.{eqb}
 use lib.ListN.{length, getD}
 use borrow.Author.Tests.{eq-eqb, ne-eqb, le-leb, lt-leb}
-use Rattle.words.specs.Word.{payOf, wordOf, pick}
+use Rattle.words.specs.Word.{payOf}
 use Rattle.expr.specs.Expr.{Expr}
 use Rattle.expr.proofs.Parts.{wrote-first, pay-is}
 use Rattle.tree.specs.Sorts.{sorts, numberOf, nil, _&_, opt, many, TypeRef as TypeSort, ScopeItem as ItemRow, shared as sharedKind, static as staticKind}
-use Rattle.tree.specs.Tree.{Tree, one, row as rowShape, Stmt, word, list, cons, done, wordsT, Right, over}
+use Rattle.tree.specs.Tree.{Tree, one, row as rowShape, Stmt, word, cons, done, wordsT, Right, over}
 use Rattle.tree.specs.Stands.{Stands, SomeTree}
 use Rattle.table.specs.Rows.{Row, width, noteWidth, find, Holds}
-use Rattle.entries.specs.Entries.{row, entryKey, rowWord, bit}
-use Rattle.views.specs.View.{TypeRef, Integer, Long, Single, Double, FixedString, Record, head, arg, headOf, argOf, ScopeItem, View, Shared, Static, optional, asType, isSet, scopeItem, items, view}
-use Rattle.steps.specs.State.{_⨾_, asking, each, enter, push}
+use Rattle.entries.specs.Entries.{row, entryKey, rowWord}
+use Rattle.views.specs.View.{TypeRef, Integer, Long, Single, Double, FixedString, Record, head, arg, headOf, argOf, ScopeItem, View, Shared, Static, isSet, scopeItem, items, view}
+use Rattle.steps.specs.State.{each, enter}
 use Rattle.steps.specs.declared.Counts.{Counts}
-use Rattle.steps.specs.Held.{Fit, Does, Notes, Rows, entering, pushing}
-use Rattle.steps.specs.Compose.{stays-enter, then, same, rows-does, notes-does, pick-yes, pick-no}
+use Rattle.steps.specs.Held.{Does, Notes, Rows, entering, pushing}
+use Rattle.steps.specs.Compose.{stays-enter, then, rows-does, notes-does, pick-yes, pick-no}
 use Rattle.collect.specs.Diagnostics.{itemsOutside}
 use Rattle.collect.specs.Seen.{Seen, see}
 use Rattle.collect.specs.Collect.{given, marked, typed, itemType, item, statement}
@@ -28,10 +28,10 @@ use Rattle.collect.specs.Collect as C
 use Rattle.parts.specs.declared.TypeAt.{TypeAt}
 use Rattle.parts.specs.Parts.{AsTypeIs}
 use Rattle.parts.specs.Over.{scope-items-over}
-use Rattle.parts.specs.Turns.{SomeRows, Turn, turn-start, turn-next, turn-some, turn-end, list-rows, list-all, list-inside}
+use Rattle.parts.specs.Turns.{Turn, turn-start, turn-next, turn-some, turn-end, list-rows, list-all}
 use Rattle.labels.specs.Labels.{SomeStmt, CollectsAny}
 use Rattle.items.specs.declared.ItemAt.{ItemAt}
-use Rattle.items.specs.Items.{Reads, ItemIs, itemAs, Enters, EntersAll}
+use Rattle.items.specs.Items.{ItemIs, itemAs, Enters, EntersAll}
 use Rattle.items.specs.RowSteps.{rows-nothing, rows-asked, rows-each-none, rows-each-next}
 
 -- ---- an item, read

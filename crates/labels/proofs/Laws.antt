@@ -2,17 +2,17 @@
 use Prim.Native.Nat.{ℕ, _+_, _*_, _<_, _≤_}
 use mathlib.Core.Path.{_≡_, refl, sym, ap, _∙_, subst}
 use mathlib.Core.Bool.{Bool, true, false}
-use mathlib.Core.List.{List, [], _∷_, append-nil}
+use mathlib.Core.List.{List, _∷_, append-nil}
 use mathlib.Core.Option.{some}
 use native.Mathlib.Omega.{arith}
 use lib.ListN.{length, getD}
-use Rattle.words.specs.Word.{kindOf, payOf, wordOf, pick}
+use Rattle.words.specs.Word.{payOf, wordOf}
 use Rattle.expr.specs.Expr.{Expr, words}
 use Rattle.expr.specs.Stands.{Wrote}
 use Rattle.expr.specs.Stands as W
 use Rattle.expr.proofs.Parts.{wrote-first, pay-is}
-use Rattle.tree.specs.Sorts.{Kind, sorts, numberOf, label as labelKind, labelName as labelNameKind, optionBase as optionBaseKind, const as constKind}
-use Rattle.tree.specs.Tree.{strings, one, row, Tree, Stmt, word, value, cons, done, wordsT, Right, over}
+use Rattle.tree.specs.Sorts.{sorts, numberOf, label as labelKind, labelName as labelNameKind, optionBase as optionBaseKind, const as constKind}
+use Rattle.tree.specs.Tree.{strings, row, Tree, Stmt, word, value, cons, done, wordsT, Right, over}
 use Rattle.tree.specs.Stands.{Stands}
 use Rattle.table.specs.Rows.{Row, width, noteWidth, Holds}
 use Rattle.entries.specs.Entries.{has, lineRow, labelRow, constRow, optionBaseRow}
@@ -31,7 +31,6 @@ use Rattle.consteval.specs.declared.Folded.{Folded}
 use Rattle.collect.specs.Diagnostics.{duplicateLine, duplicateLabel, optionBaseTwice, optionBaseLate, constDefined, constOverflow, notConstant}
 use Rattle.collect.specs.Seen.{Seen, see}
 use Rattle.collect.specs.Collect.{given, statement, anyArray, constOf, label, labelName, optionBase, folded, const}
-use Rattle.collect.specs.Code.{StmtAt, Collects}
 use Rattle.labels.specs.Labels.{SomeStmt, CollectsAny, ConstAt, sayBase}
 use Rattle.labels.specs.Laws.{stopped-does}
 

@@ -1,15 +1,15 @@
 -- Where the arrays stand among sorted rows of 32-bit words: between the places of the first keys of kinds 133 and 134. Assumes nothing.
-use Prim.Native.Nat.{ℕ, zero, suc, _+_, _*_, _/_, _≤_, _<_}
-use mathlib.Core.Path.{_≡_, refl, sym, ap, _∙_}
-use mathlib.Core.Bool.{Bool, true, false, _||_}
+use Prim.Native.Nat.{ℕ, suc, _+_, _*_, _≤_, _<_}
+use mathlib.Core.Path.{_≡_, refl, _∙_}
+use mathlib.Core.Bool.{false}
 use mathlib.Core.Logic.{_⊎_, inl, inr}
 use mathlib.Core.List.{List, [], _∷_}
 use native.Mathlib.Omega.{arith}
-use lib.Dec.{eqb, ltb, leb·suc-suc}
+use lib.Dec.{ltb, leb·suc-suc}
 use lib.ListN.{length, take, drop, getD}
 use borrow.Author.Tests.{eq-eqb, ne-eqb, lt-ltb}
 use Rattle.words.specs.Word.{kindOf}
-use Rattle.table.specs.Rows.{Row, width, key, keyOf, rank, Table, Holds}
+use Rattle.table.specs.Rows.{Row, width, key, rank, Table, Holds}
 use Rattle.table.specs.Laws.{zone, order, rank-lt, rank-ge, rank-le, rank-low, rank-high}
 use Rattle.table.specs.Images.{word-at}
 use Rattle.entries.specs.Entries.{entryKey}

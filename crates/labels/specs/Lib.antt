@@ -1,3 +1,4 @@
 pub mod Labels
 pub mod Laws
 pub mod Arrays
+pub mod Examples

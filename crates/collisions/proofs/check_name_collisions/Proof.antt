@@ -1,3 +1,4 @@
+-- The entry: numbers 5 and 1, or what comes behind them. Assumes nothing.
 use lib.Seq.{length-take-le}
 use lib.ListN.{length}
 use mathlib.Core.Path.{sym, subst}
@@ -7,54 +8,38 @@ use Rattle.strings.specs.Open.{Answers}
 use Rattle.leaves.specs.Leaves.{sized}
 use Rattle.leaves.specs.Entries.{tellGate, Passes}
 use Rattle.leaves.specs.declared.Gate.{Gate}
-use Rattle.leaves.specs.declared.Gate.the-variants.{Passed}
 use Rattle.collisions.proofs.EntryLaws.{entry-shut, entry-open}
 use borrow.Author.Needs.{needs}
 use Rattle.collisions.proofs.check_name_collisions.Statement.{statement}
 use Rattle.collisions.proofs.check_name_collisions.Tie as tie
-use Rattle.collisions.proofs.check_name_collisions.Reads as reads
-use Rattle.collisions.proofs.check_name_collisions.Lts as lts
-use Rattle.collisions.proofs.under.Reads as under-reads
-use Rattle.leaves.proofs.passes.Reads as passes-reads
-use Rattle.strings.proofs.names_of.Reads as names-of-reads
 
--- src/lib.rt:131:11
 passes-requires : tie.Need-passes-requires
 passes-requires c κs = search needs
 
--- src/lib.rt:132:22
 enum-known-f : tie.Need-enum-known-f
 enum-known-f c = search needs
 
--- src/lib.rt:134:25
 enum-told : tie.Need-enum-told
 enum-told c = search needs
 
--- src/lib.rt:134:25
 names-of-requires : tie.Need-names-of-requires
 names-of-requires c κs = subst (λ (g : Gate). Passes ((c .before .before .before .before .before .before .before .args .bytes .now)) ((c .before .before .before .before .before .before .before .args .ends .now)) g) (c .enum-told .given .1) (c .before .before .passes .ensures .1)
 
--- src/lib.rt:136:32
 array-share-prefix-names : tie.Need-array-share-prefix-names
 array-share-prefix-names c = omega (arith, subst (λ (g : Gate). Passes ((c .before .before .before .before .before .before .before .before .args .bytes .now)) ((c .before .before .before .before .before .before .before .before .args .ends .now)) g) (c .before .enum-told .given .1) (c .before .before .before .passes .ensures .1) .1, c .names-of .ensures .long)
 
--- src/lib.rt:136:32
 slice-aggregate-under : tie.Need-slice-aggregate-under
 slice-aggregate-under c = sym (length-take-le (length ((c .before .before .before .before .before .before .before .before .before .args .ends .now))) (c .before .names-of .result) (omega (arith, subst (λ (g : Gate). Passes ((c .before .before .before .before .before .before .before .before .before .args .bytes .now)) ((c .before .before .before .before .before .before .before .before .before .args .ends .now)) g) (c .before .before .enum-told .given .1) (c .before .before .before .before .passes .ensures .1) .1, c .before .names-of .ensures .long)))
 
--- src/lib.rt:136:13
 under-requires : tie.Need-under-requires
 under-requires c κs = record { strings = subst (λ (g : Gate). Passes ((c .before .before .before .before .before .before .before .before .before .before .args .bytes .now)) ((c .before .before .before .before .before .before .before .before .before .before .args .ends .now)) g) (c .before .before .before .enum-told .given .1) (c .before .before .before .before .before .passes .ensures .1) .0; names = c .before .before .names-of .ensures .first }
 
--- src/lib.rt:123:1
 returns : tie.Need-returns
 returns c = entry-shut (subst (λ (g : Gate). Answers (sized ((c .before .before .before .before .before .before .before .before .args .bytes .now)) ((c .before .before .before .before .before .before .before .before .args .ends .now))) ((c .before .before .before .before .before .before .before .before .args .bytes .now)) ((c .before .before .before .before .before .before .before .before .args .ends .now)) (tellGate g) (gives (tt {0}))) (c .before .f .given .1) (c .before .before .before .passes .ensures .0))
 
--- src/lib.rt:123:1
 same-length : tie.Need-same-length
 same-length c = search needs
 
--- src/lib.rt:123:1
 returns-2 : tie.Need-returns-2
 returns-2 c = entry-open (subst (λ (g : Gate). Answers (sized ((c .before .before .before .before .before .before .before .before .before .before .before .before .before .args .bytes .now)) ((c .before .before .before .before .before .before .before .before .before .before .before .before .before .args .ends .now))) ((c .before .before .before .before .before .before .before .before .before .before .before .before .before .args .bytes .now)) ((c .before .before .before .before .before .before .before .before .before .before .before .before .before .args .ends .now)) (tellGate g) (gives (tt {0}))) (c .before .before .before .before .before .before .enum-told .given .1) (c .before .before .before .before .before .before .before .before .passes .ensures .0)) (c .before .before .under .ensures)
 

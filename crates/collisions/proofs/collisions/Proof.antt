@@ -1,3 +1,4 @@
+-- All arrays: the loop's invariant is what is said of the rows before. Assumes nothing.
 use native.Mathlib.Omega.{arith}
 use borrow.Author.Needs.{needs}
 use Rattle.collisions.proofs.Laws.{between, upto-start, named-at, upto-next, upto-end, stopped-checks}
@@ -5,11 +6,6 @@ use Prim.Native.Nat.{_-_}
 use Rattle.collisions.proofs.Laws.{Upto}
 use Rattle.collisions.proofs.collisions.Statement.{statement}
 use Rattle.collisions.proofs.collisions.Tie as tie
-use Rattle.collisions.proofs.collisions.Reads as reads
-use Rattle.collisions.proofs.collisions.Lts as lts
-use Rattle.collisions.proofs.collision.Reads as collision-reads
-use Rattle.entries.proofs.entry_key.Reads as entry-key-reads
-use Rattle.table.proofs.lower_bound.Reads as lower-bound-reads
 
 abbrev Inv-loop : tie.InvT-loop
 Inv-loop bytes ends b d₀ count i₀ end t₀ d i t = Upto bytes ends b count i₀ end t₀ d₀ t d i
@@ -17,51 +13,39 @@ Inv-loop bytes ends b d₀ count i₀ end t₀ d i t = Upto bytes ends b count i
 abbrev μ-loop : tie.MeasureT-loop
 μ-loop bytes ends b d₀ count i₀ end t₀ d i t = end - i
 
--- src/lib.rt:68:9
 returns : tie.Need-returns Inv-loop μ-loop
 returns c = stopped-checks (c .if1 .taken) (c .before .before .before .before .before .before .pre .1)
 
--- src/lib.rt:71:46
 entry-key-requires : tie.Need-entry-key-requires Inv-loop μ-loop
 entry-key-requires c κs = search needs
 
--- src/lib.rt:71:9
 lower-bound-requires : tie.Need-lower-bound-requires Inv-loop μ-loop
 lower-bound-requires c κs = c .before .before .before .before .before .before .before .pre .1 .0
 
--- src/lib.rt:72:44
 entry-key-requires-2 : tie.Need-entry-key-requires-2 Inv-loop μ-loop
 entry-key-requires-2 c κs = search needs
 
--- src/lib.rt:72:9
 lower-bound-requires-2 : tie.Need-lower-bound-requires-2 Inv-loop μ-loop
 lower-bound-requires-2 c κs = c .before .before .before .before .before .before .before .before .before .pre .1 .0
 
--- src/lib.rt:74:5
 loop-holds : tie.Need-loop-holds Inv-loop μ-loop
 loop-holds c = upto-start (c .before .before .before .before .before .before .before .before .before .before .pre .0) (c .before .before .before .before .if1 .left) (c .before .before .before .before .before .before .before .before .before .before .pre .1) (between (c .before .before .before .entry-key .ensures) (c .before .entry-key2 .ensures) (c .before .before .lower-bound .ensures .1) (c .lower-bound2 .ensures .1))
 
--- src/lib.rt:75:9
 collision-requires : tie.Need-collision-requires Inv-loop μ-loop
 collision-requires c κs = (named-at (λ i. c .before .before .before .before .before .before .before .before .before .before .shared-slice-known3 .given i .fits) (c .before .before .loop .inv) (c .before .before .before .before .before .before .before .before .before .before .before .before .before .pre .0) (c .before .before .before .before .before .before .before .if1 .left) (c .before .before .before .before .before .before .before .before .before .before .before .before .before .pre .1 .0) (c .before .loop-test .taken), c .before .before .loop .inv .room)
 
--- src/lib.rt:76:9
 add-i : tie.Need-add-i Inv-loop μ-loop
 add-i c = omega (arith, c .before .before .before .before .loop-test .taken, c .before .before .before .before .before .before .lower-bound2 .ensures .0, c .before .before .before .before .before .before .before .before .before .before .before .before .before .before .before .before .pre .1 .0)
 
--- src/lib.rt:74:5
 loop-less : tie.Need-loop-less Inv-loop μ-loop
 loop-less c = omega (arith, c .before .before .before .before .loop-test .taken)
 
--- src/lib.rt:74:5
 loop-again : tie.Need-loop-again Inv-loop μ-loop
 loop-again c = upto-next (λ i. c .before .before .before .before .before .before .before .before .before .before .before .before .before .shared-slice-known3 .given i .fits) (c .before .before .before .before .before .loop .inv) (c .before .before .before .before .loop-test .taken) (c .before .before .before .before .before .before .before .before .before .before .before .before .before .before .before .before .pre .0) (c .before .before .before .before .before .before .before .before .before .before .if1 .left) (c .before .before .collision .kept .1 .1 .1 .1 .0) (c .before .before .collision .ensures)
 
--- src/lib.rt:57:1
 same-length : tie.Need-same-length Inv-loop μ-loop
 same-length c = c .before .loop .inv .long
 
--- src/lib.rt:57:1
 returns-2 : tie.Need-returns-2 Inv-loop μ-loop
 returns-2 c = upto-end (λ i. c .before .before .before .before .before .before .before .before .before .shared-slice-known3 .given i .fits) (c .before .loop .inv) (c .loop-test .left) (c .before .before .before .before .before .before .before .before .before .before .before .before .pre .0) (c .before .before .before .before .before .before .if1 .left)
 

@@ -1,29 +1,22 @@
+-- A name is a builtin's where the table answers its arguments. Assumes nothing.
 use Rattle.strings.specs.Table.{stringAt}
 use Rattle.collisions.proofs.Laws.{is-none, is-some}
 use borrow.Author.Needs.{needs}
 use Rattle.collisions.proofs.is_builtin.Statement.{statement}
 use Rattle.collisions.proofs.is_builtin.Tie as tie
-use Rattle.collisions.proofs.is_builtin.Reads as reads
-use Rattle.collisions.proofs.is_builtin.Lts as lts
-use Rattle.leaves.proofs.spelled.Reads as spelled-reads
 
--- src/lib.rt:22:11
 spelled-requires : tie.Need-spelled-requires
 spelled-requires c κs = c .before .before .pre
 
--- src/lib.rt:23:31
 enum-told : tie.Need-enum-told
 enum-told c = search needs
 
--- src/lib.rt:24:51
 enum-told-2 : tie.Need-enum-told-2
 enum-told-2 c = search needs
 
--- src/lib.rt:18:1
 returns : tie.Need-returns
 returns c = is-none (stringAt ((c .before .before .before .before .before .args .bytes .now)) ((c .before .before .before .before .before .args .ends .now)) ((c .before .before .before .before .before .args .name))) (c .before .before .spelled .ensures) (c .enum-told .given .1)
 
--- src/lib.rt:18:1
 returns-2 : tie.Need-returns-2
 returns-2 c = is-some (stringAt ((c .before .before .before .before .before .args .bytes .now)) ((c .before .before .before .before .before .args .ends .now)) ((c .before .before .before .before .before .args .name))) (c .before .before .spelled .ensures) (c .enum-told2 .given .1)
 

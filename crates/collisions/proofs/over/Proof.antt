@@ -1,39 +1,29 @@
+-- A fresh run over lent rows, which leaves zeros where it is stopped. Assumes nothing.
 use native.Mathlib.Omega.{arith}
 use Rattle.table.specs.Images.{holds-fits}
 use Rattle.collisions.proofs.EntryLaws.{ready, over-fine, over-full}
 use borrow.Author.Needs.{needs}
 use Rattle.collisions.proofs.over.Statement.{statement}
 use Rattle.collisions.proofs.over.Tie as tie
-use Rattle.collisions.proofs.over.Reads as reads
-use Rattle.collisions.proofs.over.Lts as lts
-use Rattle.collisions.proofs.collisions.Reads as collisions-reads
-use Rattle.table.proofs.empty.Reads as empty-reads
 
--- src/lib.rt:97:5
 empty-requires : tie.Need-empty-requires
 empty-requires c κs = search needs
 
--- src/lib.rt:103:9
 collisions-requires : tie.Need-collisions-requires
 collisions-requires c κs = (ready (c .before .before .before .before .before .before .before .before .before .pre), (holds-fits (c .before .before .before .before .before .before .before .before .before .pre .lent .holds .filled), omega arith))
 
--- src/lib.rt:105:9
 empty-requires-2 : tie.Need-empty-requires-2
 empty-requires-2 c κs = search needs
 
--- src/lib.rt:106:9
 same-length : tie.Need-same-length
 same-length c = search needs
 
--- src/lib.rt:106:9
 returns : tie.Need-returns
 returns c = over-full (c .before .before .before .before .before .before .before .before .before .before .before .before .before .before .before .before .before .before .pre) ((c .before .before .before .before .before .before .before .before .before .before .before .before .before .before .before .before .before .before .args .d .now)) (c .before .before .before .before .before .before .before .before .before .before .before .before .empty .kept .0) (c .before .before .before .before .before .before .before .before .before .before .before .before .empty .ensures .2) (c .before .before .before .before .before .before .before .before .collisions .ensures) (c .before .before .before .before .if1 .taken) (c .before .before .empty2 .ensures .0)
 
--- src/lib.rt:93:1
 same-length-2 : tie.Need-same-length-2
 same-length-2 c = search needs
 
--- src/lib.rt:93:1
 returns-2 : tie.Need-returns-2
 returns-2 c = over-fine (c .before .before .before .before .before .before .before .before .before .before .before .before .before .before .pre) ((c .before .before .before .before .before .before .before .before .before .before .before .before .before .before .args .d .now)) (c .before .before .before .before .before .before .before .before .empty .kept .0) (c .before .before .before .before .before .before .before .before .empty .ensures .2) (c .before .before .before .before .collisions .ensures) (c .if1 .left)
 

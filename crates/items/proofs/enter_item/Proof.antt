@@ -1,50 +1,36 @@
+-- An item's mark, its type, or nothing. Assumes nothing.
 use Rattle.items.proofs.Laws.{enters-mark, enters-array, enters-untyped, enters-typed}
 use borrow.Author.Needs.{needs}
 use Rattle.items.proofs.enter_item.Statement.{statement}
 use Rattle.items.proofs.enter_item.Tie as tie
-use Rattle.items.proofs.enter_item.Reads as reads
-use Rattle.items.proofs.enter_item.Lts as lts
-use Rattle.items.proofs.marked.Reads as marked-reads
-use Rattle.lookup.proofs.word.Reads as word-reads
-use Rattle.steps.proofs.enter.Reads as enter-reads
 
--- src/lib.rt:65:27
 word-requires : tie.Need-word-requires
 word-requires c κs = search needs
 
--- src/lib.rt:65:13
 marked-requires : tie.Need-marked-requires
 marked-requires c κs = search needs
 
--- src/lib.rt:66:9
 enter-requires : tie.Need-enter-requires
 enter-requires c κs = search needs
 
--- src/lib.rt:66:9
 same-length : tie.Need-same-length
 same-length c = search needs
 
--- src/lib.rt:66:9
 returns : tie.Need-returns
 returns c = enters-mark (c .before .before .before .before .before .before .before .if1 .taken) _ (c .before .before .before .before .before .word .ensures) (c .before .before .before .before .marked .ensures) (c .before .before .enter .ensures)
 
--- src/lib.rt:69:9
 returns-2 : tie.Need-returns-2
 returns-2 c = enters-array (c .before .if1 .left) (c .before .before .before .pre .0) (c .if2 .taken)
 
--- src/lib.rt:72:9
 returns-3 : tie.Need-returns-3
 returns-3 c = enters-untyped (c .before .before .before .if1 .left) (c .before .before .before .before .before .pre .0) (c .before .before .if2 .left) (c .if3 .taken)
 
--- src/lib.rt:74:5
 enter-requires-2 : tie.Need-enter-requires-2
 enter-requires-2 c κs = search needs
 
--- src/lib.rt:59:1
 same-length-2 : tie.Need-same-length-2
 same-length-2 c = search needs
 
--- src/lib.rt:59:1
 returns-4 : tie.Need-returns-4
 returns-4 c = enters-typed (c .before .before .before .before .before .before .before .if1 .left) (c .before .before .before .before .before .before .if2 .left) (c .before .before .before .before .if3 .left) (c .before .before .enter2 .ensures)
 

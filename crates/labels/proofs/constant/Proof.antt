@@ -1,73 +1,53 @@
+-- CONST: a stopped run passes by; else the diagnostic and the folded constant follow each other. Assumes nothing.
 use native.Mathlib.Omega.{arith}
 use Rattle.consteval.proofs.Laws.{good}
 use Rattle.labels.proofs.Laws.{const-inside, const-ready, const-stopped, const-collects}
 use borrow.Author.Needs.{needs}
 use Rattle.labels.proofs.constant.Statement.{statement}
 use Rattle.labels.proofs.constant.Tie as tie
-use Rattle.labels.proofs.constant.Reads as reads
-use Rattle.labels.proofs.constant.Lts as lts
-use Rattle.consteval.proofs.const_eval.Reads as const-eval-reads
-use Rattle.labels.proofs.folded.Reads as folded-reads
-use Rattle.lookup.proofs.has.Reads as has-reads
-use Rattle.steps.proofs.push_if.Reads as push-if-reads
 
--- src/lib.rt:129:9
 returns : tie.Need-returns
 returns c = const-stopped (c .before .before .before .before .before .pre .1) (c .if1 .taken)
 
--- src/lib.rt:131:16
 mul-line : tie.Need-mul-line
 mul-line c = search needs
 
--- src/lib.rt:131:16
 shared-slice-read-line : tie.Need-shared-slice-read-line
 shared-slice-read-line c = omega (arith, const-inside (c .before .before .before .before .before .before .pre .0))
 
--- src/lib.rt:132:22
 add-name : tie.Need-add-name
 add-name c = search needs
 
--- src/lib.rt:132:16
 mul-name : tie.Need-mul-name
 mul-name c = search needs
 
--- src/lib.rt:132:16
 shared-slice-read-name : tie.Need-shared-slice-read-name
 shared-slice-read-name c = const-inside (c .before .before .before .before .before .before .before .pre .0)
 
--- src/lib.rt:133:9
 has-requires : tie.Need-has-requires
 has-requires c κs = search needs
 
--- src/lib.rt:134:42
 add-const-eval : tie.Need-add-const-eval
 add-const-eval c = search needs
 
--- src/lib.rt:134:9
 const-eval-requires : tie.Need-const-eval-requires
 const-eval-requires c κs = const-ready (c .before .before .before .before .before .before .before .before .before .before .pre .0) (c .before .before .before .before .before .if1 .left)
 
--- src/lib.rt:135:51
 add-push-if : tie.Need-add-push-if
 add-push-if c = search needs
 
--- src/lib.rt:135:9
 push-if-requires : tie.Need-push-if-requires
 push-if-requires c κs = search needs
 
--- src/lib.rt:137:5
 folded-requires : tie.Need-folded-requires
 folded-requires c κs = ((omega (arith, c .before .before .before .before .push-if .ensures .kept, c .before .before .before .before .before .before .before .before .before .before .before .before .before .before .before .before .before .pre .1 .0), c .before .before .before .before .push-if .ensures .fit), omega arith, good (λ i. c .before .before .before .before .before .before .before .before .before .before .before .before .before .before .before .before .shared-slice-known .given i .fits) (const-ready (c .before .before .before .before .before .before .before .before .before .before .before .before .before .before .before .before .before .pre .0) (c .before .before .before .before .before .before .before .before .before .before .before .before .if1 .left)) (c .before .before .before .before .before .before .const-eval .ensures))
 
--- src/lib.rt:118:1
 same-length : tie.Need-same-length
 same-length c = search needs
 
--- src/lib.rt:118:1
 same-length-2 : tie.Need-same-length-2
 same-length-2 c = search needs
 
--- src/lib.rt:118:1
 returns-2 : tie.Need-returns-2
 returns-2 c = const-collects (c .before .before .before .before .before .before .before .before .before .before .before .before .before .before .before .before .before .before .before .before .before .before .pre .1) (c .before .before .before .before .before .before .before .before .before .before .before .before .before .has .ensures) (c .before .before .before .before .before .before .before .before .before .before .before .const-eval .ensures) (c .before .before .before .before .before .before .before .before .before .push-if .ensures) (c .before .before .before .before .folded .ensures)
 

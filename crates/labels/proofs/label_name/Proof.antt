@@ -1,59 +1,43 @@
+-- A label is entered, and said to be double where one was there. Assumes nothing.
 use Rattle.labels.proofs.Laws.{name-inside, name-collects}
 use native.Mathlib.Omega.{arith}
 use borrow.Author.Needs.{needs}
 use Rattle.labels.proofs.label_name.Statement.{statement}
 use Rattle.labels.proofs.label_name.Tie as tie
-use Rattle.labels.proofs.label_name.Reads as reads
-use Rattle.labels.proofs.label_name.Lts as lts
-use Rattle.lookup.proofs.has.Reads as has-reads
-use Rattle.steps.proofs.enter.Reads as enter-reads
-use Rattle.steps.proofs.push_if.Reads as push-if-reads
 
--- src/lib.rt:49:16
 mul-line : tie.Need-mul-line
 mul-line c = search needs
 
--- src/lib.rt:49:16
 shared-slice-read-line : tie.Need-shared-slice-read-line
 shared-slice-read-line c = omega (arith, name-inside (c .before .before .before .before .pre .0))
 
--- src/lib.rt:50:22
 add-name : tie.Need-add-name
 add-name c = search needs
 
--- src/lib.rt:50:16
 mul-name : tie.Need-mul-name
 mul-name c = search needs
 
--- src/lib.rt:50:16
 shared-slice-read-name : tie.Need-shared-slice-read-name
 shared-slice-read-name c = name-inside (c .before .before .before .before .before .pre .0)
 
--- src/lib.rt:51:9
 has-requires : tie.Need-has-requires
 has-requires c κs = search needs
 
--- src/lib.rt:52:9
 enter-requires : tie.Need-enter-requires
 enter-requires c κs = search needs
 
--- src/lib.rt:53:42
 add-push-if : tie.Need-add-push-if
 add-push-if c = search needs
 
--- src/lib.rt:53:5
 push-if-requires : tie.Need-push-if-requires
 push-if-requires c κs = search needs
 
--- src/lib.rt:38:1
 same-length : tie.Need-same-length
 same-length c = search needs
 
--- src/lib.rt:38:1
 same-length-2 : tie.Need-same-length-2
 same-length-2 c = search needs
 
--- src/lib.rt:38:1
 returns : tie.Need-returns
 returns c = name-collects (c .before .before .before .before .before .before .before .before .before .before .before .before .before .before .before .pre .1) (c .before .before .before .before .before .before .before .before .has .ensures) (c .before .before .before .before .before .before .enter .ensures) (c .before .before .push-if .ensures)
 

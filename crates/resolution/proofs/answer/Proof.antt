@@ -1,60 +1,44 @@
+-- What is asked, case by case. Assumes nothing.
 use Rattle.resolution.specs.Inner.{asked}
 use borrow.Author.Needs.{needs}
 use Rattle.resolution.proofs.answer.Statement.{statement}
 use Rattle.resolution.proofs.answer.Tie as tie
-use Rattle.resolution.proofs.answer.Reads as reads
-use Rattle.resolution.proofs.answer.Lts as lts
-use Rattle.resolution.proofs.arguments_at.Reads as arguments-at-reads
-use Rattle.resolution.proofs.expression_at.Reads as expression-at-reads
-use Rattle.resolution.proofs.program_at.Reads as program-at-reads
 
--- src/lib.rt:234:27
 enum-known-ask : tie.Need-enum-known-ask
 enum-known-ask c = search needs
 
--- src/lib.rt:234:42
 expression-at-requires : tie.Need-expression-at-requires
 expression-at-requires c κs = search needs
 
--- src/lib.rt:235:26
 enum-known-ask-2 : tie.Need-enum-known-ask-2
 enum-known-ask-2 c = search needs
 
--- src/lib.rt:236:13
 arguments-at-requires : tie.Need-arguments-at-requires
 arguments-at-requires c κs = search needs
 
--- src/lib.rt:238:56
 enum-told : tie.Need-enum-told
 enum-told c = search needs
 
--- src/lib.rt:238:25
 program-at-requires : tie.Need-program-at-requires
 program-at-requires c κs = search needs
 
--- src/lib.rt:229:1
 same-length : tie.Need-same-length
 same-length c = search needs
 
--- src/lib.rt:229:1
 returns : tie.Need-returns
 unfolding asked
 returns c = rw (c .before .before .before .before .before .ask .given .1) (c .before .before .expression-at .ensures)
 
--- src/lib.rt:229:1
 same-length-2 : tie.Need-same-length-2
 same-length-2 c = search needs
 
--- src/lib.rt:229:1
 returns-2 : tie.Need-returns-2
 unfolding asked
 returns-2 c = rw (c .before .before .before .before .before .ask2 .given .1) (c .before .before .arguments-at .ensures)
 
--- src/lib.rt:229:1
 same-length-3 : tie.Need-same-length-3
 same-length-3 c = search needs
 
--- src/lib.rt:229:1
 returns-3 : tie.Need-returns-3
 unfolding asked
 returns-3 c = rw (c .before .before .before .before .enum-told .given .1) (c .before .before .program-at .ensures)

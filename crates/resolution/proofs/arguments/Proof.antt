@@ -1,80 +1,59 @@
-use lib.ListN.{length-set}
-use native.Mathlib.Omega.{arith}
+-- A list that was read: the refusals of `ruled`, or its head and what `resolver` writes behind it. Assumes nothing.
 use Prim.Native.Nat.{_-_}
-use lib.ListN.{length}
-use lib.Seq.{length-sets}
 use mathlib.Core.Path.{_∙_}
+use native.Mathlib.Omega.{arith}
+use lib.ListN.{length-set}
+use lib.ListN.{length}
 use Rattle.resolution.proofs.Laws.{stopped, ruled-as, passed-as, list-span, room-first, ready-args, name-fits, args-shut, args-told}
 use borrow.Author.Needs.{needs}
 use Rattle.resolution.proofs.arguments.Statement.{statement}
 use Rattle.resolution.proofs.arguments.Tie as tie
-use Rattle.resolution.proofs.arguments.Reads as reads
-use Rattle.resolution.proofs.arguments.Lts as lts
-use Rattle.resolution.proofs.admits.Reads as admits-reads
-use Rattle.resolution.proofs.ruled.Reads as ruled-reads
-use Rattle.resolver.proofs.resolve_args.Reads as resolve-args-reads
 
--- src/lib.rt:110:30
 admits-requires : tie.Need-admits-requires
 admits-requires c κs = search needs
 
--- src/lib.rt:110:58
 sub-ruled : tie.Need-sub-ruled
 sub-ruled c = omega (arith, list-span (c .before .before .before .before .before .args .names .now) (c .before .before .before .before .before .args .words .now) (c .before .before .before .before .before .args .rows .now) (length (c .before .before .before .before .before .args .out .now)) (c .before .before .before .before .before .args .scope) (c .before .before .before .before .before .args .name) (c .before .before .before .before .before .args .at) (c .before .before .before .before .before .args .end) (c .before .before .before .before .before .pre .1) (c .before .before .before .before .before .pre .0) .0)
 
--- src/lib.rt:110:11
 ruled-requires : tie.Need-ruled-requires
 ruled-requires c κs = search needs
 
--- src/lib.rt:111:22
 enum-known-f : tie.Need-enum-known-f
 enum-known-f c = search needs
 
--- src/lib.rt:112:23
 enum-known-n : tie.Need-enum-known-n
 enum-known-n c = search needs
 
--- src/lib.rt:113:21
 mul-w : tie.Need-mul-w
 mul-w c = omega (arith, list-span (c .before .before .before .before .before .before .before .before .before .args .names .now) (c .before .before .before .before .before .before .before .before .before .args .words .now) (c .before .before .before .before .before .before .before .before .before .args .rows .now) (length (c .before .before .before .before .before .before .before .before .before .args .out .now)) (c .before .before .before .before .before .before .before .before .before .args .scope) (c .before .before .before .before .before .before .before .before .before .args .name) (c .before .before .before .before .before .before .before .before .before .args .at) (c .before .before .before .before .before .before .before .before .before .args .end) (c .before .before .before .before .before .before .before .before .before .pre .1) (c .before .before .before .before .before .before .before .before .before .pre .0))
 
--- src/lib.rt:113:21
 shared-slice-read-w : tie.Need-shared-slice-read-w
 shared-slice-read-w c = omega (arith, list-span (c .before .before .before .before .before .before .before .before .before .before .args .names .now) (c .before .before .before .before .before .before .before .before .before .before .args .words .now) (c .before .before .before .before .before .before .before .before .before .before .args .rows .now) (length (c .before .before .before .before .before .before .before .before .before .before .args .out .now)) (c .before .before .before .before .before .before .before .before .before .before .args .scope) (c .before .before .before .before .before .before .before .before .before .before .args .name) (c .before .before .before .before .before .before .before .before .before .before .args .at) (c .before .before .before .before .before .before .before .before .before .before .args .end) (c .before .before .before .before .before .before .before .before .before .before .pre .1) (c .before .before .before .before .before .before .before .before .before .before .pre .0))
 
--- src/lib.rt:114:13
 slice-write-out : tie.Need-slice-write-out
 slice-write-out c = omega (arith, room-first (c .before .before .before .before .before .before .before .before .before .before .args .names .now) (c .before .before .before .before .before .before .before .before .before .before .args .words .now) (c .before .before .before .before .before .before .before .before .before .before .args .rows .now) (length (c .before .before .before .before .before .before .before .before .before .before .args .out .now)) (c .before .before .before .before .before .before .before .before .before .before .args .scope) (c .before .before .before .before .before .before .before .before .before .before .args .name) (c .before .before .before .before .before .before .before .before .before .before .args .at) (c .before .before .before .before .before .before .before .before .before .before .args .end) (c .before .before .before .before .before .before .before .before .before .before .pre .1) (c .before .before .before .before .before .before .before .before .before .before .pre .0) (passed-as (c .before .before .before .before .before .admits .ensures) (rw (c .before .before .n .given .1) at (c .before .before .before .before .ruled .ensures))))
 
--- src/lib.rt:116:17
 mul-resolve-args : tie.Need-mul-resolve-args
 mul-resolve-args c = omega (arith, list-span (c .before .before .before .before .before .before .before .before .before .before .args .names .now) (c .before .before .before .before .before .before .before .before .before .before .args .words .now) (c .before .before .before .before .before .before .before .before .before .before .args .rows .now) (length (c .before .before .before .before .before .before .before .before .before .before .args .out .now)) (c .before .before .before .before .before .before .before .before .before .before .args .scope) (c .before .before .before .before .before .before .before .before .before .before .args .name) (c .before .before .before .before .before .before .before .before .before .before .args .at) (c .before .before .before .before .before .before .before .before .before .before .args .end) (c .before .before .before .before .before .before .before .before .before .before .pre .1) (c .before .before .before .before .before .before .before .before .before .before .pre .0))
 
--- src/lib.rt:116:17
 sub-resolve-args : tie.Need-sub-resolve-args
 sub-resolve-args c = omega (arith, list-span (c .before .before .before .before .before .before .before .before .before .before .args .names .now) (c .before .before .before .before .before .before .before .before .before .before .args .words .now) (c .before .before .before .before .before .before .before .before .before .before .args .rows .now) (length (c .before .before .before .before .before .before .before .before .before .before .args .out .now)) (c .before .before .before .before .before .before .before .before .before .before .args .scope) (c .before .before .before .before .before .before .before .before .before .before .args .name) (c .before .before .before .before .before .before .before .before .before .before .args .at) (c .before .before .before .before .before .before .before .before .before .before .args .end) (c .before .before .before .before .before .before .before .before .before .before .pre .1) (c .before .before .before .before .before .before .before .before .before .before .pre .0) .0)
 
--- src/lib.rt:116:17
 part-resolve-args-start : tie.Need-part-resolve-args-start
 part-resolve-args-start c = omega (arith, list-span (c .before .before .before .before .before .before .before .before .before .before .args .names .now) (c .before .before .before .before .before .before .before .before .before .before .args .words .now) (c .before .before .before .before .before .before .before .before .before .before .args .rows .now) (length (c .before .before .before .before .before .before .before .before .before .before .args .out .now)) (c .before .before .before .before .before .before .before .before .before .before .args .scope) (c .before .before .before .before .before .before .before .before .before .before .args .name) (c .before .before .before .before .before .before .before .before .before .before .args .at) (c .before .before .before .before .before .before .before .before .before .before .args .end) (c .before .before .before .before .before .before .before .before .before .before .pre .1) (c .before .before .before .before .before .before .before .before .before .before .pre .0) .0)
 
--- src/lib.rt:116:17
 part-resolve-args-end : tie.Need-part-resolve-args-end
 part-resolve-args-end c = omega (arith, list-span (c .before .before .before .before .before .before .before .before .before .before .args .names .now) (c .before .before .before .before .before .before .before .before .before .before .args .words .now) (c .before .before .before .before .before .before .before .before .before .before .args .rows .now) (length (c .before .before .before .before .before .before .before .before .before .before .args .out .now)) (c .before .before .before .before .before .before .before .before .before .before .args .scope) (c .before .before .before .before .before .before .before .before .before .before .args .name) (c .before .before .before .before .before .before .before .before .before .before .args .at) (c .before .before .before .before .before .before .before .before .before .before .args .end) (c .before .before .before .before .before .before .before .before .before .before .pre .1) (c .before .before .before .before .before .before .before .before .before .before .pre .0) .1)
 
--- src/lib.rt:115:17
 resolve-args-requires : tie.Need-resolve-args-requires
 resolve-args-requires c κs = (ready-args (c .before .before .before .before .before .before .before .before .before .before .before .before .args .names .now) (c .before .before .before .before .before .before .before .before .before .before .before .before .args .words .now) (c .before .before .before .before .before .before .before .before .before .before .before .before .args .rows .now) (length (c .before .before .before .before .before .before .before .before .before .before .before .before .args .out .now)) (c .before .before .before .before .before .before .before .before .before .before .before .before .args .scope) (c .before .before .before .before .before .before .before .before .before .before .before .before .args .name) (c .before .before .before .before .before .before .before .before .before .before .before .before .args .at) (c .before .before .before .before .before .before .before .before .before .before .before .before .args .end) (c .before .before .before .before .before .before .before .before .before .before .before .before .pre .1) (c .before .before .before .before .before .before .before .before .before .before .before .before .pre .0) (length-set (c .before .before .before .before .before .before .before .before .before .before .before .before .args .out .now) 0 _) (passed-as (c .before .before .before .before .before .before .before .admits .ensures) (rw (c .before .before .before .before .n .given .1) at (c .before .before .before .before .before .before .ruled .ensures))), name-fits (c .before .before .before .before .before .before .before .before .before .before .before .before .args .names .now) (c .before .before .before .before .before .before .before .before .before .before .before .before .args .words .now) (c .before .before .before .before .before .before .before .before .before .before .before .before .args .rows .now) (length (c .before .before .before .before .before .before .before .before .before .before .before .before .args .out .now)) (c .before .before .before .before .before .before .before .before .before .before .before .before .args .scope) (c .before .before .before .before .before .before .before .before .before .before .before .before .args .name) (c .before .before .before .before .before .before .before .before .before .before .before .before .args .at) (c .before .before .before .before .before .before .before .before .before .before .before .before .args .end) (c .before .before .before .before .before .before .before .before .before .before .before .before .pre .1) (c .before .before .before .before .before .before .before .before .before .before .before .before .pre .0) (passed-as (c .before .before .before .before .before .before .before .admits .ensures) (rw (c .before .before .before .before .n .given .1) at (c .before .before .before .before .before .before .ruled .ensures))))
 
--- src/lib.rt:97:1
 returns : tie.Need-returns
 returns c = stopped _ _ (args-shut (c .before .before .before .before .before .before .before .before .before .args .names .now) (c .before .before .before .before .before .before .before .before .before .args .words .now) (c .before .before .before .before .before .before .before .before .before .args .rows .now) (length (c .before .before .before .before .before .before .before .before .before .args .out .now)) (c .before .before .before .before .before .before .before .before .before .args .scope) (c .before .before .before .before .before .before .before .before .before .args .name) (c .before .before .before .before .before .before .before .before .before .args .at) (c .before .before .before .before .before .before .before .before .before .args .end) (c .before .before .before .before .before .before .before .before .before .pre .1) (c .before .before .before .before .before .before .before .before .before .pre .0) _ (ruled-as (c .before .before .before .before .before .before .before .before .before .args .names .now) (c .before .before .before .before .before .before .before .before .before .args .rows .now) ((c .before .before .before .before .before .before .before .before .before .args .end) - (c .before .before .before .before .before .before .before .before .before .args .at)) (length (c .before .before .before .before .before .before .before .before .before .args .out .now)) _ (c .before .before .before .before .admits .ensures) (rw (c .before .f .given .1) at (c .before .before .before .ruled .ensures))))
 
--- src/lib.rt:97:1
 same-length : tie.Need-same-length
 same-length c = c .before .before .resolve-args .kept .1 .1 .1 .1 .0 ∙ length-set (c .before .before .before .before .before .before .before .before .before .before .before .before .before .before .before .args .out .now) 0 _
 
--- src/lib.rt:97:1
 returns-2 : tie.Need-returns-2
 returns-2 c = args-told (c .before .before .before .before .before .before .before .before .before .before .before .before .before .before .before .args .names .now) (c .before .before .before .before .before .before .before .before .before .before .before .before .before .before .before .args .words .now) (c .before .before .before .before .before .before .before .before .before .before .before .before .before .before .before .args .rows .now) (length (c .before .before .before .before .before .before .before .before .before .before .before .before .before .before .before .args .out .now)) (c .before .before .before .before .before .before .before .before .before .before .before .before .before .before .before .args .scope) (c .before .before .before .before .before .before .before .before .before .before .before .before .before .before .before .args .name) (c .before .before .before .before .before .before .before .before .before .before .before .before .before .before .before .args .at) (c .before .before .before .before .before .before .before .before .before .before .before .before .before .before .before .args .end) (c .before .before .before .before .before .before .before .before .before .before .before .before .before .before .before .pre .1) (c .before .before .before .before .before .before .before .before .before .before .before .before .before .before .before .pre .0) (passed-as (c .before .before .before .before .before .before .before .before .before .before .admits .ensures) (rw (c .before .before .before .before .before .before .before .n .given .1) at (c .before .before .before .before .before .before .before .before .before .ruled .ensures))) (c .before .before .resolve-args .ensures)
 

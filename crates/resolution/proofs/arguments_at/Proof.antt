@@ -1,50 +1,37 @@
+-- Numbers 2 and 3, or a list that was read. Assumes nothing.
 use lib.ListN.{length}
 use Rattle.resolution.proofs.Laws.{stopped, read-is, args-wrong, args-deep}
 use borrow.Author.Needs.{needs}
 use Rattle.resolution.proofs.arguments_at.Statement.{statement}
 use Rattle.resolution.proofs.arguments_at.Tie as tie
-use Rattle.resolution.proofs.arguments_at.Reads as reads
-use Rattle.resolution.proofs.arguments_at.Lts as lts
-use Rattle.expr.proofs.Cursor.list.Reads as list-reads
-use Rattle.resolution.proofs.arguments.Reads as arguments-reads
 
--- src/lib.rt:188:13
 cast-n : tie.Need-cast-n
 cast-n c = search needs
 
--- src/lib.rt:190:9
 list-requires : tie.Need-list-requires
 list-requires c κs = search needs
 
--- src/lib.rt:192:20
 enum-known-s : tie.Need-enum-known-s
 enum-known-s c = search needs
 
--- src/lib.rt:194:13
 arguments-requires : tie.Need-arguments-requires
 arguments-requires c κs = (read-is _ (c .before .before .before .before .list .ensures) (c .before .before .s .given .1), c .before .before .before .before .before .before .before .before .before .pre)
 
--- src/lib.rt:196:21
 enum-known-s-2 : tie.Need-enum-known-s-2
 enum-known-s-2 c = search needs
 
--- src/lib.rt:197:20
 enum-known-s-3 : tie.Need-enum-known-s-3
 enum-known-s-3 c = search needs
 
--- src/lib.rt:176:1
 same-length : tie.Need-same-length
 same-length c = search needs
 
--- src/lib.rt:176:1
 returns : tie.Need-returns
 returns c = search needs
 
--- src/lib.rt:176:1
 returns-2 : tie.Need-returns-2
 returns-2 c = stopped _ _ (args-wrong (c .before .before .before .before .before .before .before .before .args .names .now) (c .before .before .before .before .before .before .before .before .args .words .now) (c .before .before .before .before .before .before .before .before .args .rows .now) (length (c .before .before .before .before .before .before .before .before .args .out .now)) (c .before .before .before .before .before .before .before .before .args .scope) (c .before .before .before .before .before .before .before .before .args .name) (c .before .before .before .before .before .before .before .before .args .at) (c .before .before .before .list .ensures) (c .before .s2 .given .1))
 
--- src/lib.rt:176:1
 returns-3 : tie.Need-returns-3
 returns-3 c = stopped _ _ (args-deep (c .before .before .before .before .before .before .before .before .args .names .now) (c .before .before .before .before .before .before .before .before .args .words .now) (c .before .before .before .before .before .before .before .before .args .rows .now) (length (c .before .before .before .before .before .before .before .before .args .out .now)) (c .before .before .before .before .before .before .before .before .args .scope) (c .before .before .before .before .before .before .before .before .args .name) (c .before .before .before .before .before .before .before .before .args .at) (c .before .before .before .list .ensures) (c .before .s3 .given .1))
 

@@ -1,41 +1,30 @@
-use mathlib.Core.Path.{refl, sym, ap, subst, _∙_}
+-- 5 and 1, and then what is asked. Assumes nothing.
+use mathlib.Core.Path.{refl, sym, ap, _∙_}
 use native.Mathlib.Omega.{arith}
 use lib.ListN.{length}
 use borrow.Author.Tests.{not-true, not-false}
 use Rattle.words.specs.Refusals.{refused}
 use Rattle.strings.specs.OpenLaws.{said-sound, answers-size, answers-breaks, answers-inner}
 use Rattle.reader.proofs.Laws.{few-strings, as-many, few-marks}
-use Rattle.resolution.specs.Entries.{Tells}
 use Rattle.resolution.specs.Inner.{asked}
 use Rattle.resolution.proofs.Laws.{stopped, rewrites}
 use borrow.Author.Needs.{needs}
 use Rattle.resolution.proofs.entry.Statement.{statement}
 use Rattle.resolution.proofs.entry.Tie as tie
-use Rattle.resolution.proofs.entry.Reads as reads
-use Rattle.resolution.proofs.entry.Lts as lts
-use Rattle.reader.proofs.sized_tree.Reads as sized-tree-reads
-use Rattle.resolution.proofs.answer.Reads as answer-reads
-use Rattle.strings.proofs.check.Reads as check-reads
-use Rattle.strings.proofs.names_of.Reads as names-of-reads
 
--- src/lib.rt:253:9
 sized-tree-requires : tie.Need-sized-tree-requires
 sized-tree-requires c κs = search needs
 
--- src/lib.rt:254:9
 returns : tie.Need-returns
 unfolding refused
 returns c = rewrites (answers-size (sym (c .before .sized-tree .ensures) ∙ not-true _ (c .if1 .taken)) refl) (stopped _ _ refl)
 
--- src/lib.rt:256:9
 check-requires : tie.Need-check-requires
 check-requires c κs = search needs
 
--- src/lib.rt:257:28
 enum-known-v : tie.Need-enum-known-v
 enum-known-v c = search needs
 
--- src/lib.rt:258:9
 returns-2 : tie.Need-returns-2
 unfolding refused
 returns-2 c = rewrites (answers-breaks (sym (c .before .before .before .before .before .sized-tree .ensures) ∙ not-false _ (c .before .before .before .before .if1 .left)) (c .before .before .before .check .ensures) (c .before .v .given .1) refl) (stopped _ _ refl)
@@ -43,27 +32,21 @@ returns-2 c = rewrites (answers-breaks (sym (c .before .before .before .before .
 enum-told : tie.Need-enum-told
 enum-told c = search needs
 
--- src/lib.rt:260:17
 names-of-requires : tie.Need-names-of-requires
 names-of-requires c κs = (said-sound (c .before .before .check .ensures) (c .enum-told .given .1), few-strings (c .before .before .before .before .before .before .before .before .before .before .args .bytes .now) (c .before .before .before .before .before .before .before .before .before .before .args .ends .now) (c .before .before .before .before .before .before .before .before .before .before .args .words .now) (sym (c .before .before .before .before .sized-tree .ensures) ∙ not-false _ (c .before .before .before .if1 .left)))
 
--- src/lib.rt:262:19
 array-share-prefix-names : tie.Need-array-share-prefix-names
 array-share-prefix-names c = omega (arith, c .names-of .ensures .long, few-strings (c .before .before .before .before .before .before .before .before .before .before .before .args .bytes .now) (c .before .before .before .before .before .before .before .before .before .before .before .args .ends .now) (c .before .before .before .before .before .before .before .before .before .before .before .args .words .now) (sym (c .before .before .before .before .before .sized-tree .ensures) ∙ not-false _ (c .before .before .before .before .if1 .left)))
 
--- src/lib.rt:262:19
 slice-aggregate-answer : tie.Need-slice-aggregate-answer
 slice-aggregate-answer c = as-many (c .before .names-of .ensures) (few-strings (c .before .before .before .before .before .before .before .before .before .before .before .before .args .bytes .now) (c .before .before .before .before .before .before .before .before .before .before .before .before .args .ends .now) (c .before .before .before .before .before .before .before .before .before .before .before .before .args .words .now) (sym (c .before .before .before .before .before .before .sized-tree .ensures) ∙ not-false _ (c .before .before .before .before .before .if1 .left)))
 
--- src/lib.rt:262:5
 answer-requires : tie.Need-answer-requires
 answer-requires c κs = few-marks (c .before .before .names-of .ensures) (few-strings (c .before .before .before .before .before .before .before .before .before .before .before .before .before .args .bytes .now) (c .before .before .before .before .before .before .before .before .before .before .before .before .before .args .ends .now) (c .before .before .before .before .before .before .before .before .before .before .before .before .before .args .words .now) (sym (c .before .before .before .before .before .before .before .sized-tree .ensures) ∙ not-false _ (c .before .before .before .before .before .before .if1 .left)))
 
--- src/lib.rt:243:1
 same-length : tie.Need-same-length
 same-length c = search needs
 
--- src/lib.rt:243:1
 returns-3 : tie.Need-returns-3
 returns-3 c = rewrites (answers-inner (sym (c .before .before .before .before .before .before .before .before .before .before .sized-tree .ensures) ∙ not-false _ (c .before .before .before .before .before .before .before .before .before .if1 .left)) (said-sound (c .before .before .before .before .before .before .before .before .check .ensures) (c .before .before .before .before .before .before .enum-told .given .1)) (ap (λ ns. asked ns (c .before .before .before .before .before .before .before .before .before .before .before .before .before .before .before .before .args .words .now) (c .before .before .before .before .before .before .before .before .before .before .before .before .before .before .before .before .args .rows .now) (length (c .before .before .before .before .before .before .before .before .before .before .before .before .before .before .before .before .args .out .now)) (c .before .before .before .before .before .before .before .before .before .before .before .before .before .before .before .before .args .ask)) (c .before .before .before .before .before .names-of .ensures .first))) (c .before .before .answer .ensures)
 

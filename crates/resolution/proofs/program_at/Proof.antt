@@ -1,57 +1,43 @@
+-- Numbers 2 and 3, words over among them, or a whole tree. Assumes nothing.
+use mathlib.Core.Path.{subst}
 use lib.ListN.{length}
-use mathlib.Core.Path.{subst, sym}
 use Rattle.tree.specs.Reader.{programAt}
 use Rattle.resolution.specs.Inner.{Read}
 use Rattle.resolution.proofs.Laws.{stopped, read-is, all-over, all-wrong, all-deep}
 use borrow.Author.Needs.{needs}
 use Rattle.resolution.proofs.program_at.Statement.{statement}
 use Rattle.resolution.proofs.program_at.Tie as tie
-use Rattle.resolution.proofs.program_at.Reads as reads
-use Rattle.resolution.proofs.program_at.Lts as lts
-use Rattle.resolution.proofs.program.Reads as program-reads
-use Rattle.tree.proofs.program.Reads as program-reads′
 
--- src/lib.rt:206:13
 cast-n : tie.Need-cast-n
 cast-n c = search needs
 
--- src/lib.rt:207:9
 program-requires : tie.Need-program-requires
 program-requires c κs = search needs
 
--- src/lib.rt:209:20
 enum-known-s : tie.Need-enum-known-s
 enum-known-s c = search needs
 
--- src/lib.rt:212:17
 returns : tie.Need-returns
 returns c = stopped _ _ (all-over (c .before .before .before .before .before .before .before .before .before .args .names .now) (c .before .before .before .before .before .before .before .before .before .args .words .now) (c .before .before .before .before .before .before .before .before .before .args .rows .now) (length (c .before .before .before .before .before .before .before .before .before .args .out .now)) (c .before .before .before .before .program .ensures) (c .before .before .s .given .1) (c .if1 .taken))
 
--- src/lib.rt:214:13
 program-requires-2 : tie.Need-program-requires-2
 program-requires-2 c κs = (subst (λ k. Read (programAt (c .before .before .before .before .before .before .before .before .before .before .args .words .now) (c .before .before .before .before .before .before .before .before .before .before .args .names .now) (length (c .before .before .before .before .before .before .before .before .before .before .args .names .now))) k) (c .before .if1 .left) (read-is _ (c .before .before .before .before .before .program .ensures) (c .before .before .before .s .given .1)), c .before .before .before .before .before .before .before .before .before .before .pre)
 
--- src/lib.rt:216:21
 enum-known-s-2 : tie.Need-enum-known-s-2
 enum-known-s-2 c = search needs
 
--- src/lib.rt:217:20
 enum-known-s-3 : tie.Need-enum-known-s-3
 enum-known-s-3 c = search needs
 
--- src/lib.rt:202:1
 same-length : tie.Need-same-length
 same-length c = search needs
 
--- src/lib.rt:202:1
 returns-2 : tie.Need-returns-2
 returns-2 c = search needs
 
--- src/lib.rt:202:1
 returns-3 : tie.Need-returns-3
 returns-3 c = stopped _ _ (all-wrong (c .before .before .before .before .before .before .before .before .args .names .now) (c .before .before .before .before .before .before .before .before .args .words .now) (c .before .before .before .before .before .before .before .before .args .rows .now) (length (c .before .before .before .before .before .before .before .before .args .out .now)) (c .before .before .before .program .ensures) (c .before .s2 .given .1))
 
--- src/lib.rt:202:1
 returns-4 : tie.Need-returns-4
 returns-4 c = stopped _ _ (all-deep (c .before .before .before .before .before .before .before .before .args .names .now) (c .before .before .before .before .before .before .before .before .args .words .now) (c .before .before .before .before .before .before .before .before .args .rows .now) (length (c .before .before .before .before .before .before .before .before .args .out .now)) (c .before .before .before .program .ensures) (c .before .s3 .given .1))
 

@@ -1,0 +1,21 @@
+use Rattle.analyse.proofs.Laws.{last-number}
+use borrow.Author.Needs.{needs}
+use Rattle.analyse.proofs.refusal.Statement.{statement}
+use Rattle.analyse.proofs.refusal.Tie as tie
+use Rattle.analyse.proofs.refusal.Reads as reads
+use Rattle.analyse.proofs.refusal.Lts as lts
+
+-- src/lib.rt:79:1
+returns : tie.Need-returns
+returns c = search needs
+
+-- src/lib.rt:79:1
+returns-2 : tie.Need-returns-2
+returns-2 c = search needs
+
+-- src/lib.rt:79:1
+returns-3 : tie.Need-returns-3
+returns-3 c = last-number (c .before .args .stop) (c .before .pre) (c .match .rest .0 .1) (c .match .rest .1)
+
+pub refusal-spec : {M : Type 1} → statement M
+refusal-spec = tie.close (tie.spec returns returns-2 returns-3)

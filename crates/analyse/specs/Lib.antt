@@ -1,4 +1,3 @@
 pub mod Analyse
 pub mod ReadOff
 pub mod Run
-pub mod Written

@@ -73,10 +73,11 @@ module _ {notes rows out notes′ rows′ out′ : List ℕ} where
   unfolding rowsAfter notesAfter outAfter Formed
   lies n a t =
       let F = t .formed in
-      rw (done-counts n a (t .answer), t .rows-now, t .notes-now, t .out-now)
-      (omega (arith, F .notes-fit, length-image noteWidth (length notes) (a .diagnostics) (F .wide) (F .notes-fit)),
-       omega (arith, F .rows-fit, length-image width (length rows) (a .rows) (table-wide 0 (a .rows) (F .table)) (F .rows-fit)),
-       omega (arith, F .words-fit, length-sets out 0 (a .resolved)))
+      rw (done-counts n a (t .answer), t .rows-now, t .notes-now, t .out-now) (
+        omega (arith, F .notes-fit, length-image noteWidth (length notes) (a .diagnostics) (F .wide) (F .notes-fit)),
+        omega (arith, F .rows-fit, length-image width (length rows) (a .rows) (table-wide 0 (a .rows) (F .table)) (F .rows-fit)),
+        omega (arith, F .words-fit, length-sets out 0 (a .resolved)),
+      )
 
   -- what is read off is what the definition gives
   pub read-off : (r : Answer) (u : Told Analysis) → Tells r notes rows out notes′ rows′ out′ u → readOff r notes′ rows′ out′ ≡ shownOf u

@@ -161,14 +161,5 @@ pub fn analyse(
     }
     let names = strings::names_of(bytes, ends);
     let n = ends.len();
-    checked(
-        words,
-        &names[..n],
-        bytes,
-        ends,
-        erased,
-        notes,
-        rows,
-        out,
-    )
+    checked(words, &names[..n], bytes, ends, erased, notes, rows, out)
 }

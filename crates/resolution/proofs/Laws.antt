@@ -229,6 +229,7 @@ module _ (names ws rows : List ℕ) (room scope name at end : ℕ) (few : length
   ready-there p =
       let b = and-both (scopeOk names scope) (isName names name) (p .admitted) in
       record { strings = S; trees = es; end = end - at; stands = listed .there; counted = sym (ap payOf head-is ∙ pay-is 1 (many es) (listed .small)); room = room-for (take (end - at) (drop at ws)) p (take-short (end - at) (drop at ws)) (scope-fits names scope few (b .0)) 1 }
+
   -- one word is written already, and the output is as long as it was
   pub ready-args : {n size : ℕ} → size ≡ room → Passed names rows right (end - at) room n → ReadyAll (take (end - at) (drop at ws)) rows n scope 1 1 size (payOf (getD ws at 0))
   ready-args {n} {size} q p = rw q (ready-there p)

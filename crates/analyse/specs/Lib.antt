@@ -1,3 +1,4 @@
 pub mod Analyse
 pub mod ReadOff
 pub mod Run
+pub mod TwoRuns

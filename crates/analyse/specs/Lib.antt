@@ -1,4 +1,4 @@
 pub mod Analyse
 pub mod ReadOff
 pub mod Run
-pub mod Written
+pub mod TwoRuns

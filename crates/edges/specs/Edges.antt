@@ -13,7 +13,7 @@ use Rattle.expr.specs.Reader.{rawAt, testAt, leafAt, nameAt, headAt, floatAt, l
 use Rattle.table.specs.Rows.{key, find, rowsOf}
 use Rattle.entries.specs.Entries.{constRow, arrayRow, procRow, paramRow}
 use Rattle.lookup.specs.Lookup.{visible, lookupArray}
-use Rattle.resolve.specs.Tables.{places, after as past, element as isElement}
+use Rattle.resolve.specs.Tables.{nowhere, places, after as past, element as isElement}
 use Rattle.resolve.specs.FromRows.{tablesOf}
 use Rattle.resolve.specs.Resolve.{passed, called, resolveExpr, resolveArgs}
 use Rattle.numbers.specs.Numbers.{wholeOf, narrowed}
@@ -157,7 +157,7 @@ each f (e ∷ es) = f e ∷ each f es
 
 -- THE TABLE HOLDS
 pub edges-hold : each computed edges ≡ each wanted edges
-unfolding evalOf readUnder underOf resolveExprAt takenOf ruling rewritten unless wordsE wordsL wordsAll many tablesOf places past isElement visible lookupArray passed called resolveExpr resolveArgs after exprAt bodyAt literalAt literalBody headAt leafAt nameAt rawAt testAt floatAt listAt exprsAt bind lentRows checked scan endedAt allZero key rowOk kindOk wordsOk wordOk constOk constRule typeOk scopeOk rowsOf find constEval literal outcomeOf valueOf negateOf binaryOf opOf arithOf divOf wholeDivOf wholeOf narrowed ofBits toBits ofInt addF subF mulF divF neg eq round
+unfolding evalOf readUnder underOf resolveExprAt takenOf ruling rewritten unless wordsE wordsL wordsAll many tablesOf nowhere places past isElement visible lookupArray passed called resolveExpr resolveArgs after exprAt bodyAt literalAt literalBody headAt leafAt nameAt rawAt testAt floatAt listAt exprsAt bind lentRows checked scan endedAt allZero key rowOk kindOk wordsOk wordOk constOk constRule typeOk scopeOk rowsOf find constEval literal outcomeOf valueOf negateOf binaryOf opOf arithOf divOf wholeDivOf wholeOf narrowed ofBits toBits ofInt addF subF mulF divF neg eq round
 edges-hold = refl
 
 -- the notation once, in document 01's words: 30000 + 2767

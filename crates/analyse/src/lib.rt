@@ -1,4 +1,3 @@
-// NOTE: the code and the proofs of this crate are being made on branch `analyse`; leave it as it is here (only its specs are frozen), and finish `resolution` and the edge.
 // Collecting, the collision check and resolving in one call: rows, diagnostics and resolved words into three lent buffers.
 use reader::Accepted;
 use steps::Counts;

@@ -26,7 +26,8 @@ fn length_of(b: &[u8], most: usize) -> usize
     requires { ⌜ 4 ≤ length (now b) ⌝ }
     ensures { λ r. ⌜ r ≤ most ⌝ }
 {
-    let mut w = wide(b[2]);
+    let mut w = wide(b[3]);
+    w = std::num::wrapping_add_u32(w << 8, wide(b[2]));
     w = std::num::wrapping_add_u32(w << 8, wide(b[1]));
     w = std::num::wrapping_add_u32(w << 8, wide(b[0]));
     let n = w as usize;

@@ -1,4 +1,3 @@
 pub mod Heads
 pub mod Match
 pub mod Walk
-pub mod Entry

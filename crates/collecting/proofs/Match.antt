@@ -13,7 +13,7 @@ use Rattle.steps.specs.declared.Counts.{Counts}
 use Rattle.collect.specs.Code.{StmtAt, Collects, Named}
 use Rattle.labels.specs.Labels.{SomeStmt, ConstAt, CollectsAny, HeldConsts, ConstsHeld}
 use Rattle.types.specs.Types.{SomeType, CollectsType}
-use Rattle.collecting.specs.Stub.{ReadyStmt}
+use Rattle.dims.specs.Declarators.{ReadyStmt}
 use Rattle.lawful.specs.Good.{Good}
 use Rattle.collecting.specs.Walk.{Kept, Ready, Stated}
 use Rattle.collecting.proofs.Heads.{at-kind, of-kind}

@@ -1,3 +1,1 @@
 pub mod Walk
-pub mod Entry
-pub mod Stub

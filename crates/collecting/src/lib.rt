@@ -1,15 +1,6 @@
 // The walk of collecting: each statement, then its bodies, those of a procedure in its own scope. By the table of fields, in one pass over the words.
-use reader::Accepted;
 use steps::Counts;
-use strings::Verdict;
-use words::Refusal;
 ghost use mathlib.Core.Path.{_≡_};
-ghost use mathlib.Core.List.{List};
-ghost use Prim.Native.Nat.{ℕ};
-ghost use Rattle.steps.specs.Held.{Fit};
-ghost use Rattle.tree.specs.Sorts.{dim as dimKind, redim as redimKind, sub as subKind, function as functionKind};
-ghost use Rattle.collect.specs.Code.{StmtAt, Collects as CollectsOne, Named};
-ghost use Rattle.collecting.specs.Stub.{ReadyStmt};
 ghost use Prim.Native.Nat.{_≤_};
 ghost use lib.ListN.{length};
 ghost use Rattle.tree.specs.Sorts.{stmt as stmtSort, body};
@@ -17,86 +8,12 @@ ghost use Rattle.tree.specs.Tree.{one, row as rowShape};
 ghost use Rattle.tree.specs.Codes.{sortAt, rowOf};
 ghost use Rattle.tree.specs.Stands.{SomeTree};
 ghost use Rattle.plans.specs.Plans.{Listed};
-ghost use Rattle.lawful.specs.Good.{Stopping};
-ghost use Rattle.collecting.specs.Entry.{Passed, Tabled, Numbered, Tells, Entered, work};
 ghost use Rattle.collecting.specs.Walk.{Ready, ReadyRows, Walked, WalkedRows, Stated, InsideAt, Collects};
 
 // The counts, and the place past what was walked.
 pub struct Moved {
     pub counts: Counts,
     pub next: usize,
-}
-
-// STUB
-fn dim(
-    words: &[u32],
-    bytes: &[u8],
-    ends: &[u32],
-    erased: &[u32],
-    b: &mut [u32],
-    d: &mut [u32],
-    s: Counts,
-    scope: u32,
-    at: usize,
-) -> Counts
-    requires { ⌜ ReadyStmt dimKind (now bytes) (now ends) (now words) at × Fit s (length (now b)) (length (now d)) ⌝ }
-    ensures { λ r. ⌜ ((ns : List ℕ) (n : ℕ) → CollectsOne ns n dimKind (now (words .entry)) (now (bytes .entry)) (now (ends .entry)) (now (erased .entry)) scope at s r (now (b .entry)) (now (d .entry)) (now (b .exit)) (now (d .exit))) ⌝ }
-{
-    s
-}
-
-// STUB
-fn redim(
-    words: &[u32],
-    bytes: &[u8],
-    ends: &[u32],
-    erased: &[u32],
-    b: &mut [u32],
-    d: &mut [u32],
-    s: Counts,
-    scope: u32,
-    at: usize,
-) -> Counts
-    requires { ⌜ ReadyStmt redimKind (now bytes) (now ends) (now words) at × Fit s (length (now b)) (length (now d)) ⌝ }
-    ensures { λ r. ⌜ ((ns : List ℕ) (n : ℕ) → CollectsOne ns n redimKind (now (words .entry)) (now (bytes .entry)) (now (ends .entry)) (now (erased .entry)) scope at s r (now (b .entry)) (now (d .entry)) (now (b .exit)) (now (d .exit))) ⌝ }
-{
-    s
-}
-
-// STUB
-fn sub(
-    words: &[u32],
-    names: &[u8],
-    bytes: &[u8],
-    ends: &[u32],
-    b: &mut [u32],
-    d: &mut [u32],
-    s: Counts,
-    scope: u32,
-    at: usize,
-) -> Counts
-    requires { ⌜ StmtAt (now names) (length (now ends)) subKind (now words) at × Named (now bytes) (now ends) (now names) × (length (now ends) ≤ 1024) × Fit s (length (now b)) (length (now d)) ⌝ }
-    ensures { λ r. ⌜ ((erased : List ℕ) → CollectsOne (now (names .entry)) (length (now (ends .entry))) subKind (now (words .entry)) (now (bytes .entry)) (now (ends .entry)) erased scope at s r (now (b .entry)) (now (d .entry)) (now (b .exit)) (now (d .exit))) ⌝ }
-{
-    s
-}
-
-// STUB
-fn function(
-    words: &[u32],
-    names: &[u8],
-    bytes: &[u8],
-    ends: &[u32],
-    b: &mut [u32],
-    d: &mut [u32],
-    s: Counts,
-    scope: u32,
-    at: usize,
-) -> Counts
-    requires { ⌜ StmtAt (now names) (length (now ends)) functionKind (now words) at × Named (now bytes) (now ends) (now names) × (length (now ends) ≤ 1024) × Fit s (length (now b)) (length (now d)) ⌝ }
-    ensures { λ r. ⌜ ((erased : List ℕ) → CollectsOne (now (names .entry)) (length (now (ends .entry))) functionKind (now (words .entry)) (now (bytes .entry)) (now (ends .entry)) erased scope at s r (now (b .entry)) (now (d .entry)) (now (b .exit)) (now (d .exit))) ⌝ }
-{
-    s
 }
 
 // The scope of the bodies of the statement at `at`: SUB and FUNCTION have their own.
@@ -130,12 +47,12 @@ fn statement(
     match words[at] / 16777216 {
         64 => labels::label(words, b, d, s, scope, at),
         65 => labels::label_name(words, b, d, s, scope, at),
-        79 => dim(words, bytes, ends, erased, b, d, s, scope, at),
+        79 => dims::dim(words, bytes, ends, erased, b, d, s, scope, at),
         81 => items::shared(words, b, d, s, scope, at),
         82 => items::statics(words, b, d, s, scope, at),
-        83 => redim(words, bytes, ends, erased, b, d, s, scope, at),
-        84 => sub(words, names, bytes, ends, b, d, s, scope, at),
-        85 => function(words, names, bytes, ends, b, d, s, scope, at),
+        83 => dims::redim(words, bytes, ends, erased, b, d, s, scope, at),
+        84 => procedures::sub(words, names, bytes, ends, b, d, s, scope, at),
+        85 => procedures::function(words, names, bytes, ends, b, d, s, scope, at),
         89 => labels::constant(words, b, d, s, at),
         92 => labels::option_base(words, b, d, s, at),
         93 => types::type_def(words, b, d, s, scope, at),
@@ -171,7 +88,20 @@ fn field(
     let c = p.same;
     let r = p.row;
     let n = p.times;
-    each(words, names, bytes, ends, erased, b, d, s, scope, at + c, r, n)
+    each(
+        words,
+        names,
+        bytes,
+        ends,
+        erased,
+        b,
+        d,
+        s,
+        scope,
+        at + c,
+        r,
+        n,
+    )
 }
 
 // A statement, then its bodies.
@@ -288,104 +218,4 @@ pub fn statements(
     ensures { λ r. ⌜ Collects (now (words .entry)) (now (names .entry)) (now (bytes .entry)) (now (ends .entry)) (now (erased .entry)) scope at (r .next) s (r .counts) (now (b .entry)) (now (d .entry)) (now (b .exit)) (now (d .exit)) ⌝ }
 {
     field(words, names, bytes, ends, erased, b, d, s, scope, at, 68)
-}
-
-// How many rows and diagnostics stand in their buffers.
-pub struct Sizes {
-    pub rows: usize,
-    pub notes: usize,
-}
-
-pub enum Answer {
-    Refused(Refusal),
-    Done(Sizes),
-}
-
-// The rows and diagnostics of a program that passed the checks; a run that stops leaves zeros.
-fn tables(
-    words: &[u32],
-    names: &[u8],
-    bytes: &[u8],
-    ends: &[u32],
-    erased: &[u32],
-    b: &mut [u32],
-    d: &mut [u32],
-) -> Counts
-    requires { ⌜ Passed (now bytes) (now ends) (now erased) (now words) (now names) ⌝ }
-    ensures { λ r. ⌜ Tabled (now (bytes .entry)) (now (ends .entry)) (now (erased .entry)) (now (words .entry)) (now (names .entry)) r (now (b .entry)) (now (d .entry)) (now (b .exit)) (now (d .exit)) ⌝ }
-{
-    let s = steps::begin(b, d);
-    let m = statements(words, names, bytes, ends, erased, b, d, s, 0, 0);
-    let t = m.counts;
-    steps::finish(b, d, t)
-}
-
-// The refusal of a stopped run.
-fn refusal(stop: u32) -> Refusal
-    requires { ⌜ Stopping stop ⌝ }
-    ensures { λ r. ⌜ Numbered stop r ⌝ }
-{
-    match stop {
-        7 => Refusal::RowsFull,
-        8 => Refusal::DiagnosticsFull,
-        _ => Refusal::TypeWords,
-    }
-}
-
-// Where the names' marks are known: 2 or 3, 4, and then the run.
-fn checked(
-    words: &[u32],
-    names: &[u8],
-    bytes: &[u8],
-    ends: &[u32],
-    erased: &[u32],
-    b: &mut [u32],
-    d: &mut [u32],
-) -> Answer
-    requires { ⌜ Named (now bytes) (now ends) (now names) × (length (now names) ≡ length (now ends)) × (length (now ends) ≤ 1024) ⌝ }
-    ensures { λ r. ⌜ Tells r (now (b .entry)) (now (d .entry)) (now (b .exit)) (now (d .exit)) (work (length (now (b .entry))) (length (now (d .entry))) (now (bytes .entry)) (now (ends .entry)) (now (erased .entry)) (now (words .entry))) ⌝ }
-{
-    let a = reader::check_program(words, erased, names);
-    if let Accepted::Refused(f) = a {
-        return Answer::Refused(f);
-    }
-    let s = tables(words, names, bytes, ends, erased, b, d);
-    if s.stop != 0 {
-        return Answer::Refused(refusal(s.stop));
-    }
-    Answer::Done(Sizes {
-        rows: s.rows,
-        notes: s.notes,
-    })
-}
-
-// Collects a program's rows and diagnostics. 5, 1, 2, 3 and 4 leave the buffers as they came; 7, 8 and 9 leave them zero.
-pub fn collect(
-    bytes: &[u8],
-    ends: &[u32],
-    words: &[u32],
-    erased: &[u32],
-    rows: &mut [u32],
-    notes: &mut [u32],
-) -> Answer
-    ensures { λ r. ⌜ Entered (now (bytes .entry)) (now (ends .entry)) (now (erased .entry)) (now (words .entry)) r (now (rows .entry)) (now (notes .entry)) (now (rows .exit)) (now (notes .exit)) ⌝ }
-{
-    if !reader::sized_program(bytes, ends, words, erased) {
-        return Answer::Refused(Refusal::Size);
-    }
-    let v = strings::check(bytes, ends);
-    if let Verdict::Breaks(p) = v {
-        return Answer::Refused(Refusal::Strings(p));
-    }
-    let names = strings::names_of(bytes, ends);
-    let n = ends.len();
-    checked(
-        words,
-        &names[..n],
-        bytes,
-        ends,
-        erased,
-        rows,
-        notes,
-    )
 }

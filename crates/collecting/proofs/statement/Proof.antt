@@ -9,10 +9,10 @@ use Rattle.collecting.proofs.statement.Statement.{statement}
 use Rattle.collecting.proofs.statement.Tie as tie
 use Rattle.collecting.proofs.statement.Reads as reads
 use Rattle.collecting.proofs.statement.Lts as lts
-use Rattle.collecting.proofs.dim.Reads as dim-reads
-use Rattle.collecting.proofs.function.Reads as function-reads
-use Rattle.collecting.proofs.redim.Reads as redim-reads
-use Rattle.collecting.proofs.sub.Reads as sub-reads
+use Rattle.dims.proofs.dim.Reads as dim-reads
+use Rattle.procedures.proofs.function.Reads as function-reads
+use Rattle.dims.proofs.redim.Reads as redim-reads
+use Rattle.procedures.proofs.sub.Reads as sub-reads
 use Rattle.types.proofs.type_def.Reads as type-def-reads
 use Rattle.items.proofs.shared.Reads as shared-reads
 use Rattle.items.proofs.statics.Reads as statics-reads

@@ -1,10 +1,10 @@
-use Rattle.collecting.proofs.Entry.{only-nine}
+use Rattle.collection.proofs.Entry.{only-nine}
 use mathlib.Core.Path.{refl}
 use borrow.Author.Needs.{needs}
-use Rattle.collecting.proofs.refusal.Statement.{statement}
-use Rattle.collecting.proofs.refusal.Tie as tie
-use Rattle.collecting.proofs.refusal.Reads as reads
-use Rattle.collecting.proofs.refusal.Lts as lts
+use Rattle.collection.proofs.refusal.Statement.{statement}
+use Rattle.collection.proofs.refusal.Tie as tie
+use Rattle.collection.proofs.refusal.Reads as reads
+use Rattle.collection.proofs.refusal.Lts as lts
 
 -- src/lib.rt:324:1
 returns : tie.Need-returns

@@ -22,8 +22,8 @@ use Rattle.steps.specs.declared.Counts.{Counts}
 use Rattle.collect.specs.Collect.{given, collected}
 use Rattle.collect.specs.Code.{Named}
 use Rattle.lawful.specs.Good.{Good}
-use Rattle.collecting.specs.declared.Answer.{Answer}
-use Rattle.collecting.specs.declared.Answer.the-variants.{Refused, Done}
+use Rattle.collection.specs.declared.Answer.{Answer}
+use Rattle.collection.specs.declared.Answer.the-variants.{Refused, Done}
 
 -- how many rows and diagnostics there are, and the words of both buffers
 pub record Tables : Type 0 where

@@ -1,12 +1,12 @@
 use lib.ListN.{length}
-use Rattle.collecting.proofs.Entry.{passed, refused-tells, run-stops, run-refused, run-done}
+use Rattle.collection.proofs.Entry.{passed, refused-tells, run-stops, run-refused, run-done}
 use borrow.Author.Needs.{needs}
-use Rattle.collecting.proofs.checked.Statement.{statement}
-use Rattle.collecting.proofs.checked.Tie as tie
-use Rattle.collecting.proofs.checked.Reads as reads
-use Rattle.collecting.proofs.checked.Lts as lts
-use Rattle.collecting.proofs.refusal.Reads as refusal-reads
-use Rattle.collecting.proofs.tables.Reads as tables-reads
+use Rattle.collection.proofs.checked.Statement.{statement}
+use Rattle.collection.proofs.checked.Tie as tie
+use Rattle.collection.proofs.checked.Reads as reads
+use Rattle.collection.proofs.checked.Lts as lts
+use Rattle.collection.proofs.refusal.Reads as refusal-reads
+use Rattle.collection.proofs.tables.Reads as tables-reads
 use Rattle.reader.proofs.check_program.Reads as check-program-reads
 
 -- src/lib.rt:348:9

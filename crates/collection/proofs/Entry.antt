@@ -37,10 +37,10 @@ use Rattle.plans.specs.Plans.{Shallow}
 use Rattle.lawful.specs.Good.{Good, Stopping, seven, eight, nine, no-rows}
 use Rattle.lawful.specs.Views.{stands-known, module-scope}
 use Rattle.lawful.specs.Lawful.{collected-good}
 use Rattle.collecting.specs.Walk.{Kept, Ready, Collects}
-use Rattle.collecting.specs.Entry.{Tables, tablesOf, work, told, zeroing, Leaves, Tells, Passed, Tabled, Numbered}
-use Rattle.collecting.specs.declared.Answer.{Answer}
-use Rattle.collecting.specs.declared.Answer.the-variants.{Refused, Done}
+use Rattle.collection.specs.Entry.{Tables, tablesOf, work, told, zeroing, Leaves, Tells, Passed, Tabled, Numbered}
+use Rattle.collection.specs.declared.Answer.{Answer}
+use Rattle.collection.specs.declared.Answer.the-variants.{Refused, Done}
 
 -- ---- a program that was accepted
 

@@ -1,10 +1,10 @@
-use Rattle.collecting.proofs.Entry.{run-ready, run-tabled}
+use Rattle.collection.proofs.Entry.{run-ready, run-tabled}
 use borrow.Author.Needs.{needs}
-use Rattle.collecting.proofs.tables.Statement.{statement}
-use Rattle.collecting.proofs.tables.Tie as tie
-use Rattle.collecting.proofs.tables.Reads as reads
-use Rattle.collecting.proofs.tables.Lts as lts
+use Rattle.collection.proofs.tables.Statement.{statement}
+use Rattle.collection.proofs.tables.Tie as tie
+use Rattle.collection.proofs.tables.Reads as reads
+use Rattle.collection.proofs.tables.Lts as lts
 use Rattle.collecting.proofs.statements.Reads as statements-reads
 use Rattle.steps.proofs.begin.Reads as begin-reads
 use Rattle.steps.proofs.finish.Reads as finish-reads
 

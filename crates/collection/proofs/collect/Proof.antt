@@ -4,14 +4,14 @@ use borrow.Author.Tests.{not-true, not-false}
 use Rattle.words.specs.Refusals.{refused}
 use Rattle.strings.specs.OpenLaws.{said-sound, answers-size, answers-breaks, answers-inner}
 use Rattle.reader.proofs.Laws.{few-strings′, as-many}
-use Rattle.collecting.specs.Entry.{told}
-use Rattle.collecting.proofs.Entry.{leaves-size, leaves-breaks, leaves-told}
+use Rattle.collection.specs.Entry.{told}
+use Rattle.collection.proofs.Entry.{leaves-size, leaves-breaks, leaves-told}
 use borrow.Author.Needs.{needs}
-use Rattle.collecting.proofs.collect.Statement.{statement}
-use Rattle.collecting.proofs.collect.Tie as tie
-use Rattle.collecting.proofs.collect.Reads as reads
-use Rattle.collecting.proofs.collect.Lts as lts
-use Rattle.collecting.proofs.checked.Reads as checked-reads
+use Rattle.collection.proofs.collect.Statement.{statement}
+use Rattle.collection.proofs.collect.Tie as tie
+use Rattle.collection.proofs.collect.Reads as reads
+use Rattle.collection.proofs.collect.Lts as lts
+use Rattle.collection.proofs.checked.Reads as checked-reads
 use Rattle.reader.proofs.sized_program.Reads as sized-program-reads
 use Rattle.strings.proofs.check.Reads as check-reads
 use Rattle.strings.proofs.names_of.Reads as names-of-reads

@@ -1,3 +1,4 @@
+-- 5, then 1, and then the checks of the tree. Assumes nothing.
 use mathlib.Core.Path.{refl, sym, _∙_}
 use native.Mathlib.Omega.{arith}
 use borrow.Author.Tests.{not-true, not-false}
@@ -9,31 +10,20 @@ use Rattle.collection.proofs.Entry.{leaves-size, leaves-breaks, leaves-
 use borrow.Author.Needs.{needs}
 use Rattle.collection.proofs.collect.Statement.{statement}
 use Rattle.collection.proofs.collect.Tie as tie
-use Rattle.collection.proofs.collect.Reads as reads
-use Rattle.collection.proofs.collect.Lts as lts
-use Rattle.collection.proofs.checked.Reads as checked-reads
-use Rattle.reader.proofs.sized_program.Reads as sized-program-reads
-use Rattle.strings.proofs.check.Reads as check-reads
-use Rattle.strings.proofs.names_of.Reads as names-of-reads
 
--- src/lib.rt:373:9
 sized-program-requires : tie.Need-sized-program-requires
 sized-program-requires c κs = search needs
 
--- src/lib.rt:374:9
 returns : tie.Need-returns
 unfolding told refused
 returns c = record { answers = answers-size (sym (c .before .sized-program .ensures) ∙ not-true _ (c .if1 .taken)) refl; leaves = leaves-size (c .before .before .before .before .before .before .before .before .args .rows .now) (c .before .before .before .before .before .before .before .before .args .notes .now) }
 
--- src/lib.rt:376:9
 check-requires : tie.Need-check-requires
 check-requires c κs = search needs
 
--- src/lib.rt:377:28
 enum-known-v : tie.Need-enum-known-v
 enum-known-v c = search needs
 
--- src/lib.rt:378:9
 returns-2 : tie.Need-returns-2
 unfolding told refused
 returns-2 c = record { answers = answers-breaks (sym (c .before .before .before .before .before .sized-program .ensures) ∙ not-false _ (c .before .before .before .before .if1 .left)) (c .before .before .before .check .ensures) (c .before .v .given .1) refl; leaves = leaves-breaks (c .before .before .before .before .before .before .before .before .before .before .before .before .args .rows .now) (c .before .before .before .before .before .before .before .before .before .before .before .before .args .notes .now) 0 }
@@ -41,31 +31,24 @@ returns-2 c = record { answers = answers-breaks (sym (c .before .before .before 
 enum-told : tie.Need-enum-told
 enum-told c = search needs
 
--- src/lib.rt:380:17
 names-of-requires : tie.Need-names-of-requires
 names-of-requires c κs = (said-sound (c .before .before .check .ensures) (c .enum-told .given .1), (few-strings′ (c .before .before .before .before .before .before .before .before .before .before .before .args .bytes .now) (c .before .before .before .before .before .before .before .before .before .before .before .args .ends .now) (c .before .before .before .before .before .before .before .before .before .before .before .args .words .now) (c .before .before .before .before .before .before .before .before .before .before .before .args .erased .now) (sym (c .before .before .before .before .sized-program .ensures) ∙ not-false _ (c .before .before .before .if1 .left))))
 
--- src/lib.rt:384:9
 array-share-prefix-names : tie.Need-array-share-prefix-names
 array-share-prefix-names c = omega (arith, c .names-of .ensures .long, (few-strings′ (c .before .before .before .before .before .before .before .before .before .before .before .before .args .bytes .now) (c .before .before .before .before .before .before .before .before .before .before .before .before .args .ends .now) (c .before .before .before .before .before .before .before .before .before .before .before .before .args .words .now) (c .before .before .before .before .before .before .before .before .before .before .before .before .args .erased .now) (sym (c .before .before .before .before .before .sized-program .ensures) ∙ not-false _ (c .before .before .before .before .if1 .left))))
 
--- src/lib.rt:384:9
 slice-aggregate-checked : tie.Need-slice-aggregate-checked
 slice-aggregate-checked c = as-many (c .before .names-of .ensures) (few-strings′ (c .before .before .before .before .before .before .before .before .before .before .before .before .before .args .bytes .now) (c .before .before .before .before .before .before .before .before .before .before .before .before .before .args .ends .now) (c .before .before .before .before .before .before .before .before .before .before .before .before .before .args .words .now) (c .before .before .before .before .before .before .before .before .before .before .before .before .before .args .erased .now) (sym (c .before .before .before .before .before .before .sized-program .ensures) ∙ not-false _ (c .before .before .before .before .before .if1 .left)))
 
--- src/lib.rt:382:5
 checked-requires : tie.Need-checked-requires
 checked-requires c κs = (record { strings = said-sound (c .before .before .before .before .before .before .check .ensures) (c .before .before .before .before .enum-told .given .1); names = c .before .before .before .names-of .ensures .first }, sym (as-many (c .before .before .before .names-of .ensures) (few-strings′ (c .before .before .before .before .before .before .before .before .before .before .before .before .before .before .before .args .bytes .now) (c .before .before .before .before .before .before .before .before .before .before .before .before .before .before .before .args .ends .now) (c .before .before .before .before .before .before .before .before .before .before .before .before .before .before .before .args .words .now) (c .before .before .before .before .before .before .before .before .before .before .before .before .before .before .before .args .erased .now) (sym (c .before .before .before .before .before .before .before .before .sized-program .ensures) ∙ not-false _ (c .before .before .before .before .before .before .before .if1 .left)))), (few-strings′ (c .before .before .before .before .before .before .before .before .before .before .before .before .before .before .before .args .bytes .now) (c .before .before .before .before .before .before .before .before .before .before .before .before .before .before .before .args .ends .now) (c .before .before .before .before .before .before .before .before .before .before .before .before .before .before .before .args .words .now) (c .before .before .before .before .before .before .before .before .before .before .before .before .before .before .before .args .erased .now) (sym (c .before .before .before .before .before .before .before .before .sized-program .ensures) ∙ not-false _ (c .before .before .before .before .before .before .before .if1 .left))))
 
--- src/lib.rt:363:1
 same-length : tie.Need-same-length
 same-length c = search needs
 
--- src/lib.rt:363:1
 same-length-2 : tie.Need-same-length-2
 same-length-2 c = search needs
 
--- src/lib.rt:363:1
 returns-3 : tie.Need-returns-3
 returns-3 c = record { answers = answers-inner (sym (c .before .before .before .before .before .before .before .before .before .before .before .before .before .sized-program .ensures) ∙ not-false _ (c .before .before .before .before .before .before .before .before .before .before .before .before .if1 .left)) (said-sound (c .before .before .before .before .before .before .before .before .before .before .before .check .ensures) (c .before .before .before .before .before .before .before .before .before .enum-told .given .1)) (c .before .before .before .before .checked .ensures .is); leaves = leaves-told (c .before .before .before .before .checked .ensures) }
 

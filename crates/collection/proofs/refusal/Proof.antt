@@ -1,20 +1,16 @@
+-- 7, 8 and 9 as refusals: no other number stops a run. Assumes nothing.
 use Rattle.collection.proofs.Entry.{only-nine}
 use mathlib.Core.Path.{refl}
 use borrow.Author.Needs.{needs}
 use Rattle.collection.proofs.refusal.Statement.{statement}
 use Rattle.collection.proofs.refusal.Tie as tie
-use Rattle.collection.proofs.refusal.Reads as reads
-use Rattle.collection.proofs.refusal.Lts as lts
 
--- src/lib.rt:324:1
 returns : tie.Need-returns
 returns c = search needs
 
--- src/lib.rt:324:1
 returns-2 : tie.Need-returns-2
 returns-2 c = search needs
 
--- src/lib.rt:324:1
 returns-3 : tie.Need-returns-3
 returns-3 c = record { number = only-nine (c .before .pre) (c .match .rest .0 .1) (c .match .rest .1); place = refl }
 

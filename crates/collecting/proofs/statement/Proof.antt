@@ -1,3 +1,4 @@
+-- The match: each arm asks what its crate asks, and does what the definition says of its kind. Assumes nothing.
 use Rattle.plans.proofs.Walk.{head-range}
 use Prim.Native.Nat.{_-_}
 use mathlib.Core.Path.{_∙_}
@@ -7,205 +8,145 @@ use Rattle.collecting.proofs.Match.{label-there, label-done, label-name
 use borrow.Author.Needs.{needs}
 use Rattle.collecting.proofs.statement.Statement.{statement}
 use Rattle.collecting.proofs.statement.Tie as tie
-use Rattle.collecting.proofs.statement.Reads as reads
-use Rattle.collecting.proofs.statement.Lts as lts
-use Rattle.dims.proofs.dim.Reads as dim-reads
-use Rattle.procedures.proofs.function.Reads as function-reads
-use Rattle.dims.proofs.redim.Reads as redim-reads
-use Rattle.procedures.proofs.sub.Reads as sub-reads
-use Rattle.types.proofs.type_def.Reads as type-def-reads
-use Rattle.items.proofs.shared.Reads as shared-reads
-use Rattle.items.proofs.statics.Reads as statics-reads
-use Rattle.labels.proofs.constant.Reads as constant-reads
-use Rattle.labels.proofs.label.Reads as label-reads
-use Rattle.labels.proofs.label_name.Reads as label-name-reads
-use Rattle.labels.proofs.option_base.Reads as option-base-reads
 
--- src/lib.rt:140:11
 mul-match : tie.Need-mul-match
 mul-match c = search needs
 
--- src/lib.rt:140:11
 shared-slice-read-match : tie.Need-shared-slice-read-match
 shared-slice-read-match c = head-range (c .before .before .before .before .before .before .before .before .pre .tree .stands) .2
 
--- src/lib.rt:141:15
 label-requires : tie.Need-label-requires
 label-requires c κs = label-there (c .before .before .before .before .before .before .before .before .before .before .before .pre) (c .before .before .match .keys1)
 
--- src/lib.rt:142:15
 label-name-requires : tie.Need-label-name-requires
 label-name-requires c κs = label-name-there (c .before .before .before .before .before .before .before .before .before .before .before .pre) (c .before .before .match .keys2)
 
--- src/lib.rt:143:15
 dim-requires : tie.Need-dim-requires
 dim-requires c κs = dim-there (c .before .before .before .before .before .before .before .before .before .before .before .pre) (c .before .before .match .keys3)
 
--- src/lib.rt:144:15
 shared-requires : tie.Need-shared-requires
 shared-requires c κs = shared-there (c .before .before .before .before .before .before .before .before .before .before .before .pre) (c .before .before .match .keys4)
 
--- src/lib.rt:145:15
 statics-requires : tie.Need-statics-requires
 statics-requires c κs = statics-there (c .before .before .before .before .before .before .before .before .before .before .before .pre) (c .before .before .match .keys5)
 
--- src/lib.rt:146:15
 redim-requires : tie.Need-redim-requires
 redim-requires c κs = redim-there (c .before .before .before .before .before .before .before .before .before .before .before .pre) (c .before .before .match .keys6)
 
--- src/lib.rt:147:15
 sub-requires : tie.Need-sub-requires
 sub-requires c κs = sub-there (c .before .before .before .before .before .before .before .before .before .before .before .pre) (c .before .before .match .keys7)
 
--- src/lib.rt:148:15
 function-requires : tie.Need-function-requires
 function-requires c κs = function-there (c .before .before .before .before .before .before .before .before .before .before .before .pre) (c .before .before .match .keys8)
 
--- src/lib.rt:149:15
 constant-requires : tie.Need-constant-requires
 constant-requires c κs = constant-there (c .before .before .before .before .before .before .before .before .before .before .before .pre) (c .before .before .match .keys9)
 
--- src/lib.rt:150:15
 option-base-requires : tie.Need-option-base-requires
 option-base-requires c κs = option-base-there (c .before .before .before .before .before .before .before .before .before .before .before .pre) (c .before .before .match .keys10)
 
--- src/lib.rt:151:15
 type-def-requires : tie.Need-type-def-requires
 type-def-requires c κs = type-def-there (c .before .before .before .before .before .before .before .before .before .before .before .pre) (c .before .before .match .keys11)
 
--- src/lib.rt:125:1
 same-length : tie.Need-same-length
 same-length c = search needs
 
--- src/lib.rt:125:1
 same-length-2 : tie.Need-same-length-2
 same-length-2 c = search needs
 
--- src/lib.rt:125:1
 returns : tie.Need-returns
 returns c = label-done (c .before .before .before .before .before .before .before .match .keys1) (c .before .before .before .before .label .ensures)
 
--- src/lib.rt:125:1
 same-length-3 : tie.Need-same-length-3
 same-length-3 c = search needs
 
--- src/lib.rt:125:1
 same-length-4 : tie.Need-same-length-4
 same-length-4 c = search needs
 
--- src/lib.rt:125:1
 returns-2 : tie.Need-returns-2
 returns-2 c = label-name-done (c .before .before .before .before .before .before .before .match .keys2) (c .before .before .before .before .label-name .ensures)
 
--- src/lib.rt:125:1
 same-length-5 : tie.Need-same-length-5
 same-length-5 c = search needs
 
--- src/lib.rt:125:1
 same-length-6 : tie.Need-same-length-6
 same-length-6 c = search needs
 
--- src/lib.rt:125:1
 returns-3 : tie.Need-returns-3
 returns-3 c = dim-done (c .before .before .before .before .before .before .before .match .keys3) (c .before .before .before .before .dim .ensures)
 
--- src/lib.rt:125:1
 same-length-7 : tie.Need-same-length-7
 same-length-7 c = search needs
 
--- src/lib.rt:125:1
 same-length-8 : tie.Need-same-length-8
 same-length-8 c = search needs
 
--- src/lib.rt:125:1
 returns-4 : tie.Need-returns-4
 returns-4 c = shared-done (c .before .before .before .before .before .before .before .match .keys4) (c .before .before .before .before .shared .ensures)
 
--- src/lib.rt:125:1
 same-length-9 : tie.Need-same-length-9
 same-length-9 c = search needs
 
--- src/lib.rt:125:1
 same-length-10 : tie.Need-same-length-10
 same-length-10 c = search needs
 
--- src/lib.rt:125:1
 returns-5 : tie.Need-returns-5
 returns-5 c = statics-done (c .before .before .before .before .before .before .before .match .keys5) (c .before .before .before .before .statics .ensures)
 
--- src/lib.rt:125:1
 same-length-11 : tie.Need-same-length-11
 same-length-11 c = search needs
 
--- src/lib.rt:125:1
 same-length-12 : tie.Need-same-length-12
 same-length-12 c = search needs
 
--- src/lib.rt:125:1
 returns-6 : tie.Need-returns-6
 returns-6 c = redim-done (c .before .before .before .before .before .before .before .match .keys6) (c .before .before .before .before .redim .ensures)
 
--- src/lib.rt:125:1
 same-length-13 : tie.Need-same-length-13
 same-length-13 c = search needs
 
--- src/lib.rt:125:1
 same-length-14 : tie.Need-same-length-14
 same-length-14 c = search needs
 
--- src/lib.rt:125:1
 returns-7 : tie.Need-returns-7
 returns-7 c = sub-done (c .before .before .before .before .before .before .before .match .keys7) (c .before .before .before .before .sub .ensures)
 
--- src/lib.rt:125:1
 same-length-15 : tie.Need-same-length-15
 same-length-15 c = search needs
 
--- src/lib.rt:125:1
 same-length-16 : tie.Need-same-length-16
 same-length-16 c = search needs
 
--- src/lib.rt:125:1
 returns-8 : tie.Need-returns-8
 returns-8 c = function-done (c .before .before .before .before .before .before .before .match .keys8) (c .before .before .before .before .function .ensures)
 
--- src/lib.rt:125:1
 same-length-17 : tie.Need-same-length-17
 same-length-17 c = search needs
 
--- src/lib.rt:125:1
 same-length-18 : tie.Need-same-length-18
 same-length-18 c = search needs
 
--- src/lib.rt:125:1
 returns-9 : tie.Need-returns-9
 returns-9 c = constant-done (c .before .before .before .before .before .before .before .match .keys9) (c .before .before .before .before .constant .ensures)
 
--- src/lib.rt:125:1
 same-length-19 : tie.Need-same-length-19
 same-length-19 c = search needs
 
--- src/lib.rt:125:1
 same-length-20 : tie.Need-same-length-20
 same-length-20 c = search needs
 
--- src/lib.rt:125:1
 returns-10 : tie.Need-returns-10
 returns-10 c = option-base-done (c .before .before .before .before .before .before .before .match .keys10) (c .before .before .before .before .option-base .ensures)
 
--- src/lib.rt:125:1
 same-length-21 : tie.Need-same-length-21
 same-length-21 c = search needs
 
--- src/lib.rt:125:1
 same-length-22 : tie.Need-same-length-22
 same-length-22 c = search needs
 
--- src/lib.rt:125:1
 returns-11 : tie.Need-returns-11
 returns-11 c = type-def-done (c .before .before .before .before .before .before .before .match .keys11) (c .before .before .before .before .type-def .ensures)
 
--- src/lib.rt:125:1
 returns-12 : tie.Need-returns-12
 returns-12 c = nothing-said (c .before .before .before .before .before .before .before .before .before .pre .kept .fit) (record { no-label = λ e. c .match .rest .0 .0 .0 .0 .0 .0 .0 .0 .0 .0 .1 (head-less 0 (c .before .before .before .before .before .before .before .before .before .pre .tree .stands) e); no-labelName = λ e. c .match .rest .0 .0 .0 .0 .0 .0 .0 .0 .0 .1 (head-less 1 (c .before .before .before .before .before .before .before .before .before .pre .tree .stands) e); no-dim = λ e. c .match .rest .0 .0 .0 .0 .0 .0 .0 .0 .1 (head-less 15 (c .before .before .before .before .before .before .before .before .before .pre .tree .stands) e); no-shared = λ e. c .match .rest .0 .0 .0 .0 .0 .0 .0 .1 (head-less 17 (c .before .before .before .before .before .before .before .before .before .pre .tree .stands) e); no-static = λ e. c .match .rest .0 .0 .0 .0 .0 .0 .1 (head-less 18 (c .before .before .before .before .before .before .before .before .before .pre .tree .stands) e); no-redim = λ e. c .match .rest .0 .0 .0 .0 .0 .1 (head-less 19 (c .before .before .before .before .before .before .before .before .before .pre .tree .stands) e); no-sub = λ e. c .match .rest .0 .0 .0 .0 .1 (head-less 20 (c .before .before .before .before .before .before .before .before .before .pre .tree .stands) e); no-function = λ e. c .match .rest .0 .0 .0 .1 (head-less 21 (c .before .before .before .before .before .before .before .before .before .pre .tree .stands) e); no-const = λ e. c .match .rest .0 .0 .1 (head-less 25 (c .before .before .before .before .before .before .before .before .before .pre .tree .stands) e); no-optionBase = λ e. c .match .rest .0 .1 (head-less 28 (c .before .before .before .before .before .before .before .before .before .pre .tree .stands) e); no-typeDef = λ e. c .match .rest .1 (head-less 29 (c .before .before .before .before .before .before .before .before .before .pre .tree .stands) e) })
 

@@ -1,0 +1,71 @@
+-- 5, then 1, and then the checks of the tree. Assumes nothing.
+use mathlib.Core.Path.{refl, sym, _∙_}
+use native.Mathlib.Omega.{arith}
+use borrow.Author.Tests.{not-true, not-false}
+use Rattle.words.specs.Refusals.{refused}
+use Rattle.strings.specs.OpenLaws.{said-sound, answers-size, answers-breaks, answers-inner}
+use Rattle.reader.proofs.Laws.{few-strings′, as-many}
+use Rattle.collection.specs.Entry.{told}
+use Rattle.collection.proofs.Entry.{leaves-size, leaves-breaks, leaves-told}
+use borrow.Author.Needs.{needs}
+use Rattle.collection.proofs.collect.Statement.{statement}
+use Rattle.collection.proofs.collect.Tie as tie
+
+sized-program-requires : tie.Need-sized-program-requires
+sized-program-requires c κs = search needs
+
+returns : tie.Need-returns
+unfolding told refused
+returns c = record { answers = answers-size (sym (c .before .sized-program .ensures) ∙ not-true _ (c .if1 .taken)) refl; leaves = leaves-size (c .before .before .before .before .before .before .before .before .args .rows .now) (c .before .before .before .before .before .before .before .before .args .notes .now) }
+
+check-requires : tie.Need-check-requires
+check-requires c κs = search needs
+
+enum-known-v : tie.Need-enum-known-v
+enum-known-v c = search needs
+
+returns-2 : tie.Need-returns-2
+unfolding told refused
+returns-2 c = record { answers = answers-breaks (sym (c .before .before .before .before .before .sized-program .ensures) ∙ not-false _ (c .before .before .before .before .if1 .left)) (c .before .before .before .check .ensures) (c .before .v .given .1) refl; leaves = leaves-breaks (c .before .before .before .before .before .before .before .before .before .before .before .before .args .rows .now) (c .before .before .before .before .before .before .before .before .before .before .before .before .args .notes .now) 0 }
+
+enum-told : tie.Need-enum-told
+enum-told c = search needs
+
+names-of-requires : tie.Need-names-of-requires
+names-of-requires c κs = (said-sound (c .before .before .check .ensures) (c .enum-told .given .1), (few-strings′ (c .before .before .before .before .before .before .before .before .before .before .before .args .bytes .now) (c .before .before .before .before .before .before .before .before .before .before .before .args .ends .now) (c .before .before .before .before .before .before .before .before .before .before .before .args .words .now) (c .before .before .before .before .before .before .before .before .before .before .before .args .erased .now) (sym (c .before .before .before .before .sized-program .ensures) ∙ not-false _ (c .before .before .before .if1 .left))))
+
+array-share-prefix-names : tie.Need-array-share-prefix-names
+array-share-prefix-names c = omega (arith, c .names-of .ensures .long, (few-strings′ (c .before .before .before .before .before .before .before .before .before .before .before .before .args .bytes .now) (c .before .before .before .before .before .before .before .before .before .before .before .before .args .ends .now) (c .before .before .before .before .before .before .before .before .before .before .before .before .args .words .now) (c .before .before .before .before .before .before .before .before .before .before .before .before .args .erased .now) (sym (c .before .before .before .before .before .sized-program .ensures) ∙ not-false _ (c .before .before .before .before .if1 .left))))
+
+slice-aggregate-checked : tie.Need-slice-aggregate-checked
+slice-aggregate-checked c = as-many (c .before .names-of .ensures) (few-strings′ (c .before .before .before .before .before .before .before .before .before .before .before .before .before .args .bytes .now) (c .before .before .before .before .before .before .before .before .before .before .before .before .before .args .ends .now) (c .before .before .before .before .before .before .before .before .before .before .before .before .before .args .words .now) (c .before .before .before .before .before .before .before .before .before .before .before .before .before .args .erased .now) (sym (c .before .before .before .before .before .before .sized-program .ensures) ∙ not-false _ (c .before .before .before .before .before .if1 .left)))
+
+checked-requires : tie.Need-checked-requires
+checked-requires c κs = (record { strings = said-sound (c .before .before .before .before .before .before .check .ensures) (c .before .before .before .before .enum-told .given .1); names = c .before .before .before .names-of .ensures .first }, sym (as-many (c .before .before .before .names-of .ensures) (few-strings′ (c .before .before .before .before .before .before .before .before .before .before .before .before .before .before .before .args .bytes .now) (c .before .before .before .before .before .before .before .before .before .before .before .before .before .before .before .args .ends .now) (c .before .before .before .before .before .before .before .before .before .before .before .before .before .before .before .args .words .now) (c .before .before .before .before .before .before .before .before .before .before .before .before .before .before .before .args .erased .now) (sym (c .before .before .before .before .before .before .before .before .sized-program .ensures) ∙ not-false _ (c .before .before .before .before .before .before .before .if1 .left)))), (few-strings′ (c .before .before .before .before .before .before .before .before .before .before .before .before .before .before .before .args .bytes .now) (c .before .before .before .before .before .before .before .before .before .before .before .before .before .before .before .args .ends .now) (c .before .before .before .before .before .before .before .before .before .before .before .before .before .before .before .args .words .now) (c .before .before .before .before .before .before .before .before .before .before .before .before .before .before .before .args .erased .now) (sym (c .before .before .before .before .before .before .before .before .sized-program .ensures) ∙ not-false _ (c .before .before .before .before .before .before .before .if1 .left))))
+
+same-length : tie.Need-same-length
+same-length c = search needs
+
+same-length-2 : tie.Need-same-length-2
+same-length-2 c = search needs
+
+returns-3 : tie.Need-returns-3
+returns-3 c = record { answers = answers-inner (sym (c .before .before .before .before .before .before .before .before .before .before .before .before .before .sized-program .ensures) ∙ not-false _ (c .before .before .before .before .before .before .before .before .before .before .before .before .if1 .left)) (said-sound (c .before .before .before .before .before .before .before .before .before .before .before .check .ensures) (c .before .before .before .before .before .before .before .before .before .enum-told .given .1)) (c .before .before .before .before .checked .ensures .is); leaves = leaves-told (c .before .before .before .before .checked .ensures) }
+
+pub collect-spec : {M : Type 1} → statement M
+collect-spec =
+    tie.close
+    (tie.spec
+    sized-program-requires
+    returns
+    check-requires
+    enum-known-v
+    returns-2
+    enum-told
+    names-of-requires
+    array-share-prefix-names
+    slice-aggregate-checked
+    checked-requires
+    same-length
+    same-length-2
+    returns-3)

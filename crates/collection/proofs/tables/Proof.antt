@@ -1,0 +1,28 @@
+-- Empty buffers, the walk, and zeros where it stopped: what is left of a whole run. Assumes nothing.
+use Rattle.collection.proofs.Entry.{run-ready, run-tabled}
+use borrow.Author.Needs.{needs}
+use Rattle.collection.proofs.tables.Statement.{statement}
+use Rattle.collection.proofs.tables.Tie as tie
+
+begin-requires : tie.Need-begin-requires
+begin-requires c κs = search needs
+
+statements-requires : tie.Need-statements-requires
+statements-requires c κs = run-ready (c .before .before .before .before .before .before .before .before .before .before .before .before .before .before .before .before .pre) (c .before .before .before .before .before .before .begin .ensures)
+
+finish-requires : tie.Need-finish-requires
+finish-requires c κs = search needs
+
+same-length : tie.Need-same-length
+same-length c = search needs
+
+same-length-2 : tie.Need-same-length-2
+same-length-2 c = search needs
+
+returns : tie.Need-returns
+returns c = run-tabled (λ i. c .before .before .before .before .before .before .before .before .before .before .before .before .before .before .before .before .before .before .before .before .before .before .before .before .before .before .before .before .shared-slice-known .given i .fits) (c .before .before .before .before .before .before .before .before .before .before .before .before .before .before .before .before .before .before .before .before .before .before .before .before .before .before .before .before .before .pre) (c .before .before .before .before .before .before .before .before .before .before .before .before .before .before .before .before .before .before .before .begin .ensures) (c .before .before .before .before .before .before .before .before .before .before .before .before .statements .ensures) (c .before .before .before .before .finish .ensures)
+
+pub tables-spec : {M : Type 1} → statement M
+tables-spec =
+    tie.close
+    (tie.spec begin-requires statements-requires finish-requires same-length same-length-2 returns)

@@ -1,0 +1,104 @@
+// `collect` as an entry over lent strings, tree words and erased names, into two lent buffers: 5, 1, 2 or 3, 4 in this order, then 7, 8 or 9 as the run
+// meets them, or how many rows and diagnostics there are.
+use reader::Accepted;
+use steps::Counts;
+use strings::Verdict;
+use words::Refusal;
+ghost use mathlib.Core.Path.{_≡_};
+ghost use Prim.Native.Nat.{_≤_};
+ghost use lib.ListN.{length};
+ghost use Rattle.collect.specs.Code.{Named};
+ghost use Rattle.lawful.specs.Good.{Stopping};
+ghost use Rattle.collection.specs.Entry.{Passed, Tabled, Numbered, Tells, Entered, work};
+
+// How many rows and diagnostics stand in their buffers.
+pub struct Sizes {
+    pub rows: usize,
+    pub notes: usize,
+}
+
+pub enum Answer {
+    Refused(Refusal),
+    Done(Sizes),
+}
+
+// The rows and diagnostics of a program that passed the checks; a run that stops leaves zeros.
+fn tables(
+    words: &[u32],
+    names: &[u8],
+    bytes: &[u8],
+    ends: &[u32],
+    erased: &[u32],
+    b: &mut [u32],
+    d: &mut [u32],
+) -> Counts
+    requires { ⌜ Passed (now bytes) (now ends) (now erased) (now words) (now names) ⌝ }
+    ensures { λ r. ⌜ Tabled (now (bytes .entry)) (now (ends .entry)) (now (erased .entry)) (now (words .entry)) (now (names .entry)) r (now (b .entry)) (now (d .entry)) (now (b .exit)) (now (d .exit)) ⌝ }
+{
+    let s = steps::begin(b, d);
+    let m = collecting::statements(words, names, bytes, ends, erased, b, d, s, 0, 0);
+    let t = m.counts;
+    steps::finish(b, d, t)
+}
+
+// The refusal of a stopped run.
+fn refusal(stop: u32) -> Refusal
+    requires { ⌜ Stopping stop ⌝ }
+    ensures { λ r. ⌜ Numbered stop r ⌝ }
+{
+    match stop {
+        7 => Refusal::RowsFull,
+        8 => Refusal::DiagnosticsFull,
+        _ => Refusal::TypeWords,
+    }
+}
+
+// Where the names' marks are known: 2 or 3, 4, and then the run.
+fn checked(
+    words: &[u32],
+    names: &[u8],
+    bytes: &[u8],
+    ends: &[u32],
+    erased: &[u32],
+    b: &mut [u32],
+    d: &mut [u32],
+) -> Answer
+    requires { ⌜ Named (now bytes) (now ends) (now names) × (length (now names) ≡ length (now ends)) × (length (now ends) ≤ 1024) ⌝ }
+    ensures { λ r. ⌜ Tells r (now (b .entry)) (now (d .entry)) (now (b .exit)) (now (d .exit)) (work (length (now (b .entry))) (length (now (d .entry))) (now (bytes .entry)) (now (ends .entry)) (now (erased .entry)) (now (words .entry))) ⌝ }
+{
+    let a = reader::check_program(words, erased, names);
+    if let Accepted::Refused(f) = a {
+        return Answer::Refused(f);
+    }
+    let s = tables(words, names, bytes, ends, erased, b, d);
+    if s.stop != 0 {
+        return Answer::Refused(refusal(s.stop));
+    }
+    Answer::Done(Sizes {
+        rows: s.rows,
+        notes: s.notes,
+    })
+}
+
+// Collects a program's rows and diagnostics. 5, 1, 2, 3 and 4 leave the buffers as they came; 7, 8 and 9 leave them zero.
+pub fn collect(
+    bytes: &[u8],
+    ends: &[u32],
+    words: &[u32],
+    erased: &[u32],
+    rows: &mut [u32],
+    notes: &mut [u32],
+) -> Answer
+    ensures { λ r. ⌜ Entered (now (bytes .entry)) (now (ends .entry)) (now (erased .entry)) (now (words .entry)) r (now (rows .entry)) (now (notes .entry)) (now (rows .exit)) (now (notes .exit)) ⌝ }
+{
+    if !reader::sized_program(bytes, ends, words, erased) {
+        return Answer::Refused(Refusal::Size);
+    }
+    let v = strings::check(bytes, ends);
+    if let Verdict::Breaks(p) = v {
+        return Answer::Refused(Refusal::Strings(p));
+    }
+    let names = strings::names_of(bytes, ends);
+    let n = ends.len();
+    checked(words, &names[..n], bytes, ends, erased, rows, notes)
+}

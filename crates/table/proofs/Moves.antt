@@ -1,13 +1,13 @@
 -- Moving words within a list: the steps of the loops. Assumes nothing.
 use mathlib.Core.Path.{_≡_, refl, sym, ap, _∙_}
-use mathlib.Core.List.{List, [], _∷_, _++_, append-assoc}
+use mathlib.Core.List.{List, [], _∷_, _++_, append-assoc, append-nil}
 use Prim.Native.Nat.{ℕ, zero, suc, _≤_, _<_, _-_, _+_}
 use native.Mathlib.Omega.{arith}
 use native.Mathlib.Numerals.{add-one}
 use native.Mathlib.Nat.{not-suc-le-zero}
-use lib.ListN.{length, getD, set, take, drop, take-append-drop, length-append, List·getD-append, length-replicate}
+use lib.ListN.{length, getD, set, take, drop, take-append-drop, length-drop, drop-of-length-le, length-append, List·getD-append, length-replicate}
 use Rattle.table.specs.Rows.{zeros}
-use lib.Seq.{slice, slice-empty, slice-cons, set-at, take-suc, append-snoc, length-take-le, length-slice, getD-take, getD-drop, getD-append-add, drop-cons, drop-append-le}
+use lib.Seq.{take-all, take-nil, take-add, drop-drop, slice, slice-empty, slice-cons, set-at, take-suc, append-snoc, length-take-le, length-slice, getD-take, getD-drop, getD-append-add, drop-cons, drop-append-le}
 
 -- up by w: where the loop begins
 pub up-start : (l : List ℕ) (to w : ℕ) → l ≡ take (to + w) l ++ (slice to to l ++ drop (to + w) l)
@@ -37,6 +37,30 @@ up-turn l b zero to w z h k e = absurd (not-suc-le-zero z)
 up-turn l b (suc i) to w z h k e =
     let s : suc i - 1 ≡ i = omega arith in
     rw (s, e, up-read l i to w h k (slice (suc i) to l ++ drop (to + w) l)) (up-step l i to w h k)
+
+-- a part of the list is a list of its own
+slice-part : (f n : ℕ) (l : List ℕ) → take n (drop f l) ≡ slice f (f + n) l
+slice-part zero n l = let e : n ≡ 0 + n = omega arith in ap (λ (m : ℕ). take m l) e
+slice-part (suc f) n [] = simp take-nil refl
+slice-part (suc f) n (x ∷ xs) =
+    let e : suc (f + n) ≡ suc f + n = omega arith in
+    slice-part f n xs ∙ ap (λ (m : ℕ). slice (suc f) m (x ∷ xs)) e
+
+-- what moves up within the list's end moves up within the list
+pub up-part : (l ys : List ℕ) (from to w : ℕ) → from ≤ to → to + w ≤ length l
+    → ys ≡ take w (take (length l - from) (drop from l)) ++ (slice 0 (to - from) (take (length l - from) (drop from l)) ++ drop (to - from + w) (take (length l - from) (drop from l)))
+    → take from l ++ (ys ++ drop (length l - from) (drop from l)) ≡ take (from + w) l ++ (slice from to l ++ drop (to + w) l)
+up-part l ys from to w h k e =
+    let d = drop from l in
+    let n = to - from in
+    let q : from + (to - from) ≡ to = omega arith in
+    let r : from + (to - from + w) ≡ to + w = omega arith in
+    let whole : take (length l - from) d ≡ d = take-all (length l - from) d (omega (arith, length-drop from l)) in
+    let none : drop (length l - from) d ≡ [] = drop-of-length-le d {i = length l - from} (omega (arith, length-drop from l)) in
+    let e₁ : ys ≡ take w d ++ (take n d ++ drop (n + w) d) = rw whole at e in
+    let e₂ : take n d ≡ slice from to l = slice-part from n l ∙ ap (λ (m : ℕ). slice from m l) q in
+    let e₃ : drop (n + w) d ≡ drop (to + w) l = drop-drop (n + w) from l ∙ ap (λ (m : ℕ). drop m l) r in
+    rw (none, append-nil ys, e₁, e₂, e₃, take-add from w l, append-assoc (take from l) (take w d) (slice from to l ++ drop (to + w) l)) refl
 
 -- down by w: where the loop begins
 pub down-start : (l : List ℕ) (from w : ℕ) → l ≡ take from l ++ (slice (from + w) (from + w) l ++ drop from l)

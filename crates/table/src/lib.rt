@@ -14,16 +14,25 @@ pub const WIDTH: usize = 6;
 // The words of a diagnostic.
 pub const NOTE_WIDTH: usize = 6;
 
-// The words from `from` up to `to` move up by w words.
-fn shift_up(b: &mut [u32], from: usize, to: usize, w: usize)
-    requires { ⌜ (from ≤ to) × (to + w ≤ length (now b)) ⌝ }
-    ensures { λ _. ⌜ now (b .exit) ≡ take (from + w) (now (b .entry)) ++ (slice from to (now (b .entry)) ++ drop (to + w) (now (b .entry))) ⌝ }
+// The first n words move up by a row. The loop's first place and its distance are constants, so that the compiler turns it into one move of memory.
+fn lift(s: &mut [u32], n: usize)
+    requires { ⌜ n + width ≤ length (now s) ⌝ }
+    ensures { λ _. ⌜ now (s .exit) ≡ take width (now (s .entry)) ++ (slice 0 n (now (s .entry)) ++ drop (n + width) (now (s .entry))) ⌝ }
 {
-    let mut i = to;
-    while from < i {
+    let mut i = n;
+    while 0 < i {
         i = i - 1;
-        b[i + w] = b[i];
+        s[i + WIDTH] = s[i];
     }
+}
+
+// The words from `from` up to `to` move up by a row.
+fn shift_up(b: &mut [u32], from: usize, to: usize)
+    requires { ⌜ (from ≤ to) × (to + width ≤ length (now b)) ⌝ }
+    ensures { λ _. ⌜ now (b .exit) ≡ take (from + width) (now (b .entry)) ++ (slice from to (now (b .entry)) ++ drop (to + width) (now (b .entry))) ⌝ }
+{
+    let s = &mut b[from..];
+    lift(s, to - from);
 }
 
 // The words from `from` + w up to `to` move down by w words.
@@ -144,7 +153,7 @@ pub fn insert(b: &mut [u32], count: usize, row: &[u32]) -> Put
     if b.len() - end < WIDTH {
         return Put::Full;
     }
-    shift_up(b, at, end, WIDTH);
+    shift_up(b, at, end);
     put_words(b, at, row);
     Put::Done(count + 1)
 }

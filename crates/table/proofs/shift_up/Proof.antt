@@ -1,73 +1,48 @@
--- `shift_up` moves words up, from above; its turn is `up-turn` of `Moves`. Assumes nothing.
-use mathlib.Core.Path.{_≡_, refl}
-use mathlib.Core.List.{_++_}
-use Prim.Native.Nat.{_≤_, _-_, _+_}
-use native.Mathlib.Omega.{arith}
-use lib.ListN.{length, take, drop, length-set}
-use lib.Seq.{slice}
-use Rattle.table.proofs.Moves.{up-start, up-turn}
+-- `shift_up` lends the words from `from` on to `lift`. Assumes nothing.
+use Rattle.table.specs.Rows.{width}
+use Rattle.table.proofs.Moves.{up-part}
+use borrow.Author.Needs.{needs}
 use Rattle.table.proofs.shift_up.Statement.{statement}
 use Rattle.table.proofs.shift_up.Tie as tie
+use Rattle.table.proofs.shift_up.Reads as reads
+use Rattle.table.proofs.shift_up.Lts as lts
+use Rattle.table.proofs.lift.Reads as lift-reads
 
-abbrev Inv-loop : tie.InvT-loop
-Inv-loop b₀ from to w i₀ b i = (from ≤ i) × (i ≤ to) × (length b ≡ length b₀) × (b ≡ take (i + w) b₀ ++ (slice i to b₀ ++ drop (to + w) b₀))
+-- src/lib.rt:34:13
+mul-s : tie.Need-mul-s
+mul-s c = search needs
 
-abbrev μ-loop : tie.MeasureT-loop
-μ-loop b₀ from to w i₀ b i = i
+-- src/lib.rt:34:13
+sub-s : tie.Need-sub-s
+sub-s c = search needs
 
-loop-holds : tie.Need-loop-holds Inv-loop μ-loop
-loop-holds c = (omega arith, omega arith, refl, up-start (c .args .b .now) (c .args .to) (c .args .w))
+-- src/lib.rt:34:13
+part-s-start : tie.Need-part-s-start
+part-s-start c = search needs
 
-sub-i : tie.Need-sub-i Inv-loop μ-loop
-sub-i c = omega arith
+-- src/lib.rt:34:13
+part-s-end : tie.Need-part-s-end
+part-s-end c = search needs
 
-mul-b : tie.Need-mul-b Inv-loop μ-loop
-mul-b c = omega arith
+-- src/lib.rt:35:13
+sub-lift : tie.Need-sub-lift
+sub-lift c = search needs
 
-slice-read-b : tie.Need-slice-read-b Inv-loop μ-loop
-slice-read-b c = omega arith
+-- src/lib.rt:35:5
+lift-requires : tie.Need-lift-requires
+lift-requires c κs = search needs
 
-add-b : tie.Need-add-b Inv-loop μ-loop
-add-b c = omega arith
+-- src/lib.rt:30:1
+same-length : tie.Need-same-length
+same-length c = search needs
 
-mul-b-2 : tie.Need-mul-b-2 Inv-loop μ-loop
-mul-b-2 c = omega arith
-
-slice-write-b : tie.Need-slice-write-b Inv-loop μ-loop
-slice-write-b c = omega arith
-
-loop-less : tie.Need-loop-less Inv-loop μ-loop
-loop-less c = omega arith
-
-loop-again : tie.Need-loop-again Inv-loop μ-loop
-loop-again c =
-    let at-loop = c .before .before in
-    let a = at-loop .before .args in
-    (omega arith, omega arith, simp length-set (at-loop .loop .inv .2), up-turn (a .b .now) (at-loop .loop .b) (at-loop .loop .i) (a .to) (a .w) (omega arith) (omega arith) (omega arith) (at-loop .loop .inv .3))
-
-same-length : tie.Need-same-length Inv-loop μ-loop
-same-length c = c .before .loop .inv .2
-
-returns : tie.Need-returns Inv-loop μ-loop
+-- src/lib.rt:30:1
+returns : tie.Need-returns
 returns c =
-    let a = c .before .before .args in
-    let e : c .before .loop .i ≡ a .from = omega arith in
-    rw e at (c .before .loop .inv .3)
+    let a = c .before .before .before .before .before .args in
+    up-part (a .b .now) (c .before .before .lift .last .0) (a .from) (a .to) width (c .before .before .before .before .before .pre .0) (c .before .before .before .before .before .pre .1) (c .before .before .lift .ensures)
 
 pub shift-up-spec : {M : Type 1} → statement M
 shift-up-spec =
     tie.close
-    (tie.spec
-    Inv-loop
-    μ-loop
-    loop-holds
-    sub-i
-    mul-b
-    slice-read-b
-    add-b
-    mul-b-2
-    slice-write-b
-    loop-less
-    loop-again
-    same-length
-    returns)
+    (tie.spec mul-s sub-s part-s-start part-s-end sub-lift lift-requires same-length returns)

@@ -17,7 +17,7 @@ use Rattle.tree.specs.Reader.{programAt}
 use Rattle.reader.specs.Program.{Program, wholeOf, erasedFrom, programOf, acceptedOf}
 use Rattle.steps.specs.State.{State, running, stopped}
 use Rattle.collect.specs.Collect.{given, analysed}
-use Rattle.equivalence.specs.Rooms.{Free, runs, nine, Full, seven, eight}
+use Rattle.equivalence.specs.Rooms.{Free, runs, nine, Full, seven, eight, full}
 use Rattle.equivalence.specs.CollectRooms.{analysed-meets}
 use Rattle.analyse.specs.Analyse.{zeroing}
 
@@ -75,4 +75,4 @@ either-zeroing st t f (inr g) = full-zeroing st g
 pub analysed-zeroing : (N D : ℕ) (bytes ends erased : List ℕ) (p : Program) → Zeroing (analysed (given (some N) (some D) bytes ends erased) p)
 analysed-zeroing N D bytes ends erased p =
     let m = analysed-meets (λ n. stringAt bytes ends n) erased p in
-    either-zeroing _ _ (m .free) (m .full N D)
+    either-zeroing _ _ (m .free) (full m N D)

@@ -1,5 +1,5 @@
 -- What stands in the way of a program: exactly 5, 1, 2, 3, 4 and 9; and what the lent buffers have to do with it: once they are long enough nothing,
--- and whatever their lengths are only 7 and 8. Assumes nothing.
+-- and whatever their lengths are only 7 and 8, which longer ones may avoid but never change anything else. Assumes nothing.
 use Prim.Native.Nat.{ℕ, _≤_}
 use mathlib.Core.Path.{_≡_, refl, sym, ap, _∙_}
 use mathlib.Core.Logic.{_⊎_, inl, inr}
@@ -19,7 +19,7 @@ use Rattle.reader.specs.Sized.{sizedProgram}
 use Rattle.reader.specs.Program.{Program, wholeOf, erasedFrom, programOf, acceptedOf}
 use Rattle.steps.specs.State.{State, running, stopped}
 use Rattle.collect.specs.Collect.{given, analysed}
-use Rattle.equivalence.specs.Rooms.{Free, runs, nine, Full, seven, eight, Meets}
+use Rattle.equivalence.specs.Rooms.{Free, runs, nine, Full, seven, eight, Meets, full, longer}
 use Rattle.equivalence.specs.CollectRooms.{analysed-meets}
 use Rattle.equivalence.specs.Analysis.{Analysis, resultOf, analysis, Accepted}
 use Rattle.equivalence.specs.AnalysisLaws.{known, accepts}
@@ -123,12 +123,24 @@ module _ (bytes ends names words : List ℕ) where
   within-after : (r d : ℕ) (t : Told Program) → Within (after t free) (after t (lent r d))
   unfolding after
   within-after r d (stops n p) = same
-  within-after r d (gives p) = within-result p (analysed (given none none bytes ends names) p) (analysed (given (some r) (some d) bytes ends names) p) (meets p .full r d)
+  within-after r d (gives p) = within-result p (analysed (given none none bytes ends names) p) (analysed (given (some r) (some d) bytes ends names) p) (full (meets p) r d)
 
   -- buffers of any lengths: the same, or 7, or 8
   pub limits : (r d at : ℕ) → Within (analysis none none at bytes ends names words) (analysis (some r) (some d) at bytes ends names words)
   unfolding analysis entryOf
   limits r d at = within-unless (sizedProgram bytes ends words names) 5 0 (within-unless (sound bytes ends) 1 at (within-after r d (acceptedOf (namesOf bytes ends) words names)))
+
+  within-longer : (r d R D : ℕ) → r ≤ R → d ≤ D → (t : Told Program) → Within (after t (lent R D)) (after t (lent r d))
+  unfolding after
+  within-longer r d R D h i (stops n p) = same
+  within-longer r d R D h i (gives p) =
+      within-result p (analysed (given (some R) (some D) bytes ends names) p) (analysed (given (some r) (some d) bytes ends names) p) (longer (meets p) r d R D h i)
+
+  -- buffers of any lengths: the same as with any longer ones, or 7, or 8
+  pub longer-limits : (r d R D at : ℕ) → r ≤ R → d ≤ D → Within (analysis (some R) (some D) at bytes ends names words) (analysis (some r) (some d) at bytes ends names words)
+  unfolding analysis entryOf
+  longer-limits r d R D at h i =
+      within-unless (sizedProgram bytes ends words names) 5 0 (within-unless (sound bytes ends) 1 at (within-longer r d R D h i (acceptedOf (namesOf bytes ends) words names)))
 
   within-gives : {t u : Told Analysis} {a : Analysis} → Within t u → u ≡ gives a → t ≡ gives a
   within-gives same e = e

@@ -1,5 +1,5 @@
 -- What the lengths of the lent buffers do to collecting and the collision check: without limits only 9 stops them; with buffers that are long enough
--- they do what they do without limits; and with buffers of any length they do that, or stop with 7 or 8. Assumes nothing.
+-- they do what they do without limits; and with buffers of any length they do that, and all longer ones too, or they stop with 7 or 8. Assumes nothing.
 --
 -- The proof goes through the definition of `collect` once: each of its steps, under all rooms at once, keeps these three facts.
 use Prim.Native.Nat.{ℕ, zero, suc, _+_, _*_, _≤_, max}
@@ -11,7 +11,7 @@ use mathlib.Core.Option.{Option, none, some}
 use native.Mathlib.Omega.{arith}
 use lib.Dec.{eqb, leb}
 use lib.ListN.{length, getD}
-use borrow.Author.Tests.{le-leb}
+use borrow.Author.Tests.{le-leb, leb-true}
 use Rattle.words.specs.Word.{pick}
 use Rattle.table.specs.Rows.{Row, width, noteWidth}
 use Rattle.steps.specs.State.{State, running, stopped, Step, when, asking, each, stop, fits, change, enter, push}
@@ -26,27 +26,45 @@ pub data Full : State → Type 0 where
   seven : Full (stopped 7)
   eight : Full (stopped 8)
 
+-- buffers of r and d words, and all longer ones, do what no limits do
+abbrev pub From : (S : ℕ → ℕ → State) (t : State) (r d : ℕ) → Type 0
+From S t r d = (R D : ℕ) → r ≤ R → d ≤ D → S R D ≡ t
+
 -- S r d is the state under buffers of r and d words, t the state without limits
 pub record Meets (S : ℕ → ℕ → State) (t : State) : Type 0 where
   pub free : Free t
   pub enough : ℕ
   pub long : (r d : ℕ) → enough ≤ r → enough ≤ d → S r d ≡ t
-  pub full : (r d : ℕ) → (S r d ≡ t) ⊎ Full (S r d)
+  pub wider : (r d : ℕ) → From S t r d ⊎ Full (S r d)
 
 -- a step under all rooms, and without limits
 pub record Keeps (F : ℕ → ℕ → Step) (F₀ : Step) : Type 0 where
   pub on : (S : ℕ → ℕ → State) (t : State) → Meets S t → Meets (λ r d. F r d (S r d)) (F₀ t)
 
+module _ {S : ℕ → ℕ → State} {t : State} (m : Meets S t) where
+  pub full : (r d : ℕ) → (S r d ≡ t) ⊎ Full (S r d)
+  full r d = elim (m .wider r d) [ inl w ↦ inl (w r d (omega arith) (omega arith)) | inr f ↦ inr f ]
+
+  -- longer buffers do the same
+  pub longer : (r d R D : ℕ) → r ≤ R → d ≤ D → (S r d ≡ S R D) ⊎ Full (S r d)
+  longer r d R D h i = elim (m .wider r d) [ inl w ↦ inl (w r d (omega arith) (omega arith) ∙ sym (w R D h i)) | inr f ↦ inr f ]
+
 -- ---- how to show it
 
 pub constant : (rows notes : List Row) → Meets (λ r d. running rows notes) (running rows notes)
-constant rows notes = record { free = runs; enough = 0; long = λ r d h i. refl; full = λ r d. inl refl }
+constant rows notes = record { free = runs; enough = 0; long = λ r d h i. refl; wider = λ r d. inl (λ R D h i. refl) }
 
 -- from running states, where a stopped one stays
 module _ (F : ℕ → ℕ → Step) (F₀ : Step) (still : (r d n : ℕ) → F r d (stopped n) ≡ stopped n) (still₀ : (n : ℕ) → F₀ (stopped n) ≡ stopped n) (go : (rows notes : List Row) → Meets (λ r d. F r d (running rows notes)) (F₀ (running rows notes))) where
   stays : (r d : ℕ) (s : State) → Full s → Full (F r d s)
   stays r d _ seven = rw (still r d 7) seven
   stays r d _ eight = rw (still r d 8) eight
+
+  both : (S : ℕ → ℕ → State) (rows notes : List Row) (r d : ℕ) → From S (running rows notes) r d
+      → From (λ R D. F R D (running rows notes)) (F₀ (running rows notes)) r d ⊎ Full (F r d (running rows notes))
+      → From (λ R D. F R D (S R D)) (F₀ (running rows notes)) r d ⊎ Full (F r d (S r d))
+  both S rows notes r d w (inl v) = inl (λ R D h i. rw (w R D h i) (v R D h i))
+  both S rows notes r d w (inr f) = inr (rw (w r d (omega arith) (omega arith)) f)
 
   from-free : (S : ℕ → ℕ → State) (t : State) → Free t → Meets S t → Meets (λ r d. F r d (S r d)) (F₀ t)
   from-free S _ (runs {rows} {notes}) m =
@@ -55,14 +73,14 @@ module _ (F : ℕ → ℕ → Step) (F₀ : Step) (still : (r d n : ℕ) → F r
         free = g .free;
         enough = max (m .enough) (g .enough);
         long = λ r d h i. rw (m .long r d (omega arith) (omega arith)) (g .long r d (omega arith) (omega arith));
-        full = λ r d. elim (m .full r d) [ inl e ↦ rw e (g .full r d) | inr f ↦ inr (stays r d (S r d) f) ];
+        wider = λ r d. elim (m .wider r d) [ inl w ↦ both S rows notes r d w (g .wider r d) | inr f ↦ inr (stays r d (S r d) f) ];
       }
   from-free S _ nine m =
       record {
         free = rw (still₀ 9) nine;
         enough = m .enough;
         long = λ r d h i. rw (m .long r d h i, still r d 9, still₀ 9) refl;
-        full = λ r d. elim (m .full r d) [ inl e ↦ inl (rw (e, still r d 9, still₀ 9) refl) | inr f ↦ inr (stays r d (S r d) f) ];
+        wider = λ r d. elim (m .wider r d) [ inl w ↦ inl (λ R D h i. rw (w R D h i, still R D 9, still₀ 9) refl) | inr f ↦ inr (stays r d (S r d) f) ];
       }
 
   pub pointwise : Keeps F F₀
@@ -70,30 +88,53 @@ module _ (F : ℕ → ℕ → Step) (F₀ : Step) (still : (r d n : ℕ) → F r
 
 -- ---- the few things that collecting does
 
+-- what needs n words has room in r words, and in all more, or it is stopped
+roomed : {S : ℕ → State} {t : State} (n : ℕ) → ((r : ℕ) → n ≤ r → S r ≡ t) → ((r : ℕ) → leb n r ≡ false → Full (S r))
+    → (r : ℕ) → ((R : ℕ) → r ≤ R → S R ≡ t) ⊎ Full (S r)
+roomed {S} {t} n fit not-fit r = go (leb n r) refl
+  where
+    go : (b : Bool) → leb n r ≡ b → ((R : ℕ) → r ≤ R → S R ≡ t) ⊎ Full (S r)
+    go true q = let h : n ≤ r = leb-true n r q in inl (λ R i. fit R (omega arith))
+    go false q = inr (not-fit r q)
+
 pub push-k : (row : Row) → Keeps (λ r d. push (some d) row) (push none row)
 unfolding push fits
-push-k row =
-    pointwise (λ r d. push (some d) row) (push none row) (λ r d n. refl) (λ n. refl) (λ rows notes. record { free = runs; enough = length (notes ++ (row ∷ [])) * noteWidth; long = λ r d h i. rw (le-leb (length (notes ++ (row ∷ [])) * noteWidth) d i) refl; full = λ r d. go rows (notes ++ (row ∷ [])) (leb (length (notes ++ (row ∷ [])) * noteWidth) d) })
+push-k row = pointwise (λ r d. push (some d) row) (push none row) (λ r d n. refl) (λ n. refl) go
   where
-    go : (rows notes : List Row) (b : Bool) → (pick b (running rows notes) (stopped 8) ≡ running rows notes) ⊎ Full (pick b (running rows notes) (stopped 8))
-    go rows notes true = inl refl
-    go rows notes false = inr eight
+    go : (rows notes : List Row) → Meets (λ r d. push (some d) row (running rows notes)) (push none row (running rows notes))
+    go rows notes =
+        let n = length (notes ++ (row ∷ [])) * noteWidth in
+        let fit : (d : ℕ) → n ≤ d → push (some d) row (running rows notes) ≡ push none row (running rows notes) = λ d h. rw (le-leb n d h) refl in
+        let full : (d : ℕ) → leb n d ≡ false → Full (push (some d) row (running rows notes)) = λ d q. rw q eight in
+        record {
+          free = runs;
+          enough = n;
+          long = λ r d h i. fit d i;
+          wider = λ r d. elim (roomed n fit full d) [ inl w ↦ inl (λ R D h i. w D i) | inr f ↦ inr f ];
+        }
 
 pub change-k : (f : List Row → List Row) → Keeps (λ r d. change (some r) f) (change none f)
 unfolding change fits
-change-k f =
-    pointwise (λ r d. change (some r) f) (change none f) (λ r d n. refl) (λ n. refl) (λ rows notes. record { free = runs; enough = length (f rows) * width; long = λ r d h i. rw (le-leb (length (f rows) * width) r h) refl; full = λ r d. go (f rows) notes (leb (length (f rows) * width) r) })
+change-k f = pointwise (λ r d. change (some r) f) (change none f) (λ r d n. refl) (λ n. refl) go
   where
-    go : (rows notes : List Row) (b : Bool) → (pick b (running rows notes) (stopped 7) ≡ running rows notes) ⊎ Full (pick b (running rows notes) (stopped 7))
-    go rows notes true = inl refl
-    go rows notes false = inr seven
+    go : (rows notes : List Row) → Meets (λ r d. change (some r) f (running rows notes)) (change none f (running rows notes))
+    go rows notes =
+        let n = length (f rows) * width in
+        let fit : (r : ℕ) → n ≤ r → change (some r) f (running rows notes) ≡ change none f (running rows notes) = λ r h. rw (le-leb n r h) refl in
+        let full : (r : ℕ) → leb n r ≡ false → Full (change (some r) f (running rows notes)) = λ r q. rw q seven in
+        record {
+          free = runs;
+          enough = n;
+          long = λ r d h i. fit r h;
+          wider = λ r d. elim (roomed n fit full r) [ inl w ↦ inl (λ R D h i. w R h) | inr f ↦ inr f ];
+        }
 
 pub nothing-k : Keeps (λ r d s. s) (λ s. s)
 nothing-k = record { on = λ S t m. m }
 
 pub stop-k : Keeps (λ r d. stop 9) (stop 9)
 unfolding stop
-stop-k = pointwise (λ r d. stop 9) (stop 9) (λ r d n. refl) (λ n. refl) (λ rows notes. record { free = nine; enough = 0; long = λ r d h i. refl; full = λ r d. inl refl })
+stop-k = pointwise (λ r d. stop 9) (stop 9) (λ r d n. refl) (λ n. refl) (λ rows notes. record { free = nine; enough = 0; long = λ r d h i. refl; wider = λ r d. inl (λ R D h i. refl) })
 
 module _ {F H : ℕ → ℕ → Step} {F₀ H₀ : Step} (f : Keeps F F₀) (h : Keeps H H₀) where
   pub then-k : Keeps (λ r d s. H r d (F r d s)) (λ s. H₀ (F₀ s))

@@ -1,11 +1,12 @@
 -- The listing from its parts: the text of an answer by its case, and an image's text from the parts that were read of it.
-use Prim.Native.Nat.{ℕ, _+_, _-_, _*_}
+use Prim.Native.Nat.{ℕ, _+_, _-_, _*_, _≤_}
 use native.Mathlib.Omega.{arith}
-use mathlib.Core.Path.{_≡_, refl, ap, _∙_}
+use mathlib.Core.Path.{_≡_, refl, sym, ap, _∙_}
+use mathlib.Core.Logic.{_⊎_, inl, inr}
 use mathlib.Core.List.{List}
 use mathlib.Core.Bool.{Bool, true, false}
 use mathlib.Core.Option.{Option, none, some}
-use lib.Dec.{leb}
+use borrow.Author.Tests.{le-leb, ne-eqb}
 use lib.ListN.{length, take, drop}
 use Rattle.words.specs.Told.{Told, stops, gives, unless}
 use Rattle.words.specs.Refusals.{numberOf, refused}
@@ -13,20 +14,21 @@ use Rattle.words.specs.declared.Refusal.{Refusal}
 use Rattle.text.specs.Wrote.{Wrote}
 use Rattle.strings.specs.Table.{sound}
 use Rattle.strings.specs.Open.{entryOf}
-use Rattle.reader.specs.Sized.{sizedStrings, sizedTree, sizedProgram}
+use Rattle.reader.specs.Sized.{sizedProgram}
 use Rattle.table.specs.Rows.{width, noteWidth}
 use Rattle.image.specs.Image.{wordsAt, treeFrom, erasedFrom, bytesFrom, parts, decode}
-use Rattle.image.specs.Laws.{Shaped, both}
+use Rattle.image.specs.Laws.{Shaped}
 use Rattle.page.specs.Page.{page, refusal}
 use Rattle.page.specs.Chunks.{chunks}
 use Rattle.equivalence.specs.Analysis.{Analysis, analysis}
-use Rattle.analyse.specs.Analyse.{Analyses, Tells, work, analysisIn}
+use Rattle.equivalence.specs.AcceptedLaws.{Within as Longer, same, rows-full, notes-full, longer-limits}
+use Rattle.analyse.specs.Analyse.{Analyses, Tells, work, analysisIn, told, counted}
 use Rattle.analyse.specs.ReadOff.{shownOf, readOff, Within, read-off, within}
 use Rattle.analyse.specs.declared.Given.{Given}
 use Rattle.analyse.specs.declared.Answer.{Answer}
 use Rattle.analyse.specs.declared.Answer.the-variants.{Refused, Done}
 use Rattle.listing.specs.Listing.{textOf, listed, analysed, listing}
-use Rattle.listing.specs.Shown.{shownText, answerText}
+use Rattle.listing.specs.Shown.{shownText, answerText, limit, tooShort}
 
 -- ---- an answer's text
 
@@ -37,35 +39,56 @@ placeless bytes ends false t at u = refl
 placeless bytes ends true false at u = refl
 placeless bytes ends true true at u = refl
 
-tree-fits : (bytes ends erased words : List ℕ) → sizedProgram bytes ends words erased ≡ true → leb (length words) 8192 ≡ true
-unfolding sizedProgram sizedTree
-tree-fits bytes ends erased words h = both (sizedStrings bytes ends) (leb (length words) 8192) (both (sizedTree bytes ends words) (leb (length erased) 1024) h .0) .1
-
--- an output that has room for every tree never makes 10
-roomy : (rows notes at : ℕ) (bytes ends erased words : List ℕ) → analysisIn rows notes 8192 at bytes ends erased words ≡ analysis (some rows) (some notes) at bytes ends erased words
-unfolding analysisIn work analysis entryOf unless
-roomy rows notes at bytes ends erased words = go (sizedProgram bytes ends words erased) refl
-  where
-    go : (t : Bool) → sizedProgram bytes ends words erased ≡ t → analysisIn rows notes 8192 at bytes ends erased words ≡ analysis (some rows) (some notes) at bytes ends erased words
-    go false q = rw q
-    go true q = rw (q, tree-fits bytes ends erased words q)
+-- an output that has room for the tree never makes 10
+roomy : (rows notes out at : ℕ) (bytes ends erased words : List ℕ) → length words ≤ out → analysisIn rows notes out at bytes ends erased words ≡ analysis (some rows) (some notes) at bytes ends erased words
+unfolding analysisIn work analysis unless
+roomy rows notes out at bytes ends erased words h = rw (le-leb (length words) out h)
 
 shown-text : (bytes ends : List ℕ) (u : Told Analysis) → shownText bytes ends (shownOf u) ≡ textOf bytes ends u
 unfolding shownText shownOf textOf
 shown-text bytes ends (stops n p) = refl
 shown-text bytes ends (gives a) = refl
 
--- with room for so many rows and diagnostics and for every tree, the answer's text is that of the analysis
-pub text-analysed : {bytes ends erased words notes rows out notes′ rows′ out′ : List ℕ} {r : Answer} → Analyses bytes ends erased words r notes rows out notes′ rows′ out′
-    → length rows ≡ 12288 → length notes ≡ 12288 → length out ≡ 8192
-    → answerText bytes ends r notes′ rows′ out′ ≡ textOf bytes ends (analysis (some 12288) (some 12288) 0 bytes ends erased words)
-unfolding answerText analysis entryOf
-text-analysed {bytes} {ends} {erased} {words} {notes} {rows} {out} {notes′} {rows′} {out′} {r} a h₁ h₂ h₃ =
-    let t : Tells r notes rows out notes′ rows′ out′ (analysisIn 12288 12288 8192 (a .at) bytes ends erased words) = rw (h₁, h₂, h₃) at (a .is) in
-    ap (shownText bytes ends) (read-off r _ t)
-    ∙ shown-text bytes ends (analysisIn 12288 12288 8192 (a .at) bytes ends erased words)
-    ∙ ap (textOf bytes ends) (roomy 12288 12288 (a .at) bytes ends erased words)
-    ∙ placeless bytes ends (sizedProgram bytes ends words erased) (sound bytes ends) (a .at) _
+-- an answer that is neither 7 nor 8 is that of all longer buffers
+refused-number : (f : Refusal) (n p : ℕ) → told (Refused f) ≡ counted (stops n p) → numberOf f ≡ n
+unfolding told counted refused
+refused-number f n p e = cc
+
+limit-short : (r : Answer) (n p : ℕ) → limit n ≡ true → told r ≡ counted (stops n p) → tooShort r ≡ true
+unfolding tooShort told counted
+limit-short (Refused f) n p l e = rw (refused-number f n p e) l
+limit-short (Done m) n p l e = absurd (let z : _≡_ {A = ℕ} 0 1 = cc in omega arith)
+
+not-short : (r : Answer) {t u : Told Analysis} → tooShort r ≡ false → told r ≡ counted u → Longer t u → u ≡ t
+unfolding limit
+not-short r q e same = refl
+not-short r q e rows-full = absurd (let z : _≡_ {A = Bool} true false = sym (limit-short r 7 0 refl e) ∙ q in let w : _≡_ {A = ℕ} 0 1 = cc in omega arith)
+not-short r q e notes-full = absurd (let z : _≡_ {A = Bool} true false = sym (limit-short r 8 0 refl e) ∙ q in let w : _≡_ {A = ℕ} 0 1 = cc in omega arith)
+
+-- with room for the tree, the answer's text is that of the analysis in so much room, whatever the place of 1
+module _ {bytes ends erased words notes rows out notes′ rows′ out′ : List ℕ} {r : Answer} (a : Analyses bytes ends erased words r notes rows out notes′ rows′ out′) {k : ℕ} (e : length out ≡ k) (h : length words ≤ k) where
+  abbrev lent : Told Analysis
+  lent = analysis (some (length rows)) (some (length notes)) (a .at) bytes ends erased words
+
+  tells : Tells r notes rows out notes′ rows′ out′ lent
+  tells = rw (roomy (length rows) (length notes) (length out) (a .at) bytes ends erased words (rw e h)) at (a .is)
+
+  text-lent : answerText bytes ends r notes′ rows′ out′ ≡ textOf bytes ends lent
+  unfolding answerText
+  text-lent = ap (shownText bytes ends) (read-off r lent tells) ∙ shown-text bytes ends lent
+
+  -- in the room that is promised
+  pub text-full : length rows ≡ 12288 → length notes ≡ 12288 → answerText bytes ends r notes′ rows′ out′ ≡ textOf bytes ends (analysis (some 12288) (some 12288) 0 bytes ends erased words)
+  unfolding analysis entryOf
+  text-full h₁ h₂ = text-lent ∙ rw (h₁, h₂) (placeless bytes ends (sizedProgram bytes ends words erased) (sound bytes ends) (a .at) _)
+
+  -- in less, where it was not too short
+  pub text-few : tooShort r ≡ false → length rows ≡ 384 → length notes ≡ 384 → answerText bytes ends r notes′ rows′ out′ ≡ textOf bytes ends (analysis (some 12288) (some 12288) 0 bytes ends erased words)
+  unfolding analysis entryOf
+  text-few q h₁ h₂ =
+      text-lent
+      ∙ ap (textOf bytes ends) (not-short r q (tells .answer) (longer-limits bytes ends erased words (length rows) (length notes) 12288 12288 (a .at) (omega (arith, h₁)) (omega (arith, h₂))))
+      ∙ placeless bytes ends (sizedProgram bytes ends words erased) (sound bytes ends) (a .at) _
 
 pub counts-within : {bytes ends erased words notes rows out notes′ rows′ out′ : List ℕ} {r : Answer} → Analyses bytes ends erased words r notes rows out notes′ rows′ out′ → Within r notes′ rows′ out′
 counts-within {r = r} a = within r _ (a .is)
@@ -81,6 +104,23 @@ module _ (bytes ends notes rows words : List ℕ) {b c : List ℕ} {i j : ℕ} {
 
 pub within-done : (a : Answer) (n : Given) (notes rows words : List ℕ) → a ≡ Done n → Within a notes rows words → Within (Done n) notes rows words
 within-done a n notes rows words e h = rw e at h
+
+pub when-limit : (n : ℕ) → (n ≡ 7) ⊎ (n ≡ 8) → true ≡ limit n
+unfolding limit
+when-limit n (inl e) = rw e refl
+when-limit n (inr e) = rw e refl
+
+pub no-limit : (n : ℕ) → (n ≡ 7 → ⊥) → (n ≡ 8 → ⊥) → false ≡ limit n
+unfolding limit
+no-limit n h i = rw (ne-eqb n 7 h, ne-eqb n 8 i) refl
+
+pub refused-short : {a : Answer} {f : Refusal} {n : ℕ} {b : Bool} → a ≡ Refused f → n ≡ numberOf f → b ≡ limit n → b ≡ tooShort a
+unfolding tooShort
+refused-short e k l = rw (e, ← k) l
+
+pub done-short : {a : Answer} {n : Given} → a ≡ Done n → false ≡ tooShort a
+unfolding tooShort
+done-short e = rw e refl
 
 -- ---- an image's text
 

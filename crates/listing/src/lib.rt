@@ -2,6 +2,7 @@
 use analyse::Answer;
 use analyse::analyse;
 use image::Opened;
+use image::Shape;
 use image::open;
 use image::read_words;
 use page::Counts;
@@ -11,14 +12,15 @@ use text::finish;
 use words::number;
 ghost use mathlib.Core.Path.{_≡_};
 ghost use mathlib.Core.Option.{some};
-ghost use Prim.Native.Nat.{_*_};
+ghost use Prim.Native.Nat.{_*_, _≤_};
+ghost use lib.ListN.{length};
 ghost use Rattle.text.specs.Wrote.{Wrote, size, laid};
 ghost use Rattle.table.specs.Rows.{width, noteWidth};
 ghost use Rattle.image.specs.Laws.{Shaped};
 ghost use Rattle.equivalence.specs.Analysis.{analysis};
 ghost use Rattle.analyse.specs.ReadOff.{Within};
 ghost use Rattle.listing.specs.Listing.{textOf, listing as listingOf};
-ghost use Rattle.listing.specs.Shown.{answerText};
+ghost use Rattle.listing.specs.Shown.{answerText, limit, tooShort};
 
 // The text of an answer and of what stands in the buffers.
 fn put_answer(
@@ -50,8 +52,29 @@ fn put_answer(
     }
 }
 
-// The text of what the passes give; the buffers for it are this function's own.
-fn put_analysed(out: &mut [u8], bytes: &[u8], ends: &[u32], words: &[u32], erased: &[u32]) -> usize
+fn full(number: u32) -> bool
+    ensures { λ r. ⌜ r ≡ limit number ⌝ }
+{
+    match number {
+        7 => true,
+        8 => true,
+        _ => false,
+    }
+}
+
+// Whether the rows or the diagnostics had too little room.
+fn too_short(a: Answer) -> bool
+    ensures { λ r. ⌜ r ≡ tooShort a ⌝ }
+{
+    match a {
+        Answer::Refused(r) => full(number(r)),
+        Answer::Done(_) => false,
+    }
+}
+
+// The text of what the passes give, with the room that is promised.
+fn put_full(out: &mut [u8], bytes: &[u8], ends: &[u32], words: &[u32], erased: &[u32]) -> usize
+    requires { ⌜ length (now words) ≤ 8192 ⌝ }
     ensures { λ r. ⌜ Wrote (textOf (now (bytes .entry)) (now (ends .entry)) (analysis (some (2048 * width)) (some (2048 * noteWidth)) 0 (now (bytes .entry)) (now (ends .entry)) (now (erased .entry)) (now (words .entry)))) (now (out .entry)) (now (out .exit)) 0 r ⌝ }
 {
     let mut notes = [0u32; 12288];
@@ -69,42 +92,112 @@ fn put_analysed(out: &mut [u8], bytes: &[u8], ends: &[u32], words: &[u32], erase
     put_answer(out, bytes, ends, &notes, &rows, &resolved, a)
 }
 
-// An image's words read into buffers; its string bytes stay where they are.
-fn put_image(
+// The same for few words: with 64 rows and 64 diagnostics, and where they are too few once more with all. To clear all costs more than a small program does.
+fn put_few(out: &mut [u8], bytes: &[u8], ends: &[u32], words: &[u32], erased: &[u32]) -> usize
+    requires { ⌜ length (now words) ≤ 1024 ⌝ }
+    ensures { λ r. ⌜ Wrote (textOf (now (bytes .entry)) (now (ends .entry)) (analysis (some (2048 * width)) (some (2048 * noteWidth)) 0 (now (bytes .entry)) (now (ends .entry)) (now (erased .entry)) (now (words .entry)))) (now (out .entry)) (now (out .exit)) 0 r ⌝ }
+{
+    let mut notes = [0u32; 384];
+    let mut rows = [0u32; 384];
+    let mut resolved = [0u32; 1024];
+    let a = analyse(
+        bytes,
+        ends,
+        words,
+        erased,
+        &mut notes,
+        &mut rows,
+        &mut resolved,
+    );
+    if too_short(a) {
+        return put_full(out, bytes, ends, words, erased);
+    }
+    put_answer(out, bytes, ends, &notes, &rows, &resolved, a)
+}
+
+// Many names mean many rows: then the short buffers aren't tried.
+fn put_analysed(out: &mut [u8], bytes: &[u8], ends: &[u32], words: &[u32], erased: &[u32]) -> usize
+    requires { ⌜ length (now words) ≤ 8192 ⌝ }
+    ensures { λ r. ⌜ Wrote (textOf (now (bytes .entry)) (now (ends .entry)) (analysis (some (2048 * width)) (some (2048 * noteWidth)) 0 (now (bytes .entry)) (now (ends .entry)) (now (erased .entry)) (now (words .entry)))) (now (out .entry)) (now (out .exit)) 0 r ⌝ }
+{
+    if 1024 < words.len() {
+        return put_full(out, bytes, ends, words, erased);
+    }
+    if 64 < ends.len() {
+        return put_full(out, bytes, ends, words, erased);
+    }
+    put_few(out, bytes, ends, words, erased)
+}
+
+// An image's words read into lent buffers; its string bytes stay where they are.
+fn put_read(
     out: &mut [u8],
     image: &[u8],
-    strings: usize,
-    count: usize,
-    names: usize,
-    size: usize,
+    s: Shape,
+    ends: &mut [u32],
+    words: &mut [u32],
+    erased: &mut [u32],
 ) -> usize
-    requires { ⌜ Shaped (now image) strings count names size ⌝ }
+    requires { ⌜ Shaped (now image) (s .strings) (s .words) (s .erased) (s .bytes) × (s .strings ≤ length (now ends)) × (s .words ≤ length (now words)) × (s .erased ≤ length (now erased)) ⌝ }
     ensures { λ r. ⌜ Wrote (listingOf (now (image .entry))) (now (out .entry)) (now (out .exit)) 0 r ⌝ }
 {
-    let tree_from = 12 + 4 * strings;
-    let erased_from = tree_from + 4 * count;
-    let from = erased_from + 4 * names;
-    let to = from + size;
-    let mut ends = [0u32; 1024];
-    let mut words = [0u32; 8192];
-    let mut erased = [0u32; 1024];
-    read_words(image, 12, strings, &mut ends);
-    read_words(image, tree_from, count, &mut words);
-    read_words(image, erased_from, names, &mut erased);
+    let tree_from = 12 + 4 * s.strings;
+    let erased_from = tree_from + 4 * s.words;
+    let from = erased_from + 4 * s.erased;
+    let to = from + s.bytes;
+    read_words(image, 12, s.strings, ends);
+    read_words(image, tree_from, s.words, words);
+    read_words(image, erased_from, s.erased, erased);
     put_analysed(
         out,
         &image[from..to],
-        &ends[..strings],
-        &words[..count],
-        &erased[..names],
+        &ends[..s.strings],
+        &words[..s.words],
+        &erased[..s.erased],
     )
+}
+
+fn put_small(out: &mut [u8], image: &[u8], s: Shape) -> usize
+    requires { ⌜ Shaped (now image) (s .strings) (s .words) (s .erased) (s .bytes) × (s .strings ≤ 64) × (s .words ≤ 1024) × (s .erased ≤ 64) ⌝ }
+    ensures { λ r. ⌜ Wrote (listingOf (now (image .entry))) (now (out .entry)) (now (out .exit)) 0 r ⌝ }
+{
+    let mut ends = [0u32; 64];
+    let mut words = [0u32; 1024];
+    let mut erased = [0u32; 64];
+    put_read(out, image, s, &mut ends, &mut words, &mut erased)
+}
+
+fn put_large(out: &mut [u8], image: &[u8], s: Shape) -> usize
+    requires { ⌜ Shaped (now image) (s .strings) (s .words) (s .erased) (s .bytes) ⌝ }
+    ensures { λ r. ⌜ Wrote (listingOf (now (image .entry))) (now (out .entry)) (now (out .exit)) 0 r ⌝ }
+{
+    let mut ends = [0u32; 1024];
+    let mut words = [0u32; 8192];
+    let mut erased = [0u32; 1024];
+    put_read(out, image, s, &mut ends, &mut words, &mut erased)
+}
+
+fn put_image(out: &mut [u8], image: &[u8], s: Shape) -> usize
+    requires { ⌜ Shaped (now image) (s .strings) (s .words) (s .erased) (s .bytes) ⌝ }
+    ensures { λ r. ⌜ Wrote (listingOf (now (image .entry))) (now (out .entry)) (now (out .exit)) 0 r ⌝ }
+{
+    if 1024 < s.words {
+        return put_large(out, image, s);
+    }
+    if 64 < s.strings {
+        return put_large(out, image, s);
+    }
+    if 64 < s.erased {
+        return put_large(out, image, s);
+    }
+    put_small(out, image, s)
 }
 
 fn put_listing(out: &mut [u8], image: &[u8]) -> usize
     ensures { λ r. ⌜ Wrote (listingOf (now (image .entry))) (now (out .entry)) (now (out .exit)) 0 r ⌝ }
 {
     match open(image) {
-        Opened::Whole(s) => put_image(out, image, s.strings, s.words, s.erased, s.bytes),
+        Opened::Whole(s) => put_image(out, image, s),
         Opened::Malformed => put_refusal(out, 5),
     }
 }

@@ -1,52 +1,45 @@
--- put_analysed: what the passes tell has the text of what their definition gives, whatever the place of number 1 (`text-analysed`).
-use mathlib.Core.Path.{refl}
-use Rattle.text.specs.Laws.{same}
-use Rattle.listing.proofs.Laws.{text-analysed, counts-within}
+-- put_analysed: both ways write the same.
 use borrow.Author.Needs.{needs}
 use Rattle.listing.proofs.put_analysed.Statement.{statement}
 use Rattle.listing.proofs.put_analysed.Tie as tie
 
-slice-aggregate-analyse : tie.Need-slice-aggregate-analyse
-slice-aggregate-analyse c = search needs
-
-slice-aggregate-analyse-2 : tie.Need-slice-aggregate-analyse-2
-slice-aggregate-analyse-2 c = search needs
-
-slice-aggregate-analyse-3 : tie.Need-slice-aggregate-analyse-3
-slice-aggregate-analyse-3 c = search needs
-
-analyse-requires : tie.Need-analyse-requires
-analyse-requires c κs = search needs
-
-slice-aggregate-put-answer : tie.Need-slice-aggregate-put-answer
-slice-aggregate-put-answer c = search needs
-
-slice-aggregate-put-answer-2 : tie.Need-slice-aggregate-put-answer-2
-slice-aggregate-put-answer-2 c = search needs
-
-slice-aggregate-put-answer-3 : tie.Need-slice-aggregate-put-answer-3
-slice-aggregate-put-answer-3 c = search needs
-
-put-answer-requires : tie.Need-put-answer-requires
-put-answer-requires c κs = counts-within (c .before .before .before .before .before .before .before .analyse .ensures)
+put-full-requires : tie.Need-put-full-requires
+put-full-requires c κs = search needs
 
 same-length : tie.Need-same-length
 same-length c = search needs
 
 returns : tie.Need-returns
-returns c = same (text-analysed (c .before .before .before .before .before .before .before .before .before .before .analyse .ensures) refl refl refl) (c .before .before .put-answer .ensures)
+returns c = c .before .before .put-full .ensures
+
+put-full-requires-2 : tie.Need-put-full-requires-2
+put-full-requires-2 c κs = search needs
+
+same-length-2 : tie.Need-same-length-2
+same-length-2 c = search needs
+
+returns-2 : tie.Need-returns-2
+returns-2 c = c .before .before .put-full2 .ensures
+
+put-few-requires : tie.Need-put-few-requires
+put-few-requires c κs = search needs
+
+same-length-3 : tie.Need-same-length-3
+same-length-3 c = search needs
+
+returns-3 : tie.Need-returns-3
+returns-3 c = c .before .before .put-few .ensures
 
 pub put-analysed-spec : {M : Type 1} → statement M
 put-analysed-spec =
     tie.close
     (tie.spec
-    slice-aggregate-analyse
-    slice-aggregate-analyse-2
-    slice-aggregate-analyse-3
-    analyse-requires
-    slice-aggregate-put-answer
-    slice-aggregate-put-answer-2
-    slice-aggregate-put-answer-3
-    put-answer-requires
+    put-full-requires
     same-length
-    returns)
+    returns
+    put-full-requires-2
+    same-length-2
+    returns-2
+    put-few-requires
+    same-length-3
+    returns-3)

@@ -1,112 +1,57 @@
--- put_image: the parts read are the parts of the image, so that the text is the listing (`image-text`).
-use Prim.Native.Nat.{_+_, _*_}
-use Rattle.image.specs.Laws.{front, front-length}
-use Rattle.listing.proofs.Laws.{image-text, from-to}
+-- put_image: by the sizes, the buffers.
 use borrow.Author.Needs.{needs}
 use Rattle.listing.proofs.put_image.Statement.{statement}
 use Rattle.listing.proofs.put_image.Tie as tie
 
-mul-tree-from : tie.Need-mul-tree-from
-mul-tree-from c = search needs
-
-add-tree-from : tie.Need-add-tree-from
-add-tree-from c = search needs
-
-mul-erased-from : tie.Need-mul-erased-from
-mul-erased-from c = search needs
-
-add-erased-from : tie.Need-add-erased-from
-add-erased-from c = search needs
-
-mul-from : tie.Need-mul-from
-mul-from c = search needs
-
-add-from : tie.Need-add-from
-add-from c = search needs
-
-add-to : tie.Need-add-to
-add-to c = search needs
-
-slice-aggregate-read-words : tie.Need-slice-aggregate-read-words
-slice-aggregate-read-words c = search needs
-
-read-words-requires : tie.Need-read-words-requires
-read-words-requires c κs = search needs
-
-slice-aggregate-read-words-2 : tie.Need-slice-aggregate-read-words-2
-slice-aggregate-read-words-2 c = search needs
-
-read-words-requires-2 : tie.Need-read-words-requires-2
-read-words-requires-2 c κs = search needs
-
-slice-aggregate-read-words-3 : tie.Need-slice-aggregate-read-words-3
-slice-aggregate-read-words-3 c = search needs
-
-read-words-requires-3 : tie.Need-read-words-requires-3
-read-words-requires-3 c κs = search needs
-
-sub-put-analysed : tie.Need-sub-put-analysed
-sub-put-analysed c = search needs
-
-part-put-analysed-start : tie.Need-part-put-analysed-start
-part-put-analysed-start c = search needs
-
-part-put-analysed-end : tie.Need-part-put-analysed-end
-part-put-analysed-end c = search needs
-
-array-share-prefix-ends : tie.Need-array-share-prefix-ends
-array-share-prefix-ends c = search needs
-
-slice-aggregate-put-analysed : tie.Need-slice-aggregate-put-analysed
-slice-aggregate-put-analysed c = front-length (c .before .before .before .before .before .before .before .before .before .before .before .before .before .before .args .image .now) 12 (c .before .before .before .before .before .before .before .before .before .before .before .before .before .before .args .strings) _ _ (c .before .before .before .before .before .before .before .before .before .before .read-words .ensures)
-
-array-share-prefix-words : tie.Need-array-share-prefix-words
-array-share-prefix-words c = search needs
-
-slice-aggregate-put-analysed-2 : tie.Need-slice-aggregate-put-analysed-2
-slice-aggregate-put-analysed-2 c = front-length (c .before .before .before .before .before .before .before .before .before .before .before .before .before .before .before .args .image .now) (12 + 4 * (c .before .before .before .before .before .before .before .before .before .before .before .before .before .before .before .args .strings)) (c .before .before .before .before .before .before .before .before .before .before .before .before .before .before .before .args .count) _ _ (c .before .before .before .before .before .before .before .before .read-words2 .ensures)
-
-array-share-prefix-erased : tie.Need-array-share-prefix-erased
-array-share-prefix-erased c = search needs
-
-slice-aggregate-put-analysed-3 : tie.Need-slice-aggregate-put-analysed-3
-slice-aggregate-put-analysed-3 c = front-length (c .before .before .before .before .before .before .before .before .before .before .before .before .before .before .before .before .args .image .now) (12 + 4 * (c .before .before .before .before .before .before .before .before .before .before .before .before .before .before .before .before .args .strings) + 4 * (c .before .before .before .before .before .before .before .before .before .before .before .before .before .before .before .before .args .count)) (c .before .before .before .before .before .before .before .before .before .before .before .before .before .before .before .before .args .names) _ _ (c .before .before .before .before .before .before .read-words3 .ensures)
-
-put-analysed-requires : tie.Need-put-analysed-requires
-put-analysed-requires c κs = search needs
+put-large-requires : tie.Need-put-large-requires
+put-large-requires c κs = search needs
 
 same-length : tie.Need-same-length
 same-length c = search needs
 
 returns : tie.Need-returns
-returns c = image-text (c .before .before .before .before .before .before .before .before .before .before .before .before .before .before .before .before .before .before .before .args .image .now) (c .before .before .before .before .before .before .before .before .before .before .before .before .before .before .before .before .before .before .before .pre) _ _ _ _ (from-to (c .before .before .before .before .before .before .before .before .before .before .before .before .before .before .before .before .before .before .before .args .image .now) (12 + 4 * (c .before .before .before .before .before .before .before .before .before .before .before .before .before .before .before .before .before .before .before .args .strings) + 4 * (c .before .before .before .before .before .before .before .before .before .before .before .before .before .before .before .before .before .before .before .args .count) + 4 * (c .before .before .before .before .before .before .before .before .before .before .before .before .before .before .before .before .before .before .before .args .names)) (c .before .before .before .before .before .before .before .before .before .before .before .before .before .before .before .before .before .before .before .args .size)) (front (c .before .before .before .before .before .before .before .before .before .before .before .before .before .before .before .before .before .before .before .args .image .now) 12 (c .before .before .before .before .before .before .before .before .before .before .before .before .before .before .before .before .before .before .before .args .strings) _ _ (c .before .before .before .before .before .before .before .before .before .before .before .before .before .before .before .read-words .ensures)) (front (c .before .before .before .before .before .before .before .before .before .before .before .before .before .before .before .before .before .before .before .args .image .now) (12 + 4 * (c .before .before .before .before .before .before .before .before .before .before .before .before .before .before .before .before .before .before .before .args .strings)) (c .before .before .before .before .before .before .before .before .before .before .before .before .before .before .before .before .before .before .before .args .count) _ _ (c .before .before .before .before .before .before .before .before .before .before .before .before .read-words2 .ensures)) (front (c .before .before .before .before .before .before .before .before .before .before .before .before .before .before .before .before .before .before .before .args .image .now) (12 + 4 * (c .before .before .before .before .before .before .before .before .before .before .before .before .before .before .before .before .before .before .before .args .strings) + 4 * (c .before .before .before .before .before .before .before .before .before .before .before .before .before .before .before .before .before .before .before .args .count)) (c .before .before .before .before .before .before .before .before .before .before .before .before .before .before .before .before .before .before .before .args .names) _ _ (c .before .before .before .before .before .before .before .before .before .read-words3 .ensures)) (c .before .before .put-analysed .ensures)
+returns c = c .before .before .put-large .ensures
+
+put-large-requires-2 : tie.Need-put-large-requires-2
+put-large-requires-2 c κs = search needs
+
+same-length-2 : tie.Need-same-length-2
+same-length-2 c = search needs
+
+returns-2 : tie.Need-returns-2
+returns-2 c = c .before .before .put-large2 .ensures
+
+put-large-requires-3 : tie.Need-put-large-requires-3
+put-large-requires-3 c κs = search needs
+
+same-length-3 : tie.Need-same-length-3
+same-length-3 c = search needs
+
+returns-3 : tie.Need-returns-3
+returns-3 c = c .before .before .put-large3 .ensures
+
+put-small-requires : tie.Need-put-small-requires
+put-small-requires c κs = (c .before .before .before .before .before .before .before .before .before .pre, c .before .before .before .if2 .left, c .before .before .before .before .before .if1 .left, c .before .if3 .left)
+
+same-length-4 : tie.Need-same-length-4
+same-length-4 c = search needs
+
+returns-4 : tie.Need-returns-4
+returns-4 c = c .before .before .put-small .ensures
 
 pub put-image-spec : {M : Type 1} → statement M
 put-image-spec =
     tie.close
     (tie.spec
-    mul-tree-from
-    add-tree-from
-    mul-erased-from
-    add-erased-from
-    mul-from
-    add-from
-    add-to
-    slice-aggregate-read-words
-    read-words-requires
-    slice-aggregate-read-words-2
-    read-words-requires-2
-    slice-aggregate-read-words-3
-    read-words-requires-3
-    sub-put-analysed
-    part-put-analysed-start
-    part-put-analysed-end
-    array-share-prefix-ends
-    slice-aggregate-put-analysed
-    array-share-prefix-words
-    slice-aggregate-put-analysed-2
-    array-share-prefix-erased
-    slice-aggregate-put-analysed-3
-    put-analysed-requires
+    put-large-requires
     same-length
-    returns)
+    returns
+    put-large-requires-2
+    same-length-2
+    returns-2
+    put-large-requires-3
+    same-length-3
+    returns-3
+    put-small-requires
+    same-length-4
+    returns-4)

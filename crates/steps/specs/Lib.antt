@@ -2,3 +2,4 @@ pub mod State
 pub mod Held
 pub mod Laws
 pub mod Compose
+pub mod RowSteps

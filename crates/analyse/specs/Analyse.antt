@@ -1,11 +1,10 @@
 -- `analyse`: collecting, collisions and resolving in one call, over lent strings, tree words and erased names, into three lent buffers: rows, diagnostics and
 -- resolved words. What it answers, and every word of the buffers afterwards. These are definitions.
 use Prim.Native.Nat.{ℕ, _*_, _≤_}
-use mathlib.Core.Bool.{Bool, true, false, _||_}
 use mathlib.Core.Path.{_≡_}
 use mathlib.Core.List.{List}
 use mathlib.Core.Option.{some}
-use lib.Dec.{leb, eqb}
+use lib.Dec.{leb}
 use lib.ListN.{length}
 use lib.Seq.{sets}
 use Rattle.words.specs.Word.{pick}
@@ -15,7 +14,8 @@ use Rattle.strings.specs.Table.{namesOf}
 use Rattle.strings.specs.Open.{Place, entryOf}
 use Rattle.reader.specs.Sized.{sizedProgram}
 use Rattle.reader.specs.Program.{acceptedOf}
-use Rattle.table.specs.Rows.{Row, width, noteWidth, Wide, Table, zeros, image}
+use Rattle.table.specs.Rows.{width, noteWidth, Wide, Table, zeros, image}
+use Rattle.steps.specs.Refused.{zeroing}
 use Rattle.collect.specs.Collect.{given, analysed}
 use Rattle.equivalence.specs.Analysis.{Analysis, resultOf}
 use Rattle.analyse.specs.declared.Given.{Given}
@@ -45,11 +45,7 @@ unfoldable pub counted : Told Analysis → Told Given
 counted (stops n p) = stops n p
 counted (gives a) = gives (record { notes = length (a .diagnostics); rows = length (a .rows); words = length (a .resolved) })
 
--- ---- the buffers afterwards
-
--- the numbers that leave rows and diagnostics zero; all others leave them as they came
-unfoldable pub zeroing : ℕ → Bool
-zeroing n = eqb n 7 || (eqb n 8 || eqb n 9)
+-- ---- the buffers afterwards: 7, 8 and 9 leave rows and diagnostics zero; all other numbers leave them as they came
 
 -- the table, and zeros to the last word
 unfoldable pub rowsAfter : List ℕ → Told Analysis → List ℕ

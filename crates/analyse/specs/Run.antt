@@ -5,26 +5,15 @@ use mathlib.Core.Path.{_≡_}
 use mathlib.Core.List.{List}
 use mathlib.Core.Option.{some}
 use lib.ListN.{length}
-use Rattle.words.specs.Sizes.{maxStrings}
 use Rattle.words.specs.Told.{gives}
-use Rattle.words.specs.Refusals.{numberOf, placeOf}
-use Rattle.words.specs.declared.Refusal.{Refusal}
 use Rattle.strings.specs.Table.{namesOf}
 use Rattle.reader.specs.Program.{Program, acceptedOf}
 use Rattle.table.specs.Rows.{width, noteWidth, Wide, Table}
 use Rattle.steps.specs.State.{State, running, stopped}
+use Rattle.steps.specs.Refused.{zeroing}
 use Rattle.steps.specs.declared.Counts.{Counts}
 use Rattle.steps.specs.Held.{Left}
 use Rattle.collect.specs.Collect.{given, analysed}
-use Rattle.collect.specs.Code.{Named}
-use Rattle.analyse.specs.Analyse.{zeroing}
-
--- the checks passed, and this is the program
-pub record Passed (bytes ends erased ws marks : List ℕ) : Type 0 where
-  pub named : Named bytes ends marks
-  pub few : length marks ≤ maxStrings
-  pub program : Program
-  pub accepted : acceptedOf (namesOf bytes ends) ws erased ≡ gives program
 
 -- what collecting and the collision check end in, in buffers of N and D words: a table with its diagnostics, or 7, 8 or 9
 unfoldable pub Ends : (N D : ℕ) → State → Type 0
@@ -35,8 +24,3 @@ Ends N D (stopped k) = zeroing k ≡ true
 pub record Tabled (bytes ends erased ws : List ℕ) (r : Counts) (b d b′ d′ : List ℕ) : Type 0 where
   pub left : (p : Program) → acceptedOf (namesOf bytes ends) ws erased ≡ gives p → Left (length b) (length d) (analysed (given (some (length b)) (some (length d)) bytes ends erased) p) r b′ d′
   pub ends-in : (p : Program) → acceptedOf (namesOf bytes ends) ws erased ≡ gives p → Ends (length b) (length d) (analysed (given (some (length b)) (some (length d)) bytes ends erased) p)
-
--- the refusal of a stopped run
-pub record Numbered (stop : ℕ) (f : Refusal) : Type 0 where
-  pub number : numberOf f ≡ stop
-  pub place : placeOf f ≡ 0

@@ -3,14 +3,13 @@ use reader::Accepted;
 use steps::Counts;
 use strings::Verdict;
 use words::Refusal;
-ghost use mathlib.Core.Path.{_≡_};
-ghost use mathlib.Core.Bool.{true};
 ghost use Prim.Native.Nat.{_≤_};
 ghost use lib.ListN.{length};
 ghost use Rattle.words.specs.Sizes.{maxStrings};
 ghost use Rattle.collect.specs.Code.{Named};
-ghost use Rattle.analyse.specs.Analyse.{Tells, Analyses, work, zeroing};
-ghost use Rattle.analyse.specs.Run.{Passed, Tabled, Numbered};
+ghost use Rattle.collect.specs.Passed.{Passed};
+ghost use Rattle.analyse.specs.Analyse.{Tells, Analyses, work};
+ghost use Rattle.analyse.specs.Run.{Tabled};
 
 // How many diagnostics, rows and resolved words stand in their buffers.
 pub struct Given {
@@ -44,18 +43,6 @@ fn tables(
     steps::finish(rows, notes, d)
 }
 
-// The refusal of a stopped run.
-fn refusal(stop: u32) -> Refusal
-    requires { ⌜ zeroing stop ≡ true ⌝ }
-    ensures { λ r. ⌜ Numbered stop r ⌝ }
-{
-    match stop {
-        7 => Refusal::RowsFull,
-        8 => Refusal::DiagnosticsFull,
-        _ => Refusal::TypeWords,
-    }
-}
-
 // A program that passed the checks, into an output that is long enough.
 fn run(
     words: &[u32],
@@ -72,7 +59,7 @@ fn run(
 {
     let s = tables(words, names, bytes, ends, erased, rows, notes);
     if s.stop != 0 {
-        return Answer::Refused(refusal(s.stop));
+        return Answer::Refused(steps::refusal(s.stop));
     }
     let w = accesses::resolve_array_accesses(words, rows, s.rows, 0, out, 0, 0);
     let count = w.to;

@@ -4,4 +4,6 @@ pub mod Collect
 pub mod Blind
 pub mod Examples
 pub mod Code
+pub mod Passed
+pub mod PassedLaws
 pub mod SeenLaws

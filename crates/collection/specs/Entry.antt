@@ -1,32 +1,29 @@
 -- `collect` as an entry: over lent strings, tree words and erased names, into two lent buffers, rows and diagnostics. What it tells, and every word of the
 -- buffers afterwards. Definitions only.
-use Prim.Native.Nat.{ℕ, _≤_}
-use mathlib.Core.Bool.{Bool, true, false, _||_}
+use Prim.Native.Nat.{ℕ}
 use mathlib.Core.Path.{_≡_}
 use mathlib.Core.List.{List}
 use mathlib.Core.Option.{some}
-use lib.Dec.{eqb}
 use lib.ListN.{length}
 use Rattle.words.specs.Word.{pick}
 use Rattle.words.specs.Told.{Told, stops, gives, after}
-use Rattle.words.specs.Refusals.{refused, numberOf, placeOf}
-use Rattle.words.specs.declared.Refusal.{Refusal}
+use Rattle.words.specs.Refusals.{refused}
 use Rattle.strings.specs.Table.{namesOf}
 use Rattle.strings.specs.Open.{Answers}
 use Rattle.reader.specs.Sized.{sizedProgram}
 use Rattle.reader.specs.Program.{Program, acceptedOf}
 use Rattle.table.specs.Rows.{width, noteWidth, zeros, image}
 use Rattle.steps.specs.State.{State, running, stopped}
+use Rattle.steps.specs.Refused.{zeroing}
 use Rattle.steps.specs.Held.{Left}
 use Rattle.steps.specs.declared.Counts.{Counts}
 use Rattle.collect.specs.Collect.{given, collected}
-use Rattle.collect.specs.Code.{Named}
 use Rattle.lawful.specs.Good.{Good}
 use Rattle.collection.specs.declared.Answer.{Answer}
 use Rattle.collection.specs.declared.Answer.the-variants.{Refused, Done}
 
 -- how many rows and diagnostics there are, and the words of both buffers
-pub record Tables : Type 0 where
+pub record Buffers : Type 0 where
   pub rows : ℕ
   pub notes : ℕ
   pub row-words : List ℕ
@@ -35,37 +32,34 @@ pub record Tables : Type 0 where
 -- ---- the definition
 
 -- what a run ends in, in buffers of N and D words: the rows and the diagnostics with zeros after them, or its number
-unfoldable pub tablesOf : (N D : ℕ) → State → Told Tables
-tablesOf N D (running rows notes) = gives (record { rows = length rows; notes = length notes; row-words = image width N rows; note-words = image noteWidth D notes })
-tablesOf N D (stopped n) = stops n 0
+unfoldable pub buffersOf : (N D : ℕ) → State → Told Buffers
+buffersOf N D (running rows notes) = gives (record { rows = length rows; notes = length notes; row-words = image width N rows; note-words = image noteWidth D notes })
+buffersOf N D (stopped n) = stops n 0
 
 -- behind the checks of sizes and strings: 2 or 3, then 4; then collecting, which may stop with 7, 8 or 9
-unfoldable pub work : (N D : ℕ) (bytes ends erased words : List ℕ) → Told Tables
-unfolding tablesOf
-work N D bytes ends erased words = after (acceptedOf (namesOf bytes ends) words erased) (λ p. tablesOf N D (collected (given (some N) (some D) bytes ends erased) p))
+unfoldable pub work : (N D : ℕ) (bytes ends erased words : List ℕ) → Told Buffers
+unfolding buffersOf
+work N D bytes ends erased words = after (acceptedOf (namesOf bytes ends) words erased) (λ p. buffersOf N D (collected (given (some N) (some D) bytes ends erased) p))
 
 -- ---- the answer, with both buffers as they are afterwards
 
-unfoldable pub told : (b d : List ℕ) → Answer → Told Tables
+unfoldable pub told : (b d : List ℕ) → Answer → Told Buffers
 told b d (Refused f) = refused f
 told b d (Done n) = gives (record { rows = n .rows; notes = n .notes; row-words = b; note-words = d })
 
--- the numbers that leave both buffers zero; all others leave them as they came
-unfoldable pub zeroing : ℕ → Bool
-zeroing n = eqb n 7 || (eqb n 8 || eqb n 9)
-
+-- 7, 8 and 9 leave both buffers zero; all other numbers leave them as they came
 abbrev pub leftBy : ℕ → List ℕ → List ℕ
 leftBy n b = pick (zeroing n) (zeros (length b)) b
 
 -- both buffers after a refusal; else their words are told
-abbrev pub Leaves : Told Tables → (b d b′ d′ : List ℕ) → Type 0
+abbrev pub Leaves : Told Buffers → (b d b′ d′ : List ℕ) → Type 0
 Leaves (stops n p) b d b′ d′ = (b′ ≡ leftBy n b) × (d′ ≡ leftBy n d)
 Leaves (gives t) b d b′ d′ = Unit {0}
 
 -- ---- the promises
 
 -- it tells u
-pub record Tells (r : Answer) (b d b′ d′ : List ℕ) (u : Told Tables) : Type 0 where
+pub record Tells (r : Answer) (b d b′ d′ : List ℕ) (u : Told Buffers) : Type 0 where
   pub is : told b′ d′ r ≡ u
   pub leaves : Leaves u b d b′ d′
 
@@ -76,20 +70,7 @@ pub record Entered (bytes ends erased words : List ℕ) (r : Answer) (b d b′ d
 
 -- ---- inside
 
--- the checks passed, and this is the program
-pub record Passed (bytes ends erased words ns : List ℕ) : Type 0 where
-  pub named : Named bytes ends ns
-  pub counted : length ns ≡ length ends
-  pub few : length ends ≤ 1024
-  pub program : Program
-  pub accepted : acceptedOf ns words erased ≡ gives program
-
 -- both buffers after collecting, whatever program the checks passed
 pub record Tabled (bytes ends erased words ns : List ℕ) (r : Counts) (b d b′ d′ : List ℕ) : Type 0 where
-  pub left : (p : Program) → acceptedOf ns words erased ≡ gives p → Left (length b) (length d) (collected (given (some (length b)) (some (length d)) bytes ends erased) p) r b′ d′
-  pub good : (p : Program) → acceptedOf ns words erased ≡ gives p → Good ns (length ends) (collected (given (some (length b)) (some (length d)) bytes ends erased) p)
-
--- the refusal of a stopped run
-pub record Numbered (stop : ℕ) (f : Refusal) : Type 0 where
-  pub number : numberOf f ≡ stop
-  pub place : placeOf f ≡ 0
+  pub left : (p : Program) → acceptedOf (namesOf bytes ends) words erased ≡ gives p → Left (length b) (length d) (collected (given (some (length b)) (some (length d)) bytes ends erased) p) r b′ d′
+  pub good : (p : Program) → acceptedOf (namesOf bytes ends) words erased ≡ gives p → Good ns (length ends) (collected (given (some (length b)) (some (length d)) bytes ends erased) p)

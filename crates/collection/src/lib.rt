@@ -4,12 +4,12 @@ use reader::Accepted;
 use steps::Counts;
 use strings::Verdict;
 use words::Refusal;
-ghost use mathlib.Core.Path.{_≡_};
 ghost use Prim.Native.Nat.{_≤_};
 ghost use lib.ListN.{length};
+ghost use Rattle.words.specs.Sizes.{maxStrings};
 ghost use Rattle.collect.specs.Code.{Named};
-ghost use Rattle.lawful.specs.Good.{Stopping};
-ghost use Rattle.collection.specs.Entry.{Passed, Tabled, Numbered, Tells, Entered, work};
+ghost use Rattle.collect.specs.Passed.{Passed};
+ghost use Rattle.collection.specs.Entry.{Tabled, Tells, Entered, work};
 
 // How many rows and diagnostics stand in their buffers.
 pub struct Sizes {
@@ -41,18 +41,6 @@ fn tables(
     steps::finish(b, d, t)
 }
 
-// The refusal of a stopped run.
-fn refusal(stop: u32) -> Refusal
-    requires { ⌜ Stopping stop ⌝ }
-    ensures { λ r. ⌜ Numbered stop r ⌝ }
-{
-    match stop {
-        7 => Refusal::RowsFull,
-        8 => Refusal::DiagnosticsFull,
-        _ => Refusal::TypeWords,
-    }
-}
-
 // Where the names' marks are known: 2 or 3, 4, and then the run.
 fn checked(
     words: &[u32],
@@ -63,7 +51,7 @@ fn checked(
     b: &mut [u32],
     d: &mut [u32],
 ) -> Answer
-    requires { ⌜ Named (now bytes) (now ends) (now names) × (length (now names) ≡ length (now ends)) × (length (now ends) ≤ 1024) ⌝ }
+    requires { ⌜ Named (now bytes) (now ends) (now names) × (length (now names) ≤ maxStrings) ⌝ }
     ensures { λ r. ⌜ Tells r (now (b .entry)) (now (d .entry)) (now (b .exit)) (now (d .exit)) (work (length (now (b .entry))) (length (now (d .entry))) (now (bytes .entry)) (now (ends .entry)) (now (erased .entry)) (now (words .entry))) ⌝ }
 {
     let a = reader::check_program(words, erased, names);
@@ -72,7 +60,7 @@ fn checked(
     }
     let s = tables(words, names, bytes, ends, erased, b, d);
     if s.stop != 0 {
-        return Answer::Refused(refusal(s.stop));
+        return Answer::Refused(steps::refusal(s.stop));
     }
     Answer::Done(Sizes {
         rows: s.rows,

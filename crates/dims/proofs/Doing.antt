@@ -3,7 +3,7 @@ use Prim.Native.Nat.{ℕ, _+_, _-_, _*_, _<_, _≤_}
 use native.Mathlib.Omega.{arith}
 use mathlib.Core.Path.{_≡_, refl, sym, ap, subst, _∙_}
 use mathlib.Core.Bool.{Bool, true, false, not, _&&_, _||_}
-use mathlib.Core.List.{List, [], _∷_, _++_}
+use mathlib.Core.List.{List, [], _∷_}
 use mathlib.Core.Option.{Option, none, some}
 use lib.Dec.{eqb, lit<}
 use lib.ListN.{length, getD}
@@ -20,8 +20,9 @@ use Rattle.entries.specs.Entries.{row as rowOf, entryKey, has, hasRow, rowWord,
 use Rattle.views.specs.View.{TypeRef, Integer, Long, Single, Double, FixedString, Record, head, arg, headOf, argOf, Declarator, items, declarator}
 use Rattle.steps.specs.State.{State, running, stopped, Step, _⨾_, nothing, when, asking, each, enter, push}
 use Rattle.steps.specs.declared.Counts.{Counts}
-use Rattle.steps.specs.Held.{Fit, Held, Sized, Does, Notes, Rows, entering, pushing, noting}
+use Rattle.steps.specs.Held.{Fit, Sized, Does, Notes, Rows, entering, pushing, noting}
 use Rattle.steps.specs.Compose.{Stays, notes-does, rows-does, nothing-does, same, then, when-yes, when-no, pick-yes, pick-no, asked, each-none, each-next, stays-when, stays-push, stays-enter}
+use Rattle.steps.specs.RowSteps.{rows-each-none, rows-each-next}
 use Rattle.collect.specs.Diagnostics.{suffixDiffers, undefinedType, declaredTwice, noDimension, otherRank, dimSharedInside}
 use Rattle.collect.specs.Seen.{Seen, see}
 use Rattle.collect.specs.Collect.{given, lastOf, disagrees, isRecord, isSome, anySome, member, differs, undefined, declaredType, redeclared, declaredArray, declared, sharedAll, dimShared}
@@ -276,17 +277,6 @@ module _ {bytes ends ws : List ℕ} {at : ℕ} (R : Ready bytes ends ws at) wher
 
 -- ---- DIM SHARED
 
-rows-then : {f g : Sized} {s r t : Counts} {b b′ b″ : List ℕ} → Rows f s r b b′ → Rows g r t b′ b″ → Rows (λ N D. f N D ⨾ g N D) s t b b″
-rows-then {f} F G = record { fit = G .fit; kept = G .kept ∙ F .kept; after = λ d N D st H. G .after d N D (f N D st) (F .after d N D st H) }
-
-rows-same : {f : Sized} (g : Sized) {s r : Counts} {b b′ : List ℕ} → ((N D : ℕ) (st : State) → f N D st ≡ g N D st) → Rows f s r b b′ → Rows g s r b b′
-rows-same g {s} {r} {b} {b′} e F = record { fit = F .fit; kept = F .kept; after = λ d N D st H. subst (λ (x : State). Held N D x r b′ d) (e N D st) (F .after d N D st H) }
-
-each-snoc : {A : Type 0} (f : A → Step) (xs : List A) (x : A) (st : State) → (each f xs ⨾ f x) st ≡ each f (xs ++ (x ∷ [])) st
-unfolding each
-each-snoc f [] x st = refl
-each-snoc f (y ∷ ys) x st = each-snoc f ys x (f y st)
-
 abbrev sharesEach : List (Declarator Seen) → Sized
 sharesEach l N D = each (λ x. sharing x N D) l
 
@@ -294,8 +284,7 @@ abbrev pub Sharing : (ws : List ℕ) (from total at left : ℕ) (s c : Counts) (
 Sharing ws from total at left s c b b′ = Turn decl (λ l. Rows (sharesEach l) s c b b′) ws from total at left
 
 pub share-start : (ws : List ℕ) (from total : ℕ) {s : Counts} {b : List ℕ} → s .rows * width ≤ length b → Sharing ws from total from total s s b b
-unfolding each
-share-start ws from total {s} {b} fit = turn-start (λ l. Rows (sharesEach l) s s b b) (record { fit = fit; kept = refl; after = λ d N D st H. H }) ws from total
+share-start ws from total {s} {b} fit = turn-start (λ l. Rows (sharesEach l) s s b b) (rows-each-none sharing fit) ws from total
 
 shared-is : {v : Decl} {x : Declarator Seen} → Is v x → {w : ℕ} → w ≡ bit (v .array) → {s r : Counts} {b b′ : List ℕ} → Rows (entering (rowOf 137 (v .name) (w ∷ 0 ∷ 0 ∷ 0 ∷ 0 ∷ []))) s r b b′ → Rows (sharing x) s r b b′
 unfolding entering
@@ -309,7 +298,7 @@ module _ {ws : List ℕ} {from total m left : ℕ} {s c : Counts} {b b′ : List
       → Sharing ws from total (v .next) (left - 1) s r b b″
   share-next {v} {w} {r} {b″} h K q F =
       turn-next T h (λ l. Rows (sharesEach l) s r b b″) (v .next)
-      (λ ns n y end S. (K .is ns n y end S .1, λ l p. rows-same (sharesEach (l ++ (decl y ∷ []))) (λ N D st. each-snoc (λ x. sharing x N D) l (decl y) st) (rows-then p (shared-is (K .is ns n y end S .0) q F))))
+      (λ ns n y end S. (K .is ns n y end S .1, λ l p. rows-each-next sharing l (decl y) p (shared-is (K .is ns n y end S .0) q F)))
 
 pub share-end : {ws : List ℕ} {at m left : ℕ} {s c : Counts} {b b′ : List ℕ} → Sharing ws (at + 1) (payOf (getD ws at 0)) m left s c b b′ → left ≤ 0 → SharesAll ws at s c b b′
 share-end {s = s} {c = c} {b = b} {b′ = b′} T z = record {

@@ -21,6 +21,7 @@ use Rattle.steps.specs.State.{each, enter}
 use Rattle.steps.specs.declared.Counts.{Counts}
 use Rattle.steps.specs.Held.{Does, Notes, Rows, entering, pushing}
 use Rattle.steps.specs.Compose.{stays-enter, then, rows-does, notes-does, pick-yes, pick-no}
+use Rattle.steps.specs.RowSteps.{rows-nothing, rows-asked, rows-each-none, rows-each-next}
 use Rattle.collect.specs.Diagnostics.{itemsOutside}
 use Rattle.collect.specs.Seen.{Seen, see}
 use Rattle.collect.specs.Collect.{given, marked, typed, itemType, item, statement}
@@ -32,7 +33,6 @@ use Rattle.parts.specs.Turns.{Turn, turn-start, turn-next, turn-some, turn-end,
 use Rattle.labels.specs.Labels.{SomeStmt, CollectsAny}
 use Rattle.items.specs.declared.ItemAt.{ItemAt}
 use Rattle.items.specs.Items.{ItemIs, itemAs, Enters, EntersAll}
-use Rattle.items.specs.RowSteps.{rows-nothing, rows-asked, rows-each-none, rows-each-next}
 
 -- ---- an item, read
 

@@ -1,12 +1,12 @@
 -- A state of collecting whose rows are a lent table's, and the few things that collecting does to a state, as steps that keep it so. Assumes nothing.
-use Prim.Native.Nat.{ℕ, zero, suc, _+_, _*_, _≤_, _<_, zero-le}
-use mathlib.Core.Path.{_≡_, refl, sym, ap, _∙_, subst}
+use Prim.Native.Nat.{ℕ, suc, _≤_, _<_, zero-le}
+use mathlib.Core.Path.{_≡_, refl, subst}
 use mathlib.Core.Bool.{Bool, true, false}
 use mathlib.Core.Logic.{_⊎_, inl, inr}
 use mathlib.Core.List.{List, [], _∷_, _++_}
-use mathlib.Core.Option.{Option, none, some}
+use mathlib.Core.Option.{Option, some}
 use native.Mathlib.Omega.{arith}
-use lib.Dec.{eqb, leb}
+use lib.Dec.{eqb}
 use lib.ListN.{length, getD}
 use borrow.Author.Tests.{eqb-true}
 use Rattle.words.specs.Word.{kindOf, pick}
@@ -18,6 +18,7 @@ use Rattle.lent.specs.Valid.{all-insert, all-remove}
 use Rattle.consteval.specs.Evaluates.{Consts}
 use Rattle.consteval.specs.RowLaws.{consts-none, consts-other, consts-remove}
 use Rattle.steps.specs.State.{State, running, stopped, Step, nothing, when, asking, each, stop, fits, change, enter, push}
+use Rattle.steps.specs.Refused.{zeroing}
 
 -- word 1 of each row has 32 bits
 unfoldable pub Narrow : List Row → Type 0
@@ -49,14 +50,8 @@ unfoldable pub Each : {A : Type 0} → (A → Type 0) → List A → Type 0
 Each P [] = Unit {0}
 Each P (x ∷ xs) = P x × Each P xs
 
--- the numbers that collecting may stop with
-pub data Stopping : ℕ → Type 0 where
-  seven : Stopping 7
-  eight : Stopping 8
-  nine : Stopping 9
-
 module _ (ns : List ℕ) (n : ℕ) where
-  -- ---- rows: they rise, each is in order by itself, each CONST holds a value
+  -- ---- rows: they rise, each is in order by itself, each CONST holds a value; or the run stopped with a number that leaves zeros
   pub record GoodRows (rows : List Row) : Type 0 where
     pub table : Table 0 rows
     pub ok : AllOk ns rows
@@ -65,7 +60,7 @@ module _ (ns : List ℕ) (n : ℕ) where
 
   abbrev pub Good : State → Type 0
   Good (running rows notes) = GoodRows rows
-  Good (stopped k) = Stopping k
+  Good (stopped k) = zeroing k ≡ true
 
   -- a row that may be entered
   pub record Entry (r : Row) : Type 0 where
@@ -112,24 +107,24 @@ module _ (ns : List ℕ) (n : ℕ) where
     pub on : (st : State) → Good st → Good (f st)
 
   pub push-k : (room : Option ℕ) (note : Row) → Keeps (push room note)
-  unfolding push
+  unfolding push zeroing
   push-k room note = record { on = by }
     where
       go : (rows notes : List Row) (b : Bool) → GoodRows rows → Good (pick b (running rows notes) (stopped 8))
       go rows notes true g = g
-      go rows notes false g = eight
+      go rows notes false g = refl
 
       by : (st : State) → Good st → Good (push room note st)
       by (running rows notes) g = go rows (notes ++ (note ∷ [])) (fits 6 room (notes ++ (note ∷ []))) g
       by (stopped k) g = g
 
   pub change-k : (room : Option ℕ) (f : List Row → List Row) → ((rows : List Row) → GoodRows rows → GoodRows (f rows)) → Keeps (change room f)
-  unfolding change
+  unfolding change zeroing
   change-k room f h = record { on = by }
     where
       go : (rows notes : List Row) (b : Bool) → GoodRows rows → Good (pick b (running rows notes) (stopped 7))
       go rows notes true g = g
-      go rows notes false g = seven
+      go rows notes false g = refl
 
       by : (st : State) → Good st → Good (change room f st)
       by (running rows notes) g = go (f rows) notes (fits width room (f rows)) (h rows g)
@@ -143,11 +138,11 @@ module _ (ns : List ℕ) (n : ℕ) where
   nothing-k = record { on = λ st g. g }
 
   pub stop-k : Keeps (stop 9)
-  unfolding stop
+  unfolding stop zeroing
   stop-k = record { on = by }
     where
       by : (st : State) → Good st → Good (stop 9 st)
-      by (running rows notes) g = nine
+      by (running rows notes) g = refl
       by (stopped m) g = g
 
   pub then-k : {f h : Step} → Keeps f → Keeps h → Keeps (λ st. h (f st))

@@ -18,7 +18,7 @@ use Rattle.words.specs.declared.Refusal.the-variants.{Rows as NoRows, Lookup}
 use Rattle.strings.specs.Name.{isName as spellsName}
 use Rattle.strings.specs.Table.{startOf, stringAt, sound, marksBelow, namesOf}
 use Rattle.strings.specs.Open.{entryOf, Answers}
-use Rattle.strings.proofs.Laws.{marks-length, marks-all, sound-at, ends-in, name-empty}
+use Rattle.strings.proofs.Laws.{marks-length, marks-all, names-length, sound-at, ends-in, name-empty}
 use Rattle.table.specs.Rows.{rowsOf}
 use Rattle.table.specs.Laws.{order, pick-false}
 use Rattle.lent.specs.Rules.{isName, scopeOk, typeOk}
@@ -132,9 +132,6 @@ unfolding admits
 scope-admitted names scope name e = and-both (scopeOk names scope) (isName names name) e .1
 
 -- ---- names of a string table
-
-pub names-length : (bytes ends : List ℕ) → length (namesOf bytes ends) ≡ length ends
-names-length bytes ends = ap length (sym (marks-all bytes ends (length ends) refl)) ∙ marks-length bytes ends (length ends)
 
 mark-at : (bytes ends : List ℕ) (n x : ℕ) → x < n → getD (marksBelow bytes ends n) x 0 ≡ pick (spellsName (stringAt bytes ends x)) 1 0
 unfolding marksBelow

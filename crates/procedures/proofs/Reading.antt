@@ -6,10 +6,9 @@ use mathlib.Core.Bool.{Bool, true, false, false≢true}
 use mathlib.Core.List.{List, [], _∷_, _++_, append-nil}
 use mathlib.Core.Option.{Option, none as absent}
 use lib.Dec.{eqb}
-use lib.ListN.{length, getD, length-append}
-use native.Mathlib.Numerals.{add-one}
+use lib.ListN.{length, getD}
 use Rattle.words.specs.Word.{wordOf, payOf}
-use Rattle.strings.specs.Table.{marksBelow, namesOf}
+use Rattle.strings.proofs.Laws.{names-length}
 use Rattle.expr.specs.Expr.{Expr}
 use Rattle.expr.specs.Stands.{Wrote}
 use Rattle.expr.specs.Reader.{exprAt}
@@ -413,15 +412,6 @@ module _ {ws ns : List ℕ} {n at : ℕ} (S : StmtAt ns n function ws at) where
               }
 
 -- ---- a name's number
-
-marks-length : (bytes ends : List ℕ) (i : ℕ) → length (marksBelow bytes ends i) ≡ i
-unfolding marksBelow
-marks-length bytes ends zero = refl
-marks-length bytes ends (suc i) = length-append (marksBelow bytes ends i) _ ∙ ap (λ (m : ℕ). m + 1) (marks-length bytes ends i) ∙ add-one i
-
-names-length : (bytes ends : List ℕ) → length (namesOf bytes ends) ≡ length ends
-unfolding namesOf
-names-length bytes ends = marks-length bytes ends (length ends)
 
 marked-below : (ns : List ℕ) (x : ℕ) → eqb (getD ns x 0) 1 ≡ true → x < length ns
 marked-below [] x e = absurd (false≢true e)

@@ -1,3 +1,4 @@
 pub mod Sized
 pub mod Reading
 pub mod Program
+pub mod Whole

@@ -59,7 +59,7 @@ pick-no f t e F = record { fit = F .fit; after = λ N D st H. rw e (F .after N D
 
 -- ---- over a list: a loop that has done the first of them does one more
 
-each-snoc : {A : Type 0} (f : A → Step) (xs : List A) (x : A) (st : State) → (each f xs ⨾ f x) st ≡ each f (xs ++ (x ∷ [])) st
+pub each-snoc : {A : Type 0} (f : A → Step) (xs : List A) (x : A) (st : State) → (each f xs ⨾ f x) st ≡ each f (xs ++ (x ∷ [])) st
 unfolding each
 each-snoc f [] x st = refl
 each-snoc f (y ∷ ys) x st = each-snoc f ys x (f y st)

@@ -1,25 +1,27 @@
 -- How steps on the two buffers are done, and how they follow each other. Assumes nothing.
-use mathlib.Core.Path.{_≡_, refl, sym, ap, _∙_, subst}
-use mathlib.Core.Bool.{Bool, true, false}
+use mathlib.Core.Path.{_≡_, refl, sym, ap, _∙_}
+use mathlib.Core.Bool.{Bool, true, false, _||_, false≢true}
 use mathlib.Core.List.{List, [], _∷_, _++_}
-use mathlib.Core.Option.{Option, none, some}
-use Prim.Native.Nat.{ℕ, _+_, _*_, _≤_, _<_, zero-le}
+use mathlib.Core.Option.{some}
+use Prim.Native.Nat.{ℕ, _+_, _*_, _≤_, _<_}
 use native.Mathlib.Omega.{arith}
-use lib.Dec.{leb}
+use lib.Dec.{leb, eqb}
 use lib.ListN.{length, length-append}
-use borrow.Author.Tests.{le-leb, lt-leb, leb-true, leb-false}
+use borrow.Author.Tests.{le-leb, leb-true, eqb-true, ne-eqb}
 use Rattle.words.specs.Word.{pick}
-use Rattle.table.specs.Rows.{Row, width, noteWidth, Table, insert, insertAll, remove, replace, zeros, image, Filled, Holds}
-use Rattle.table.specs.Laws.{pick-true, pick-false, insert-table, insert-all-len, remove-table, remove-len}
+use Rattle.words.specs.declared.Refusal.the-variants.{TypeWords}
+use Rattle.table.specs.Rows.{Row, width, noteWidth, Table, insert, remove, zeros, image, Filled, Holds}
+use Rattle.table.specs.Laws.{pick-true, remove-len}
 use Rattle.table.specs.Images.{holds-fits, holds-image}
 use Rattle.table.specs.Answers.{Fits, More, Inserted, Removed, Entered, Pushed}
 use Rattle.table.specs.Buffers.{removed-holds, pushed-filled, more-done, more-full}
 use Rattle.table.specs.Answers as Answers
 use Rattle.table.specs.declared.Put.{Put}
 use Rattle.table.specs.declared.Put.the-variants.{Full, Done}
-use Rattle.steps.specs.State.{State, running, stopped, Step, _⨾_, nothing, when, asking, each, stop, fits, change, enter, push}
+use Rattle.steps.specs.State.{State, running, stopped, stop, fits, change, enter, push}
 use Rattle.steps.specs.declared.Counts.{Counts}
-use Rattle.steps.specs.Held.{Fit, Inside, Held, Sized, Does, Notes, Rows, Counted, changing, entering, pushing, noting, rowsPut, notesPut, countsOf, rowsLeft, notesLeft, Left}
+use Rattle.steps.specs.Refused.{zeroing, Numbered}
+use Rattle.steps.specs.Held.{Fit, Held, Notes, Rows, Counted, changing, entering, pushing, noting, rowsPut, notesPut, countsOf, rowsLeft, notesLeft, Left}
 
 -- a run that goes on is not stopped
 going : {A : Type 0} (k : ℕ) → 0 ≡ k → 0 < k → A
@@ -203,3 +205,20 @@ module _ {N D : ℕ} {s : Counts} {b d : List ℕ} where
         rows = e ∙ ap zeros (H .rows-long);
         notes = f ∙ ap zeros (H .notes-long);
       }
+
+-- ---- the refusal of a stopped run
+
+pub last-number : (k : ℕ) → zeroing k ≡ true → (k ≡ 7 → ⊥) → (k ≡ 8 → ⊥) → Numbered k TypeWords
+unfolding zeroing
+last-number k z n m =
+    let t : (eqb k 7 || (eqb k 8 || eqb k 9)) ≡ true = z in
+    let u : eqb k 9 ≡ true = rw (ne-eqb k 7 n, ne-eqb k 8 m) at t in
+    record { number = sym (eqb-true k 9 u); place = refl }
+
+-- no run stops with 0
+zero-leaves : zeroing 0 ≡ false
+unfolding zeroing
+zero-leaves = refl
+
+pub stops-some : {k : ℕ} → zeroing k ≡ true → k ≡ 0 → ⊥
+stops-some z e = false≢true (sym zero-leaves ∙ ap zeroing (sym e) ∙ z)

@@ -1,4 +1,6 @@
 pub mod State
 pub mod Held
+pub mod Refused
 pub mod Laws
 pub mod Compose
+pub mod RowSteps

@@ -1,13 +1,16 @@
 // Steps of collecting on two lent buffers, rows and diagnostics. Each gives the counts unchanged once the run is stopped, so that code over them
 // is a straight line, as its definition is. What is done is said for every state that the buffers hold.
 use table::Put;
+use words::Refusal;
 ghost use mathlib.Core.Path.{_≡_};
+ghost use mathlib.Core.Bool.{true};
 ghost use mathlib.Core.List.{List, [], _∷_};
 ghost use Prim.Native.Nat.{ℕ, _+_, _*_, _≤_, _<_};
 ghost use lib.ListN.{length};
 ghost use Rattle.table.specs.Rows.{Row, width, noteWidth, remove};
 ghost use Rattle.entries.specs.Entries.{row, entryKey};
 ghost use Rattle.steps.specs.State.{State, running, stop as stopWith};
+ghost use Rattle.steps.specs.Refused.{zeroing, Numbered};
 ghost use Rattle.steps.specs.Held.{Held, Notes, Rows, Counted, changing, entering, pushing, noting, rowsPut, notesPut, Left};
 
 // The number that stopped the run, or 0, and how many rows and diagnostics there are.
@@ -43,6 +46,18 @@ pub fn finish(b: &mut [u32], d: &mut [u32], s: Counts) -> Counts
         stop: s.stop,
         rows: 0,
         notes: 0,
+    }
+}
+
+// The refusal of a stopped run.
+pub fn refusal(stop: u32) -> Refusal
+    requires { ⌜ zeroing stop ≡ true ⌝ }
+    ensures { λ r. ⌜ Numbered stop r ⌝ }
+{
+    match stop {
+        7 => Refusal::RowsFull,
+        8 => Refusal::DiagnosticsFull,
+        _ => Refusal::TypeWords,
     }
 }
 

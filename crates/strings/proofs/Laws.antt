@@ -239,6 +239,11 @@ module _ (bytes ends : List ℕ) where
   unfolding namesOf
   marks-all i e = ap (marksBelow bytes ends) e
 
+  -- a mark for each string
+  pub names-length : length (namesOf bytes ends) ≡ length ends
+  unfolding namesOf
+  names-length = marks-length (length ends)
+
 pub start-next : (ends : List ℕ) (i : ℕ) → getD ends i 0 ≡ startOf ends (i + 1)
 unfolding startOf
 start-next ends i = rw (add-one i) refl

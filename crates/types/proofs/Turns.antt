@@ -16,6 +16,7 @@ use Rattle.lookup.specs.Lookup.{typeWords}
 use Rattle.steps.specs.State.{State, Step, nothing, each, stop, enter, push}
 use Rattle.steps.specs.declared.Counts.{Counts}
 use Rattle.steps.specs.Held.{Held, Sized, Notes, Rows, Counted, entering, pushing}
+use Rattle.steps.specs.RowSteps.{rows-same}
 use Rattle.types.specs.Types.{typeCode, noteOf, grown, sized, looks, Looks, Keeps}
 use Rattle.types.specs.declared.Summed.{Summed}
 use Rattle.types.specs.declared.Kept.{Kept}
@@ -94,9 +95,6 @@ module _ (line owner code name head arg : ℕ) (s : Summed) (b d : List ℕ) (fe
 
 -- ---- a field entered
 
-as-rows : {f : Sized} (g : Sized) {s r : Counts} {b b′ : List ℕ} → ((N D : ℕ) (st : State) → f N D st ≡ g N D st) → Rows f s r b b′ → Rows g s r b b′
-as-rows g {s} {r} {b} {b′} e F = record { fit = F .fit; kept = F .kept; after = λ d N D st H. subst (λ (x : State). Held N D x r b′ d) (e N D st) (F .after d N D st H) }
-
 module _ (owner code name head arg : ℕ) (s : Kept) (b : List ℕ) where
   abbrev Row′ : List Row
   Row′ = fieldRow owner (s .fields) name (s .words) head arg ∷ []
@@ -108,7 +106,7 @@ module _ (owner code name head arg : ℕ) (s : Kept) (b : List ℕ) where
         few = few;
         more = sym (pick-false _ _ (ne-eqb code 0 n));
         size = λ rows H. sym (pick-false _ _ (ne-eqb code 0 n));
-        rows = as-rows (λ N D. each (enter (some N)) (pick (eqb code 0) Row′ [])) (λ N D st. ap (λ (l : List Row). each (enter (some N)) l st) (sym (pick-false Row′ [] (ne-eqb code 0 n)))) (record { fit = fit; kept = refl; after = λ d N D st K. K });
+        rows = rows-same (λ N D. each (enter (some N)) (pick (eqb code 0) Row′ [])) (λ N D st. ap (λ (l : List Row). each (enter (some N)) l st) (sym (pick-false Row′ [] (ne-eqb code 0 n)))) (record { fit = fit; kept = refl; after = λ d N D st K. K });
       }
 
   pub keep-some : code ≡ 0 → (more w : ℕ) → ((rows : List Row) → Holds rows (s .counts .rows) b → more ≡ typeWords rows head arg) → w ≡ grown (s .words) more → w ≤ 65535
@@ -120,5 +118,5 @@ module _ (owner code name head arg : ℕ) (s : Kept) (b : List ℕ) where
         few = few;
         more = sym (pick-true _ _ (eq-eqb code 0 z));
         size = λ rows H. e ∙ ap (grown (s .words)) (told rows H) ∙ sym (pick-true _ _ (eq-eqb code 0 z));
-        rows = as-rows (λ N D. each (enter (some N)) (pick (eqb code 0) Row′ [])) (λ N D st. ap (λ (l : List Row). each (enter (some N)) l st) (sym (pick-true Row′ [] (eq-eqb code 0 z)))) R;
+        rows = rows-same (λ N D. each (enter (some N)) (pick (eqb code 0) Row′ [])) (λ N D st. ap (λ (l : List Row). each (enter (some N)) l st) (sym (pick-true Row′ [] (eq-eqb code 0 z)))) R;
       }

@@ -1,50 +1,36 @@
+-- The tables, and then resolving under them; a stopped run is refused by its number. Assumes nothing.
 use Rattle.analyse.proofs.Laws.{stopped-zeroing, run-stopped, run-resolved, run-ready}
 use borrow.Author.Needs.{needs}
 use Rattle.analyse.proofs.run.Statement.{statement}
 use Rattle.analyse.proofs.run.Tie as tie
-use Rattle.analyse.proofs.run.Reads as reads
-use Rattle.analyse.proofs.run.Lts as lts
-use Rattle.accesses.proofs.resolve_array_accesses.Reads as resolve-array-accesses-reads
-use Rattle.analyse.proofs.refusal.Reads as refusal-reads
-use Rattle.analyse.proofs.tables.Reads as tables-reads
 
--- src/lib.rt:104:9
 tables-requires : tie.Need-tables-requires
 tables-requires c κs = search needs
 
--- src/lib.rt:106:32
 refusal-requires : tie.Need-refusal-requires
 refusal-requires c κs = stopped-zeroing (c .before .before .before .before .before .before .before .before .before .before .before .before .before .before .before .before .before .pre .0) (c .before .before .before .before .before .before .tables .ensures) (c .if1 .taken)
 
--- src/lib.rt:106:9
 same-length : tie.Need-same-length
 same-length c = search needs
 
--- src/lib.rt:106:9
 same-length-2 : tie.Need-same-length-2
 same-length-2 c = search needs
 
--- src/lib.rt:106:9
 returns : tie.Need-returns
 returns c = run-stopped (c .before .before .before .before .before .before .before .before .before .before .before .before .before .before .before .before .before .before .pre .0) (c .before .before .before .before .before .before .before .before .before .before .before .before .before .before .before .before .before .before .pre .1) (c .before .before .before .before .before .before .before .tables .ensures) (c .before .if1 .taken) (c .refusal .ensures)
 
--- src/lib.rt:108:9
 resolve-array-accesses-requires : tie.Need-resolve-array-accesses-requires
 resolve-array-accesses-requires c κs = run-ready (c .before .before .before .before .before .before .before .before .before .before .before .before .before .before .before .before .before .before .before .pre .0) (c .before .before .before .before .before .before .before .before .before .before .before .before .before .before .before .before .before .before .before .pre .1) (c .before .before .before .before .before .before .before .before .tables .ensures) (c .before .before .if1 .left)
 
--- src/lib.rt:91:1
 same-length-3 : tie.Need-same-length-3
 same-length-3 c = search needs
 
--- src/lib.rt:91:1
 same-length-4 : tie.Need-same-length-4
 same-length-4 c = search needs
 
--- src/lib.rt:91:1
 same-length-5 : tie.Need-same-length-5
 same-length-5 c = search needs
 
--- src/lib.rt:91:1
 returns-2 : tie.Need-returns-2
 returns-2 c = run-resolved (c .before .before .before .before .before .before .before .before .before .before .before .before .before .before .before .before .before .before .before .before .before .before .pre .0) (c .before .before .before .before .before .before .before .before .before .before .before .before .before .before .before .before .before .before .before .before .before .before .pre .1) (c .before .before .before .before .before .before .before .before .before .before .before .tables .ensures) (c .before .before .before .before .before .if1 .left) (c .before .before .resolve-array-accesses .ensures)
 

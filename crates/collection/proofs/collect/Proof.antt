@@ -4,7 +4,8 @@ use native.Mathlib.Omega.{arith}
 use borrow.Author.Tests.{not-true, not-false}
 use Rattle.words.specs.Refusals.{refused}
 use Rattle.strings.specs.OpenLaws.{said-sound, answers-size, answers-breaks, answers-inner}
-use Rattle.reader.proofs.Laws.{few-strings′, as-many}
+use Rattle.reader.proofs.Laws.{few-strings′, as-many, few-marks}
+use Rattle.collect.specs.PassedLaws.{marks-named}
 use Rattle.collection.specs.Entry.{told}
 use Rattle.collection.proofs.Entry.{leaves-size, leaves-breaks, leaves-told}
 use borrow.Author.Needs.{needs}
@@ -41,7 +42,7 @@ slice-aggregate-checked : tie.Need-slice-aggregate-checked
 slice-aggregate-checked c = as-many (c .before .names-of .ensures) (few-strings′ (c .before .before .before .before .before .before .before .before .before .before .before .before .before .args .bytes .now) (c .before .before .before .before .before .before .before .before .before .before .before .before .before .args .ends .now) (c .before .before .before .before .before .before .before .before .before .before .before .before .before .args .words .now) (c .before .before .before .before .before .before .before .before .before .before .before .before .before .args .erased .now) (sym (c .before .before .before .before .before .before .sized-program .ensures) ∙ not-false _ (c .before .before .before .before .before .if1 .left)))
 
 checked-requires : tie.Need-checked-requires
-checked-requires c κs = (record { strings = said-sound (c .before .before .before .before .before .before .check .ensures) (c .before .before .before .before .enum-told .given .1); names = c .before .before .before .names-of .ensures .first }, sym (as-many (c .before .before .before .names-of .ensures) (few-strings′ (c .before .before .before .before .before .before .before .before .before .before .before .before .before .before .before .args .bytes .now) (c .before .before .before .before .before .before .before .before .before .before .before .before .before .before .before .args .ends .now) (c .before .before .before .before .before .before .before .before .before .before .before .before .before .before .before .args .words .now) (c .before .before .before .before .before .before .before .before .before .before .before .before .before .before .before .args .erased .now) (sym (c .before .before .before .before .before .before .before .before .sized-program .ensures) ∙ not-false _ (c .before .before .before .before .before .before .before .if1 .left)))), (few-strings′ (c .before .before .before .before .before .before .before .before .before .before .before .before .before .before .before .args .bytes .now) (c .before .before .before .before .before .before .before .before .before .before .before .before .before .before .before .args .ends .now) (c .before .before .before .before .before .before .before .before .before .before .before .before .before .before .before .args .words .now) (c .before .before .before .before .before .before .before .before .before .before .before .before .before .before .before .args .erased .now) (sym (c .before .before .before .before .before .before .before .before .sized-program .ensures) ∙ not-false _ (c .before .before .before .before .before .before .before .if1 .left))))
+checked-requires c κs = (marks-named (said-sound (c .before .before .before .before .before .before .check .ensures) (c .before .before .before .before .enum-told .given .1)) (c .before .before .before .names-of .ensures), few-marks (c .before .before .before .names-of .ensures) (few-strings′ (c .before .before .before .before .before .before .before .before .before .before .before .before .before .before .before .args .bytes .now) (c .before .before .before .before .before .before .before .before .before .before .before .before .before .before .before .args .ends .now) (c .before .before .before .before .before .before .before .before .before .before .before .before .before .before .before .args .words .now) (c .before .before .before .before .before .before .before .before .before .before .before .before .before .before .before .args .erased .now) (sym (c .before .before .before .before .before .before .before .before .sized-program .ensures) ∙ not-false _ (c .before .before .before .before .before .before .before .if1 .left))))
 
 same-length : tie.Need-same-length
 same-length c = search needs

@@ -1,5 +1,6 @@
 -- Empty buffers, the walk, and zeros where it stopped: what is left of a whole run. Assumes nothing.
-use Rattle.collection.proofs.Entry.{run-ready, run-tabled}
+use Rattle.collecting.specs.Start.{start-ready}
+use Rattle.collection.proofs.Entry.{run-tabled}
 use borrow.Author.Needs.{needs}
 use Rattle.collection.proofs.tables.Statement.{statement}
 use Rattle.collection.proofs.tables.Tie as tie
@@ -8,7 +9,7 @@ begin-requires : tie.Need-begin-requires
 begin-requires c κs = search needs
 
 statements-requires : tie.Need-statements-requires
-statements-requires c κs = run-ready (c .before .before .before .before .before .before .before .before .before .before .before .before .before .before .before .before .pre) (c .before .before .before .before .before .before .begin .ensures)
+statements-requires c κs = start-ready (c .before .before .before .before .before .before .before .before .before .before .before .before .before .before .before .before .pre) (c .before .before .before .before .before .before .begin .ensures)
 
 finish-requires : tie.Need-finish-requires
 finish-requires c κs = search needs

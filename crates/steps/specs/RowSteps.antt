@@ -4,10 +4,10 @@ use mathlib.Core.Path.{_≡_, refl, _∙_, subst}
 use mathlib.Core.List.{List, [], _∷_, _++_}
 use lib.ListN.{length}
 use Rattle.table.specs.Rows.{Row, width, Holds}
-use Rattle.steps.specs.State.{State, running, stopped, Step, _⨾_, nothing, asking, each}
+use Rattle.steps.specs.State.{State, running, stopped, _⨾_, nothing, asking, each}
 use Rattle.steps.specs.declared.Counts.{Counts}
 use Rattle.steps.specs.Held.{Held, Sized, Rows}
-use Rattle.steps.specs.Compose.{Stays}
+use Rattle.steps.specs.Compose.{Stays, each-snoc}
 
 pub rows-nothing : {s : Counts} {b : List ℕ} → s .rows * width ≤ length b → Rows (λ N D. nothing) s s b b
 rows-nothing h = record { fit = h; kept = refl; after = λ d N D st H. H }
@@ -29,15 +29,10 @@ rows-asked {A} x f g {s} {r} {b} {b′} stays told F = record { fit = F .fit; ke
     by d N D (stopped k) H = subst (λ (st : State). Held N D st r b′ d) (stays x N D k) (F .after d N D (stopped k) H)
 
 -- over a list: a loop that has done the first of them does one more
-rows-snoc : {A : Type 0} (f : A → Step) (xs : List A) (x : A) (st : State) → (each f xs ⨾ f x) st ≡ each f (xs ++ (x ∷ [])) st
-unfolding each
-rows-snoc f [] x st = refl
-rows-snoc f (y ∷ ys) x st = rows-snoc f ys x (f y st)
-
 pub rows-each-none : {A : Type 0} (f : A → Sized) {s : Counts} {b : List ℕ} → s .rows * width ≤ length b → Rows (λ N D. each (λ x. f x N D) []) s s b b
 unfolding each
 rows-each-none f h = rows-nothing h
 
 pub rows-each-next : {A : Type 0} (f : A → Sized) (done : List A) (x : A) {s r t : Counts} {b b′ b″ : List ℕ}
     → Rows (λ N D. each (λ x. f x N D) done) s r b b′ → Rows (f x) r t b′ b″ → Rows (λ N D. each (λ x. f x N D) (done ++ (x ∷ []))) s t b b″
-rows-each-next f done x F G = rows-same (λ N D. each (λ x. f x N D) (done ++ (x ∷ []))) (λ N D st. rows-snoc (λ x. f x N D) done x st) (rows-then F G)
+rows-each-next f done x F G = rows-same (λ N D. each (λ x. f x N D) (done ++ (x ∷ []))) (λ N D st. each-snoc (λ x. f x N D) done x st) (rows-then F G)

@@ -1,9 +1,8 @@
 -- 7, 8 and 9 as refusals: no other number stops a run. Assumes nothing.
-use Rattle.collection.proofs.Entry.{only-nine}
-use mathlib.Core.Path.{refl}
+use Rattle.steps.specs.Laws.{last-number}
 use borrow.Author.Needs.{needs}
-use Rattle.collection.proofs.refusal.Statement.{statement}
-use Rattle.collection.proofs.refusal.Tie as tie
+use Rattle.steps.proofs.refusal.Statement.{statement}
+use Rattle.steps.proofs.refusal.Tie as tie
 
 returns : tie.Need-returns
 returns c = search needs
@@ -12,7 +11,7 @@ returns-2 : tie.Need-returns-2
 returns-2 c = search needs
 
 returns-3 : tie.Need-returns-3
-returns-3 c = record { number = only-nine (c .before .pre) (c .match .rest .0 .1) (c .match .rest .1); place = refl }
+returns-3 c = last-number (c .before .args .stop) (c .before .pre) (c .match .rest .0 .1) (c .match .rest .1)
 
 pub refusal-spec : {M : Type 1} → statement M
 refusal-spec = tie.close (tie.spec returns returns-2 returns-3)

@@ -1,4 +1,3 @@
 pub mod Trees
-pub mod Fields
 pub mod Statements
 pub mod Walk

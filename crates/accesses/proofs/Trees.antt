@@ -1,28 +1,51 @@
 -- Trees resolved part by part: what is written so far, and what is left. Assumes nothing.
-use Prim.Native.Nat.{ℕ, zero, suc, _+_, _-_, _*_, _/_, _≤_, _<_}
+use Prim.Native.Nat.{ℕ, _+_, _≤_, _<_}
 use native.Mathlib.Nat.{add-zero}
 use native.Mathlib.Omega.{arith}
-use mathlib.Core.Path.{_≡_, refl, sym, ap, subst, _∙_}
+use mathlib.Core.Path.{_≡_, refl, sym, ap, ap₂, _∙_}
 use mathlib.Core.List.{List, [], _∷_, _++_, append-nil, append-assoc}
-use lib.ListN.{length, take, drop, getD, length-append}
+use lib.ListN.{length, take, drop, length-append}
 use lib.Seq.{sets}
+use Rattle.words.specs.Word.{wordOf}
 use Rattle.expr.specs.Expr.{Expr}
-use Rattle.expr.specs.Stands.{Wrote}
 use Rattle.expr.proofs.Parts.{wrote-left, wrote-right}
 use Rattle.tree.specs.Sorts.{Sort, Sorts, nil, _&_}
-use Rattle.tree.specs.Tree.{Shape, one, row, rows, Tree, done, cons, none, more, count, wordsT, Right}
+use Rattle.tree.specs.Tree.{Shape, one, row, rows, Tree, word, value, Stmt, list, part, this, that, done, cons, none, more, count, wordsT, Right}
 use Rattle.tree.specs.Stands.{Stands}
-use Rattle.table.specs.Rows.{Row, Holds}
+use Rattle.plans.specs.Pieces.{Piece, exprPiece, stmtPiece, written}
+use Rattle.plans.specs.Plans.{Opened}
 use Rattle.resolve.specs.Tables.{Tables, nowhere, after}
-use Rattle.resolve.specs.FromRows.{tablesOf}
 use Rattle.resolve.specs.Resolve.{resolveTree}
-use Rattle.resolve.specs.Keeps.{shorter-tree}
-use Rattle.resolver.specs.Post.{Room, Put}
+use Rattle.resolve.specs.Keeps.{count-tree, shorter-tree}
+use Rattle.resolver.specs.Post.{Put}
 use Rattle.resolver.proofs.Writing.{sets-append}
 
 -- the tree with no argument places
 abbrev pub plain : Tables → ℕ → {i : Shape} → Tree Expr i → List ℕ
 plain T σ v = wordsT (resolveTree T σ nowhere v)
+
+-- the words of each piece so resolved
+abbrev resolved : Tables → ℕ → Piece Expr → List ℕ
+resolved T σ (exprPiece e) = plain T σ (value e)
+resolved T σ (stmtPiece k line r) = plain T σ (Stmt k line r)
+
+plain-written : (T : Tables) (σ : ℕ) {i : Shape} (v : Tree Expr i) → plain T σ v ≡ written (resolved T σ) v
+unfolding written resolveTree wordsT nowhere after
+plain-written T σ (word x) = refl
+plain-written T σ (value e) = refl
+plain-written T σ (Stmt k line r) = refl
+plain-written T σ (list rs) = ap₂ (λ (n : ℕ) (l : List ℕ). wordOf 1 n ∷ l) (count-tree T σ nowhere rs) (plain-written T σ rs)
+plain-written T σ (part r) = plain-written T σ r
+plain-written T σ (this {k} r) = ap (λ (l : List ℕ). wordOf k 0 ∷ l) (plain-written T σ r)
+plain-written T σ (that v) = plain-written T σ v
+plain-written T σ done = refl
+plain-written T σ (cons v r) = ap₂ _++_ (plain-written T σ v) (plain-written T σ r)
+plain-written T σ none = refl
+plain-written T σ (more r rs) = ap₂ _++_ (plain-written T σ r) (plain-written T σ rs)
+
+-- a field that is some words and then rows: these words stay, and the rows are resolved
+pub open-words : (T : Tables) (σ : ℕ) {ws ns : List ℕ} {n at end : ℕ} {s : Sort} {v : Tree Expr (one s)} {c r k : ℕ} (o : Opened ws ns n at end v c r k) → plain T σ v ≡ take c (drop at ws) ++ plain T σ (o .inner)
+open-words T σ {ws} {at = at} {v = v} {c} o = plain-written T σ v ∙ o .after (resolved T σ) ∙ ap (λ (l : List ℕ). take c (drop at ws) ++ l) (sym (plain-written T σ (o .inner)))
 
 -- of v, which stands from `at` on, a tree of the shape j is left, which stands at a; what is written reaches t
 pub record Rest (T : Tables) (σ : ℕ) (ws ns : List ℕ) (n : ℕ) {i : Shape} (v : Tree Expr i) (j : Shape) (at end to : ℕ) (out : List ℕ) (a t : ℕ) (now : List ℕ) : Type 0 where

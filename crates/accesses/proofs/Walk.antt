@@ -1,31 +1,32 @@
 -- What the calls inside `field`, `stmt`, `each` and `row` require, and what they make together. Assumes nothing.
-use Prim.Native.Nat.{ℕ, zero, suc, _+_, _-_, _*_, _≤_, _<_}
+use Prim.Native.Nat.{ℕ, suc, _+_, _-_, _≤_, _<_}
 use native.Mathlib.Nat.{add-zero}
 use native.Mathlib.Numerals.{add-one}
 use native.Mathlib.Omega.{arith}
-use mathlib.Core.Path.{_≡_, refl, sym, ap, ap₂, subst, _∙_}
+use mathlib.Core.Path.{_≡_, sym, ap, subst, _∙_}
 use mathlib.Core.List.{List, [], _∷_, _++_}
 use lib.ListN.{length, take, drop, getD, length-append, length-drop}
 use lib.Seq.{sets, length-take-le, drop-cons}
-use Rattle.words.specs.Word.{wordOf, kindOf, payOf}
-use Rattle.expr.specs.Expr.{Strings, Expr, Exprs, many, words, wordsAll}
-use Rattle.expr.specs.Stands as W
-use Rattle.expr.proofs.Parts.{wrote-first, pay-is}
-use Rattle.tree.specs.Sorts.{Sort, expr, stmt, Sorts, nil, _&_, body, Kind, sorts}
+use Rattle.words.specs.Word.{kindOf, payOf}
+use Rattle.expr.specs.Expr.{Expr, many, wordsAll}
+use Rattle.expr.proofs.Parts.{pay-is}
+use Rattle.tree.specs.Sorts.{Sort, expr, stmt, Sorts, nil}
 use Rattle.tree.specs.Tree.{strings, Shape, one, row, rows, Tree, value, Stmt, count, wordsT, Right}
-use Rattle.tree.specs.Stands.{Stands, SomeTree}
-use Rattle.tree.specs.Codes.{codes, partCodes, parts, allRows, decode, sortAt, rowOf}
-use Rattle.tree.proofs.Steps.{decode-stop, decode-go, decode-over, decode-row}
+use Rattle.tree.specs.Stands.{Stands}
+use Rattle.tree.specs.Codes.{codes, decode, sortAt, rowOf}
+use Rattle.tree.proofs.Steps.{decode-stop, decode-over, decode-row}
+use Rattle.plans.specs.Plans.{Planned, InsideAt}
+use Rattle.plans.proofs.Walk.{on, stmt-row, fields}
 use Rattle.table.specs.Rows.{Row, Holds}
 use Rattle.resolve.specs.Tables.{Tables, nowhere, places}
 use Rattle.resolve.specs.FromRows.{tablesOf}
-use Rattle.resolve.specs.Resolve.{resolveExpr, resolveArgs, first, inside, resolveTree}
+use Rattle.resolve.specs.Resolve.{resolveExpr, resolveArgs, resolveTree}
 use Rattle.resolve.specs.Flags.{passed-false}
 use Rattle.resolver.specs.Post.{Room, Ready, ReadyAll, Put, Resolved, ResolvedArgs}
 use Rattle.resolver.proofs.Writing.{sets-append}
-use Rattle.accesses.specs.Post.{ReadyTree, ReadyRows, ResolvedTree, ResolvedRows, Planned, Listed, InsideAt}
-use Rattle.accesses.proofs.Trees.{plain, Rest, Split, rest-start, rest-step, rest-end, split-row, split-rows, split-count, row-over, rows-over}
-use Rattle.accesses.proofs.Statements.{head-kind, stmt-row, fields, stmt-words, InCall, in-call}
+use Rattle.accesses.specs.Post.{ReadyTree, ReadyRows, ResolvedTree, ResolvedRows}
+use Rattle.accesses.proofs.Trees.{plain, open-words, Rest, Split, rest-start, rest-step, rest-end, split-row, split-rows, split-count, row-over, rows-over}
+use Rattle.accesses.proofs.Statements.{stmt-words, view-inside, InCall, in-call}
 
 -- the same room further on
 pub room-at : {ws buf : List ℕ} {count scope at to size : ℕ} → Room ws buf count scope at to size → (a t : ℕ) {size′ : ℕ} → t ≤ a → size′ ≡ size → Room ws buf count scope a t size′
@@ -85,7 +86,7 @@ rows-done {s} {ws} {buf} {out} {mid} {last} {count} {scope} {at} {to} {c} {r} {k
         let x : List ℕ = take c (drop at ws) in
         let y : List ℕ = plain T scope (o .inner) in
         let l : length x ≡ c = length-take-le c (drop at ws) (omega (arith, length-drop at ws)) in
-        let whole : plain T scope v ≡ x ++ y = o .is T scope in
+        let whole : plain T scope v ≡ x ++ y = open-words T scope o in
         record {
           past = e .past;
           upto = rw whole (simp length-append (omega (arith, e .upto, l)));
@@ -153,10 +154,6 @@ rest-as {T} {σ} {ws} {ns} {n} {v = v} {at} {end} {to} {out} {a} {t} {now} q p =
 pub row-start : (r : ℕ) (ws buf out : List ℕ) (count scope at to : ℕ) → WalkedRow r ws buf out count scope at to at to 0 out
 row-start r ws buf out count scope at to = record { gives = λ rs H ns n v end s. rest-as (ap row (sym (decode-row r))) (rest-start (tablesOf rs) scope to out s) }
 
--- the row from the i-th field on, which has the number k
-on : (r i k : ℕ) → k ≡ getD (codes r) i 0 → (k ≡ 0 → ⊥) → decode (drop i (codes r)) ≡ sortAt k & decode (drop (i + 1) (codes r))
-on r i k e z = decode-go (codes r) i (λ y. z (e ∙ y)) ∙ ap (λ (x : ℕ). sortAt x & decode (drop (i + 1) (codes r))) (sym e)
-
 pub next-field : {r : ℕ} {ws buf out : List ℕ} {count scope at to size a t i k : ℕ} {now : List ℕ} → ReadyTree (row (rowOf r)) ws buf count scope at to size → WalkedRow r ws buf out count scope at to a t i now → k ≡ getD (codes r) i 0 → (k ≡ 0 → ⊥) → {size′ : ℕ} → size′ ≡ size → Here (one (sortAt k)) ws buf count scope at size′ a t
 next-field {r} {scope = scope} {a = a} {t} {i} {k} d w e z q =
     let p = rest-as (ap row (on r i k e z)) (w .gives (d .room .rows) (d .room .holds) (d .some .names) (d .some .strings) (d .some .tree) (d .some .end) (d .some .stands)) in
@@ -219,7 +216,7 @@ fields-done {ws} {buf} {out} {mid} {last} {count} {scope} {at} {to} {inner} {a} 
         let e = resolved-as (ap row (sym (stmt-row s))) d .gives rs H ns n r end (fields s) in
         let y : List ℕ = plain T inner r in
         let w : ℕ = getD ws at 0 in
-        let whole : plain T scope (Stmt k line r) ≡ w ∷ y = stmt-words s f T scope ∙ ap (λ (σ : ℕ). w ∷ plain T σ r) (sym (g .gives ns n k line r end s)) in
+        let whole : plain T scope (Stmt k line r) ≡ w ∷ y = stmt-words s f T scope ∙ ap (λ (σ : ℕ). w ∷ plain T σ r) (sym (g .gives ns n k line r end s ∙ view-inside scope k r)) in
         let one : mid ≡ sets out to (w ∷ []) = b ∙ ap (λ (l : List ℕ). sets out to l) (first-words ws at h) in
         record {
           past = e .past;
@@ -269,13 +266,3 @@ call-done {ws} {buf} {out} {mid} {last} {count} {scope} {at} {to} {a} {t} q h b 
           upto = rw whole (simp length-append (omega (arith, e .upto, ap length yy)));
           now = rw whole (e .now ∙ ap (λ (l : List ℕ). sets mid (to + 3) l) yy ∙ ap (λ (l : List ℕ). sets l (to + 3) y) one ∙ sym (sets-append x y out to));
         }
-
--- ---- a list of statements
-
-pub body-sort : sortAt 68 ≡ body
-unfolding sortAt rowOf allRows parts
-body-sort = refl
-
-pub body-listed : Listed 68
-unfolding codes partCodes
-body-listed = record { row = 5; place = 0; is = refl }

@@ -1,105 +1,11 @@
 // Resolves statements of all kinds by the table of their fields, into a lent output.
 use resolver::Spot;
-ghost use mathlib.Core.Path.{_≡_};
-ghost use Prim.Native.Nat.{_+_, _≤_, _<_};
-ghost use mathlib.Core.Logic.{_≢_};
-ghost use lib.ListN.{length, take, drop};
-ghost use Rattle.tree.specs.Sorts.{stmt as stmtSort, many, opt, body};
+ghost use lib.ListN.{length};
+ghost use Rattle.tree.specs.Sorts.{stmt as stmtSort, body};
 ghost use Rattle.tree.specs.Tree.{one, row as rowShape};
-ghost use Rattle.tree.specs.Codes.{sortAt, rowOf, chain, allRows};
-ghost use Rattle.tree.specs.Stands.{SomeTree};
-ghost use Rattle.accesses.specs.Post.{ReadyTree, ReadyRows, ResolvedTree, ResolvedRows, Planned, Listed, InsideAt};
-
-// What a field is: so many words as they are, and then so many times a row of fields.
-pub struct Plan {
-    same: usize,
-    row: usize,
-    times: u32,
-}
-
-// One of `count` heads from the kind `first` on, of which the first one's row is `r`.
-fn chosen(words: &[u32], at: usize, first: u32, count: u32, r: usize) -> Plan
-    requires { ⌜ SomeTree (one (chain first (take count (drop r allRows)))) (now words) at × (r + count ≤ 93) ⌝ }
-    ensures { λ p. ⌜ Planned (chain first (take count (drop r allRows))) (now (words .entry)) at (p .same) (p .row) (p .times) ⌝ }
-{
-    let k = words[at] / 16777216;
-    Plan {
-        same: 1,
-        row: r + (k - first) as usize,
-        times: 1,
-    }
-}
-
-// The word 0, or a row.
-fn optional(words: &[u32], at: usize, r: usize) -> Plan
-    requires { ⌜ Listed (r + 16) × (r < 48) ⌝ }
-    ensures { λ p. ⌜ Planned (opt (rowOf r)) (now (words .entry)) at (p .same) (p .row) (p .times) ⌝ }
-{
-    if at < words.len() {
-        if words[at] == 0 {
-            return Plan {
-                same: 1,
-                row: 0,
-                times: 0,
-            };
-        }
-    }
-    Plan {
-        same: 0,
-        row: r,
-        times: 1,
-    }
-}
-
-// A list of rows, its count first.
-fn listed(words: &[u32], at: usize, r: usize) -> Plan
-    requires { ⌜ SomeTree (one (many (rowOf r))) (now words) at ⌝ }
-    ensures { λ p. ⌜ Planned (many (rowOf r)) (now (words .entry)) at (p .same) (p .row) (p .times) ⌝ }
-{
-    Plan {
-        same: 1,
-        row: r,
-        times: words[at] % 16777216,
-    }
-}
-
-// What the field at `at` is, by its sort: neither an expression nor a statement.
-fn plan_for(words: &[u32], at: usize, sort: u8) -> Plan
-    requires { ⌜ SomeTree (one (sortAt sort)) (now words) at × Listed sort × (sort ≢ 9) × (sort ≢ 10) ⌝ }
-    ensures { λ p. ⌜ Planned (sortAt sort) (now (words .entry)) at (p .same) (p .row) (p .times) ⌝ }
-{
-    match sort {
-        11 => chosen(words, at, 48, 2, 22),
-        12 => chosen(words, at, 40, 6, 24),
-        13 => chosen(words, at, 32, 3, 30),
-        14 => chosen(words, at, 36, 3, 33),
-        15 => chosen(words, at, 52, 3, 36),
-        16..=63 => optional(words, at, sort as usize - 16),
-        64..=111 => listed(words, at, sort as usize - 64),
-        112..=255 => Plan {
-            same: 0,
-            row: sort as usize - 112,
-            times: 1,
-        },
-        _ => Plan {
-            same: 1,
-            row: 0,
-            times: 0,
-        },
-    }
-}
-
-// The scope inside the statement at `at`: SUB and FUNCTION have their own.
-fn inside(words: &[u32], at: usize, scope: u32) -> u32
-    requires { ⌜ SomeTree (one stmtSort) (now words) at × (scope ≤ 16777216) ⌝ }
-    ensures { λ r. ⌜ InsideAt (now (words .entry)) at scope r ⌝ }
-{
-    match words[at] / 16777216 {
-        84 => words[at + 1] % 16777216 + 1,
-        85 => words[at + 1] % 16777216 + 1,
-        _ => scope,
-    }
-}
+ghost use Rattle.tree.specs.Codes.{sortAt, rowOf};
+ghost use Rattle.plans.specs.Plans.{Listed};
+ghost use Rattle.accesses.specs.Post.{ReadyTree, ReadyRows, ResolvedTree, ResolvedRows};
 
 // A field of a sort.
 fn field(
@@ -121,7 +27,7 @@ fn field(
     if sort == 10 {
         return stmt(words, rows, count, scope, out, at, to);
     }
-    let p = plan_for(words, at, sort);
+    let p = plans::plan_for(words, at, sort);
     let c = p.same;
     let r = p.row;
     let n = p.times;
@@ -150,7 +56,7 @@ fn stmt(
         return resolver::resolve_args(words, rows, count, scope, out, at + 3, to + 3, f, n);
     }
     resolver::copy(words, out, at, to, 1);
-    let inner = inside(words, at, scope);
+    let inner = plans::inside(words, at, scope);
     row(
         words,
         rows,

@@ -22,13 +22,14 @@ use Rattle.steps.specs.declared.Counts.{Counts}
 use Rattle.collect.specs.Seen.{see}
 use Rattle.collect.specs.Collect.{Given, given, statement, collect}
 use Rattle.plans.specs.Pieces.{Piece, exprPiece, stmtPiece, pieces}
-use Rattle.plans.specs.Plans.{Planned, Shallow, ShallowRows, Walks, WalksRows}
+use Rattle.plans.specs.Plans.{Planned, InsideAt, Shallow, ShallowRows, Walks, WalksRows}
+use Rattle.plans.proofs.Scopes.{inner-over}
 use Rattle.plans.proofs.Walk as P
 use Rattle.plans.proofs.Walk.{to-some, shallow-as, walks-as, in-value, value-done, open-rows, open-fits, open-done, fields-there, fields-done}
 use Rattle.lawful.specs.Good.{Good}
 use Rattle.lawful.specs.Views.{Known, stands-known, Scope, inner-scope, view-fine}
 use Rattle.lawful.specs.Lawful.{statement-good}
-use Rattle.collecting.specs.Walk.{Kept, Around, Ready, ReadyRows, piece, Collected, Walked, WalkedRows, Stated, InsideAt}
+use Rattle.collecting.specs.Walk.{Kept, Around, Ready, ReadyRows, piece, Collected, Walked, WalkedRows, Stated}
 
 -- ---- pieces, one after another
 
@@ -106,6 +107,10 @@ rows-walked {ns = ns} {bytes} {ends} {erased} {scope} {s = s} {t} {b} {d} {b′}
 
 -- ---- a statement
 
+-- the scope of its bodies, as collecting sees it
+within-seen : {ws ns : List ℕ} {n at end scope within : ℕ} {k : Kind} {line : ℕ} {f : Tree Expr (row (sorts k))} → InsideAt ws at scope within → Stands ws ns n at (Stmt k line f) end → within ≡ inner scope (view k (over see f))
+within-seen {ns = ns} {n} {end = end} {scope} {k = k} {line} {f} I h = I .gives ns n k line f end h ∙ sym (inner-over see scope k f)
+
 module _ {ws ns bytes ends : List ℕ} {scope at : ℕ} {s : Counts} {b d : List ℕ} (W32 : Words32 ws) (R : Ready (one stmt) ws ns bytes ends scope at s b d) where
   pub stated-kept : {erased : List ℕ} {t : Counts} {b′ d′ : List ℕ} → Stated ws ns (length ends) bytes ends erased scope at s t b d b′ d′ → Kept ns (length ends) t b′ d′
   unfolding Right
@@ -132,7 +137,7 @@ module _ {ws ns bytes ends : List ℕ} {scope at : ℕ} {s : Counts} {b d : List
       go : (v : Tree Expr (one stmt)) → Stands ws ns (length ends) at v (R .tree .end) → Around bytes ends ns within
       go (Stmt k line f) h =
           let x : Scope ns (length ends) (inner scope (view k (over see f))) = inner-scope ns (length ends) (view k (over see f)) (R .around .scoped) (view-fine ns (length ends) k f (h .valid .1) (stands-known W32 (P.fields h))) in
-          record { named = R .around .named; counted = R .around .counted; few = R .around .few; scoped = subst (Scope ns (length ends)) (sym (I .gives ns (length ends) k line f (R .tree .end) h)) x }
+          record { named = R .around .named; counted = R .around .counted; few = R .around .few; scoped = subst (Scope ns (length ends)) (sym (within-seen I h)) x }
 
 pub stmt-walked : {ws ns bytes ends erased : List ℕ} {scope within at next : ℕ} {s t r : Counts} {b d b′ d′ b″ d″ : List ℕ} → InsideAt ws at scope within → Stated ws ns (length ends) bytes ends erased scope at s t b d b′ d′
     → Walked (row (rowOf (kindOf (getD ws at 0) - 64 + 39))) ws ns bytes ends erased within (at + 1) next t r b′ d′ b″ d″ → Walked (one stmt) ws ns bytes ends erased scope at next s r b d b″ d″
@@ -147,7 +152,7 @@ stmt-walked {ws} {ns} {bytes} {ends} {erased} {scope} {within} {at} {next} {s} {
     by ns′ n k line f end h F p q =
         let h′ : Stands ws ns (length ends) at (Stmt k line f) end = subst (λ (m : ℕ). Stands ws ns m at (Stmt k line f) end) q (subst (λ (x : List ℕ). Stands ws x n at (Stmt k line f) end) p h) in
         let G : ℕ → ℕ → Given = λ N D. given (some N) (some D) bytes ends erased in
-        let i : within ≡ inner scope (view k (over see f)) = I .gives ns′ n k line f end h in
+        let i : within ≡ inner scope (view k (over see f)) = within-seen I h in
         let F′ : Does (λ N D. walk (statement (G N D)) (inner scope (view k (over see f))) (over see f)) t r b′ d′ b″ d″ =
         same (λ N D. walk (statement (G N D)) (inner scope (view k (over see f))) (over see f)) (λ N D st. walk-pieces (G N D) within f st ∙ ap (λ (x : ℕ). walk (statement (G N D)) x (over see f) st) i) (F p q) in
         then (S .does k line f end h′) F′

@@ -75,11 +75,6 @@ pub record Stated (ws ns : List ℕ) (n : ℕ) (bytes ends erased : List ℕ) (s
   pub does : (k : Kind) (line : ℕ) (fields : Tree Expr (row (sorts k))) (end : ℕ) → Stands ws ns n at (Stmt k line fields) end
       → Does (λ N D. statement (given (some N) (some D) bytes ends erased) scope line (view k (over see fields))) s r b d b′ d′
 
--- the scope of its bodies
-pub record InsideAt (ws : List ℕ) (at scope within : ℕ) : Type 0 where
-  pub fits : within ≤ 16777216
-  pub gives : (ns : List ℕ) (n : ℕ) (k : Kind) (line : ℕ) (r : Tree Expr (row (sorts k))) (end : ℕ) → Stands ws ns n at (Stmt k line r) end → within ≡ inner scope (view k (over see r))
-
 -- a list of statements is collected, and the rows stay such that a lent table may have them
 pub record Collects (ws ns bytes ends erased : List ℕ) (scope at next : ℕ) (s r : Counts) (b d b′ d′ : List ℕ) : Type 0 where
   pub does : (v : Tree Expr (one body)) (end : ℕ) → Stands ws ns (length ends) at v end → (next ≡ end) × Does (λ N D. collect (given (some N) (some D) bytes ends erased) scope (over see v)) s r b d b′ d′

@@ -1,31 +1,16 @@
 // The walk of collecting: each statement, then its bodies, those of a procedure in its own scope. By the table of fields, in one pass over the words.
 use steps::Counts;
-ghost use mathlib.Core.Path.{_≡_};
-ghost use Prim.Native.Nat.{_≤_};
 ghost use lib.ListN.{length};
 ghost use Rattle.tree.specs.Sorts.{stmt as stmtSort, body};
 ghost use Rattle.tree.specs.Tree.{one, row as rowShape};
 ghost use Rattle.tree.specs.Codes.{sortAt, rowOf};
-ghost use Rattle.tree.specs.Stands.{SomeTree};
 ghost use Rattle.plans.specs.Plans.{Listed};
-ghost use Rattle.collecting.specs.Walk.{Ready, ReadyRows, Walked, WalkedRows, Stated, InsideAt, Collects};
+ghost use Rattle.collecting.specs.Walk.{Ready, ReadyRows, Walked, WalkedRows, Stated, Collects};
 
 // The counts, and the place past what was walked.
 pub struct Moved {
     pub counts: Counts,
     pub next: usize,
-}
-
-// The scope of the bodies of the statement at `at`: SUB and FUNCTION have their own.
-fn inside(words: &[u32], at: usize, scope: u32) -> u32
-    requires { ⌜ SomeTree (one stmtSort) (now words) at × (scope ≤ 16777216) ⌝ }
-    ensures { λ r. ⌜ InsideAt (now (words .entry)) at scope r ⌝ }
-{
-    match words[at] / 16777216 {
-        84 => words[at + 1] % 16777216 + 1,
-        85 => words[at + 1] % 16777216 + 1,
-        _ => scope,
-    }
 }
 
 // One statement, but for its bodies.
@@ -121,7 +106,7 @@ fn stmt(
     ensures { λ r. ⌜ Walked (one stmtSort) (now (words .entry)) (now (names .entry)) (now (bytes .entry)) (now (ends .entry)) (now (erased .entry)) scope at (r .next) s (r .counts) (now (b .entry)) (now (d .entry)) (now (b .exit)) (now (d .exit)) ⌝ }
 {
     let k = words[at] / 16777216;
-    let inner = inside(words, at, scope);
+    let inner = plans::inside(words, at, scope);
     let t = statement(words, names, bytes, ends, erased, b, d, s, scope, at);
     row(
         words,

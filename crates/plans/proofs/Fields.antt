@@ -10,6 +10,7 @@ use lib.ListN.{length, take, drop, getD}
 use borrow.Author.Tests.{lt-ltb, eq-eqb}
 use Rattle.words.specs.Word.{wordOf, kindOf, payOf}
 use Rattle.expr.specs.Expr.{Expr}
+use Rattle.expr.specs.Stands.{Wrote}
 use Rattle.expr.proofs.Parts.{wrote-first, kind-is, pay-is}
 use Rattle.tree.specs.Sorts.{Leaf, Sort, leaf, many, group, never, Sorts, nil, opt, kinds, sorts}
 use Rattle.tree.specs.Tree.{one, row, rows, Tree, word, list, part, this, that, done, none, more, count, wordsT, Right, depthT}
@@ -18,13 +19,17 @@ use Rattle.tree.specs.Reader.{isAt}
 use Rattle.tree.specs.Codes.{parts, allRows, rowOf, singles, sortAt, chain, codes, partCodes, stmtCodes}
 use Rattle.tree.proofs.Complete.{may, mayR, clear, clearR, not-first}
 use Rattle.tree.proofs.Steps.{sizeS, sizeR, size-group, size-opt, small-row, row-chain, length-chain, sort-opt}
-use Rattle.plans.specs.Pieces.{pieces}
+use Rattle.plans.specs.Pieces.{Piece, pieces, written}
 use Rattle.plans.specs.Plans.{Opened, Planned, Listed}
 
 -- a type's heads one after another
 pub is-type : {k : ℕ} → k ≡ 12 → sortAt k ≡ chain 40 (take 6 (drop 24 allRows))
 unfolding sortAt singles chain allRows parts
 is-type e = ap sortAt e
+
+-- the first word, as it stands there
+first-word : {ws : List ℕ} {at w end : ℕ} {xs : List ℕ} → Wrote ws at (w ∷ xs) end → take 1 (drop at ws) ≡ w ∷ []
+first-word w = ap (λ (l : List ℕ). take 1 l) (w .is)
 
 and-left : (a b : Bool) → (a && b) ≡ true → a ≡ true
 and-left true b e = refl
@@ -48,13 +53,13 @@ module _ (ws : List ℕ) (at : ℕ) where
   -- ---- a plain word
 
   pub plan-leaf : (l : Leaf) → Planned (leaf l) ws at 1 0 0
-  unfolding pieces depthT wordsT Right count
+  unfolding pieces written depthT wordsT Right count
   plan-leaf l = record { opens = λ ns n v end s. go ns n v end s; falls = taken 0 (leaf l) }
     where
       go : (ns : List ℕ) (n : ℕ) (v : Tree Expr (one (leaf l))) (end : ℕ) → Stands ws ns n at v end → Opened ws ns n at end v 1 0 0
       go ns n (word x) end s =
           let f = wrote-first (s .wrote) in
-          record { inner = none; counted = refl; there = record { wrote = f .rest; valid = tt }; is = refl; deep = refl }
+          record { inner = none; counted = refl; there = record { wrote = f .rest; valid = tt }; is = refl; after = λ g. sym (append-nil (take 1 (drop at ws)) ∙ first-word (s .wrote)); deep = refl }
 
   plan-never : Planned never ws at 1 0 0
   plan-never = record { opens = λ ns n v end s. elim v [ ]; falls = taken 0 never }
@@ -75,13 +80,13 @@ module _ (ws : List ℕ) (at : ℕ) where
   -- ---- a list, and a struct
 
   pub plan-many : (r : ℕ) → Planned (many (rowOf r)) ws at 1 r (payOf (getD ws at 0))
-  unfolding pieces depthT wordsT Right count
+  unfolding pieces written depthT wordsT Right count
   plan-many r = record { opens = λ ns n v end s. go ns n v end s; falls = taken r (many (rowOf r)) }
     where
       go : (ns : List ℕ) (n : ℕ) (v : Tree Expr (one (many (rowOf r)))) (end : ℕ) → Stands ws ns n at v end → Opened ws ns n at end v 1 r (payOf (getD ws at 0))
       go ns n (list rs) end s =
           let f = wrote-first (s .wrote) in
-          record { inner = rs; counted = sym (ap payOf (f .is) ∙ pay-is 1 (count rs) (s .valid .0)); there = record { wrote = f .rest; valid = s .valid .1 }; is = refl; deep = refl }
+          record { inner = rs; counted = sym (ap payOf (f .is) ∙ pay-is 1 (count rs) (s .valid .0)); there = record { wrote = f .rest; valid = s .valid .1 }; is = refl; after = λ g. ap (λ (l : List ℕ). l ++ written g rs) (sym (first-word (s .wrote))); deep = refl }
 
   -- one row, alone
   single : {ns : List ℕ} {n : ℕ} {ss : Sorts} {a end : ℕ} {t : Tree Expr (row ss)} → Stands ws ns n a t end → Stands ws ns n a (more t none) end
@@ -89,13 +94,13 @@ module _ (ws : List ℕ) (at : ℕ) where
   single {t = t} s = record { wrote = rw (append-nil (wordsT t)) (s .wrote); valid = (s .valid, tt) }
 
   pub plan-group : (r : ℕ) → Planned (group (rowOf r)) ws at 0 r 1
-  unfolding pieces depthT wordsT Right count
+  unfolding pieces written depthT wordsT Right count
   plan-group r = record { opens = λ ns n v end s. go ns n v end s; falls = omega (arith, size-group (rowOf r)) }
     where
       go : (ns : List ℕ) (n : ℕ) (v : Tree Expr (one (group (rowOf r)))) (end : ℕ) → Stands ws ns n at v end → Opened ws ns n at end v 0 r 1
       go ns n (part t) end s =
           let h : Stands ws ns n at (more t none) end = single (record { wrote = s .wrote; valid = s .valid }) in
-          record { inner = more t none; counted = refl; there = rw (add-zero at) h; is = sym (append-nil (pieces t)); deep = sym (max-zero (depthT t)) }
+          record { inner = more t none; counted = refl; there = rw (add-zero at) h; is = sym (append-nil (pieces t)); after = λ g. sym (append-nil (written g t)); deep = sym (max-zero (depthT t)) }
 
   -- ---- an option
 
@@ -107,24 +112,24 @@ module _ (ws : List ℕ) (at : ℕ) where
   zero-gone f h e = false≢true (sym f ∙ zero-here h e)
 
   pub plan-absent : (r : ℕ) → clear (opt (rowOf r)) ≡ true → at < length ws → getD ws at 0 ≡ 0 → Planned (opt (rowOf r)) ws at 1 0 0
-  unfolding pieces depthT wordsT Right count clear
+  unfolding pieces written depthT wordsT Right count clear
   plan-absent r c h e = record { opens = λ ns n v end s. go ns n v end s; falls = taken 0 (opt (rowOf r)) }
     where
       go : (ns : List ℕ) (n : ℕ) (v : Tree Expr (one (opt (rowOf r)))) (end : ℕ) → Stands ws ns n at v end → Opened ws ns n at end v 1 0 0
       go ns n (this done) end s =
           let f = wrote-first (s .wrote) in
-          record { inner = none; counted = refl; there = record { wrote = f .rest; valid = tt }; is = refl; deep = refl }
+          record { inner = none; counted = refl; there = record { wrote = f .rest; valid = tt }; is = refl; after = λ g. sym (append-nil (take 1 (drop at ws)) ∙ first-word (s .wrote)); deep = refl }
       go ns n (that v) end s = absurd (zero-gone (not-first ws ns n 0 v at end (and-left _ _ c) (s .valid) (s .wrote)) h e)
 
   pub plan-present : (r : ℕ) → isAt ws 0 at ≡ false → Planned (opt (rowOf r)) ws at 0 r 1
-  unfolding pieces depthT wordsT Right count
+  unfolding pieces written depthT wordsT Right count
   plan-present r f = record { opens = λ ns n v end s. go ns n v end s; falls = omega (arith, size-opt (rowOf r)) }
     where
       go : (ns : List ℕ) (n : ℕ) (v : Tree Expr (one (opt (rowOf r)))) (end : ℕ) → Stands ws ns n at v end → Opened ws ns n at end v 0 r 1
       go ns n (this done) end s = let g = wrote-first (s .wrote) in absurd (zero-gone f (g .inside) (g .is))
       go ns n (that (part t)) end s =
           let h : Stands ws ns n at (more t none) end = single (record { wrote = s .wrote; valid = s .valid }) in
-          record { inner = more t none; counted = refl; there = rw (add-zero at) h; is = sym (append-nil (pieces t)); deep = sym (max-zero (depthT t)) }
+          record { inner = more t none; counted = refl; there = rw (add-zero at) h; is = sym (append-nil (pieces t)); after = λ g. sym (append-nil (written g t)); deep = sym (max-zero (depthT t)) }
 
   -- ---- one of several heads
 
@@ -135,24 +140,25 @@ module _ (ws : List ℕ) (at : ℕ) where
     inner : Tree Expr (row (getD rs which nil))
     there : Stands ws ns n (at + 1) inner end
     is : pieces v ≡ pieces inner
+    after : (g : Piece Expr → List ℕ) → written g v ≡ take 1 (drop at ws) ++ written g inner
     deep : depthT v ≡ depthT inner
 
   chosen : (k : ℕ) (rs : List Sorts) (ns : List ℕ) (n : ℕ) (v : Tree Expr (one (chain k rs))) (end : ℕ) → Stands ws ns n at v end → Chosen k rs ns n v end
-  unfolding chain pieces depthT wordsT Right
+  unfolding chain pieces written depthT wordsT Right
   chosen k [] ns n v end s = elim v [ ]
   chosen k (ss ∷ rs) ns n (this t) end s =
       let f = wrote-first (s .wrote) in
-      record { which = 0; below = omega arith; head = f .is ∙ ap (λ (x : ℕ). wordOf x 0) (sym (add-zero k)); inner = t; there = record { wrote = f .rest; valid = s .valid }; is = refl; deep = refl }
+      record { which = 0; below = omega arith; head = f .is ∙ ap (λ (x : ℕ). wordOf x 0) (sym (add-zero k)); inner = t; there = record { wrote = f .rest; valid = s .valid }; is = refl; after = λ g. ap (λ (l : List ℕ). l ++ written g t) (sym (first-word (s .wrote))); deep = refl }
   chosen k (ss ∷ rs) ns n (that v) end s =
       let d = chosen (suc k) rs ns n v end (record { wrote = s .wrote; valid = s .valid }) in
       let e : suc k + d .which ≡ k + suc (d .which) = omega arith in
-      record { which = suc (d .which); below = omega (arith, d .below); head = d .head ∙ ap (λ (x : ℕ). wordOf x 0) e; inner = d .inner; there = d .there; is = d .is; deep = d .deep }
+      record { which = suc (d .which); below = omega (arith, d .below); head = d .head ∙ ap (λ (x : ℕ). wordOf x 0) e; inner = d .inner; there = d .there; is = d .is; after = d .after; deep = d .deep }
 
   -- the row by its number
-  by-number : {ns : List ℕ} {n end : ℕ} {s : Sort} (v : Tree Expr (one s)) (r : ℕ) {ss : Sorts} → rowOf r ≡ ss → (t : Tree Expr (row ss)) → Stands ws ns n (at + 1) t end → pieces v ≡ pieces t → depthT v ≡ depthT t → Opened ws ns n at end v 1 r 1
-  unfolding pieces depthT wordsT count
-  by-number {ns} {n} {end} v r q = subst (λ (ss : Sorts). (t : Tree Expr (row ss)) → Stands ws ns n (at + 1) t end → pieces v ≡ pieces t → depthT v ≡ depthT t → Opened ws ns n at end v 1 r 1) q
-      (λ t h e f. record { inner = more t none; counted = refl; there = single h; is = e ∙ sym (append-nil (pieces t)); deep = f ∙ sym (max-zero (depthT t)) })
+  by-number : {ns : List ℕ} {n end : ℕ} {s : Sort} (v : Tree Expr (one s)) (r : ℕ) {ss : Sorts} → rowOf r ≡ ss → (t : Tree Expr (row ss)) → Stands ws ns n (at + 1) t end → pieces v ≡ pieces t → ((g : Piece Expr → List ℕ) → written g v ≡ take 1 (drop at ws) ++ written g t) → depthT v ≡ depthT t → Opened ws ns n at end v 1 r 1
+  unfolding pieces written depthT wordsT count
+  by-number {ns} {n} {end} v r q = subst (λ (ss : Sorts). (t : Tree Expr (row ss)) → Stands ws ns n (at + 1) t end → pieces v ≡ pieces t → ((g : Piece Expr → List ℕ) → written g v ≡ take 1 (drop at ws) ++ written g t) → depthT v ≡ depthT t → Opened ws ns n at end v 1 r 1) q
+      (λ t h e w f. record { inner = more t none; counted = refl; there = single h; is = e ∙ sym (append-nil (pieces t)); after = λ g. w g ∙ ap (λ (l : List ℕ). take 1 (drop at ws) ++ l) (sym (append-nil (written g t))); deep = f ∙ sym (max-zero (depthT t)) })
 
   pub plan-choice : (first count r : ℕ) → r + count ≤ 93 → Planned (chain first (take count (drop r allRows))) ws at 1 (r + (kindOf (getD ws at 0) - first)) 1
   plan-choice first k r b = record { opens = λ ns n v end s. go ns n v end s; falls = taken (r + (kindOf (getD ws at 0) - first)) (chain first (take k (drop r allRows))) }
@@ -163,7 +169,7 @@ module _ (ws : List ℕ) (at : ℕ) where
           let j : ℕ = d .which in
           let e : kindOf (getD ws at 0) - first ≡ j = omega (arith, ap kindOf (d .head), kind-is (first + j) 0 (lit< tt)) in
           let z : j < k = omega (arith, d .below, length-chain r k b) in
-          by-number v (r + (kindOf (getD ws at 0) - first)) (ap (λ (x : ℕ). rowOf (r + x)) e ∙ row-chain r k j z) (d .inner) (d .there) (d .is) (d .deep)
+          by-number v (r + (kindOf (getD ws at 0) - first)) (ap (λ (x : ℕ). rowOf (r + x)) e ∙ row-chain r k j z) (d .inner) (d .there) (d .is) (d .after) (d .deep)
 
   -- where such a field stands there is a word
   pub choice-inside : (first count r : ℕ) → SomeTree (one (chain first (take count (drop r allRows)))) ws at → (at < length ws) × (first ≤ kindOf (getD ws at 0))

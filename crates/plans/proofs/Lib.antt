@@ -1,3 +1,4 @@
 pub mod Fields
 pub mod Walk
 pub mod Members
+pub mod Scopes

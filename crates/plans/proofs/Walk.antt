@@ -221,7 +221,7 @@ pub row-start : (r : ℕ) (ws : List ℕ) (at : ℕ) {P : List ℕ → ℕ → L
 row-start r ws at {P} f = record { gives = λ ns n v end s. rest-as {P = P ns n} (ap row (sym (decode-row r))) (rest-start {P = P ns n} (f ns n) s) }
 
 -- the row from the i-th field on, which has the number k
-on : (r i k : ℕ) → k ≡ getD (codes r) i 0 → (k ≡ 0 → ⊥) → decode (drop i (codes r)) ≡ sortAt k & decode (drop (i + 1) (codes r))
+pub on : (r i k : ℕ) → k ≡ getD (codes r) i 0 → (k ≡ 0 → ⊥) → decode (drop i (codes r)) ≡ sortAt k & decode (drop (i + 1) (codes r))
 on r i k e z = decode-go (codes r) i (λ y. z (e ∙ y)) ∙ ap (λ (x : ℕ). sortAt x & decode (drop (i + 1) (codes r))) (sym e)
 
 pub next-field : {r : ℕ} {ns : List ℕ} {n d : ℕ} {ws : List ℕ} {at a i k : ℕ} {P : List ℕ → ℕ → List (Piece Expr) → Type 0} → Shallow (row (rowOf r)) ns n d ws at → WalkedRow r ws at a i P → k ≡ getD (codes r) i 0 → (k ≡ 0 → ⊥) → Here (one (sortAt k)) ns n d ws at a

@@ -1,22 +1,24 @@
 -- What the contracts of a walk by the table of fields cite. These are definitions.
 use Prim.Native.Nat.{ℕ, _+_, _*_, _<_, _≤_}
 use mathlib.Core.Path.{_≡_}
-use mathlib.Core.List.{List}
-use lib.ListN.{getD}
+use mathlib.Core.List.{List, _++_}
+use lib.ListN.{take, drop, getD}
 use Rattle.expr.specs.Expr.{Expr}
-use Rattle.tree.specs.Sorts.{Sort, Sorts}
-use Rattle.tree.specs.Tree.{Shape, one, rows, Tree, count, depthT}
+use Rattle.tree.specs.Sorts.{Sort, Sorts, Kind, sorts}
+use Rattle.tree.specs.Tree.{Shape, one, row, rows, Tree, Stmt, count, depthT}
 use Rattle.tree.specs.Stands.{Stands, SomeTree}
 use Rattle.tree.specs.Codes.{codes, rowOf}
 use Rattle.tree.proofs.Steps.{sizeS, sizeR}
-use Rattle.plans.specs.Pieces.{Piece, pieces}
+use Rattle.views.specs.View.{view, inner}
+use Rattle.plans.specs.Pieces.{Piece, pieces, written}
 
--- a field that is c words, in which no expression stands, and then so many times a row
+-- a field that is c words, in which no expression stands, and then so many times a row: the same pieces, and after these words the same words
 pub record Opened (ws ns : List ℕ) (n at end : ℕ) {s : Sort} (v : Tree Expr (one s)) (c r k : ℕ) : Type 0 where
   pub inner : Tree Expr (rows (rowOf r))
   pub counted : count inner ≡ k
   pub there : Stands ws ns n (at + c) inner end
   pub is : pieces v ≡ pieces inner
+  pub after : (g : Piece Expr → List ℕ) → written g v ≡ take c (drop at ws) ++ written g inner
   pub deep : depthT v ≡ depthT inner
 
 pub record Planned (s : Sort) (ws : List ℕ) (at c r k : ℕ) : Type 0 where
@@ -29,6 +31,11 @@ pub record Listed (sort : ℕ) : Type 0 where
   pub row : ℕ
   pub place : ℕ
   pub is : sort ≡ getD (codes row) place 0
+
+-- the scope of the bodies of the statement there
+pub record InsideAt (ws : List ℕ) (at scope within : ℕ) : Type 0 where
+  pub fits : within ≤ 16777216
+  pub gives : (ns : List ℕ) (n : ℕ) (k : Kind) (line : ℕ) (r : Tree Expr (row (sorts k))) (end : ℕ) → Stands ws ns n at (Stmt k line r) end → within ≡ inner scope (view k r)
 
 -- a tree of the shape stands there, of n strings whose marks are ns, at most d deep
 pub record Shallow (i : Shape) (ns : List ℕ) (n d : ℕ) (ws : List ℕ) (at : ℕ) : Type 0 where

@@ -1,13 +1,13 @@
-// What a field of a statement is, by its sort: some words and then rows of fields. A walk over statements of all kinds goes by it.
+// What a field of a statement is, by its sort: some words and then rows of fields; and the scope of its bodies. A walk over statements of all kinds goes by it.
 ghost use mathlib.Core.Path.{_≡_};
 ghost use Prim.Native.Nat.{_+_, _≤_, _<_};
 ghost use mathlib.Core.Logic.{_≢_};
 ghost use lib.ListN.{take, drop};
-ghost use Rattle.tree.specs.Sorts.{many, opt};
+ghost use Rattle.tree.specs.Sorts.{stmt as stmtSort, many, opt};
 ghost use Rattle.tree.specs.Tree.{one};
 ghost use Rattle.tree.specs.Codes.{sortAt, rowOf, chain, allRows};
 ghost use Rattle.tree.specs.Stands.{SomeTree};
-ghost use Rattle.plans.specs.Plans.{Planned, Listed};
+ghost use Rattle.plans.specs.Plans.{Planned, Listed, InsideAt};
 
 // So many words, and then so many times a row of fields.
 pub struct Plan {
@@ -85,5 +85,17 @@ pub fn plan_for(words: &[u32], at: usize, sort: u8) -> Plan
             row: 0,
             times: 0,
         },
+    }
+}
+
+// The scope of the bodies of the statement at `at`: SUB and FUNCTION have their own.
+pub fn inside(words: &[u32], at: usize, scope: u32) -> u32
+    requires { ⌜ SomeTree (one stmtSort) (now words) at × (scope ≤ 16777216) ⌝ }
+    ensures { λ r. ⌜ InsideAt (now (words .entry)) at scope r ⌝ }
+{
+    match words[at] / 16777216 {
+        84 => words[at + 1] % 16777216 + 1,
+        85 => words[at + 1] % 16777216 + 1,
+        _ => scope,
     }
 }

@@ -10,7 +10,7 @@ use Rattle.tree.specs.Sorts.{expr, stmt as stmtSort}
 use Rattle.tree.specs.Tree.{one, row as rowShape}
 use Rattle.tree.specs.Codes.{codes, decode, sortAt, rowOf}
 use Rattle.tree.proofs.Steps.{sizeS, sizeR, size-start, size-step, small-row, is-9, is-10}
-use Rattle.accesses.proofs.Statements.{head-range}
+use Rattle.plans.proofs.Walk.{head-range}
 use Rattle.accesses.proofs.Walk.{ready-as, resolved-as, ready-value, value-done, open-room, ready-rows, rows-done, WalkedRows, rows-start, next-row, rows-step, rows-over-done, WalkedRow, row-start, next-field, row-step, row-stop, row-full, ready-fields, fields-done, call-room, ready-call, call-done}
 use borrow.Fn.Kinds.{In}
 use borrow.Fn.PlainCycle.{Measures, is, falls, and}
@@ -26,8 +26,8 @@ use Rattle.accesses.proofs.+each+field+row+stmt.Lts-row as row-lts
 use Rattle.accesses.proofs.stmt.Reads as stmt
 use Rattle.accesses.proofs.stmt.Kinds as stmt-kinds
 use Rattle.accesses.proofs.+each+field+row+stmt.Lts-stmt as stmt-lts
-use Rattle.accesses.proofs.inside.Reads as inside-reads
-use Rattle.accesses.proofs.plan_for.Reads as plan-for-reads
+use Rattle.plans.proofs.inside.Reads as inside-reads
+use Rattle.plans.proofs.plan_for.Reads as plan-for-reads
 use Rattle.resolver.proofs.copy.Reads as copy-reads
 use Rattle.resolver.proofs.resolve_args.Reads as resolve-args-reads
 use Rattle.resolver.proofs.resolve_expr.Reads as resolve-expr-reads

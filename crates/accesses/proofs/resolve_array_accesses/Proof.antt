@@ -1,7 +1,8 @@
 -- A list of statements is the sort 68 of the table. Assumes nothing.
 use mathlib.Core.Path.{sym, ap}
 use Rattle.tree.specs.Tree.{one}
-use Rattle.accesses.proofs.Walk.{ready-as, resolved-as, body-sort, body-listed}
+use Rattle.plans.proofs.Walk.{body-sort, body-listed}
+use Rattle.accesses.proofs.Walk.{ready-as, resolved-as}
 use borrow.Author.Needs.{needs}
 use Rattle.accesses.proofs.resolve_array_accesses.Statement.{statement}
 use Rattle.accesses.proofs.resolve_array_accesses.Tie as tie

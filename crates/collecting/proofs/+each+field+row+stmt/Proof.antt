@@ -25,7 +25,7 @@ use Rattle.collecting.proofs.+each+field+row+stmt.Lts-row as row-lts
 use Rattle.collecting.proofs.stmt.Reads as stmt
 use Rattle.collecting.proofs.stmt.Kinds as stmt-kinds
 use Rattle.collecting.proofs.+each+field+row+stmt.Lts-stmt as stmt-lts
-use Rattle.collecting.proofs.inside.Reads as inside-reads
+use Rattle.plans.proofs.inside.Reads as inside-reads
 use Rattle.collecting.proofs.statement.Reads as statement-reads
 use Rattle.plans.proofs.plan_for.Reads as plan-for-reads
 use Rattle.skip.proofs.expr.Reads as expr-reads

@@ -1,9 +1,10 @@
 -- `inside`: a SUB's or FUNCTION's name plus 1, else the scope around. Assumes nothing.
 use native.Mathlib.Omega.{arith}
-use Rattle.accesses.proofs.Statements.{head-range, two-sub, two-function, in-sub, in-function, in-other}
+use Rattle.plans.proofs.Walk.{head-range}
+use Rattle.plans.proofs.Scopes.{two-sub, two-function, in-sub, in-function, in-other}
 use borrow.Author.Needs.{needs}
-use Rattle.accesses.proofs.inside.Statement.{statement}
-use Rattle.accesses.proofs.inside.Tie as tie
+use Rattle.plans.proofs.inside.Statement.{statement}
+use Rattle.plans.proofs.inside.Tie as tie
 
 mul-match : tie.Need-mul-match
 mul-match c = search needs

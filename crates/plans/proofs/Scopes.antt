@@ -1,0 +1,155 @@
+-- The scope of a statement's bodies by its head word: SUB and FUNCTION have their own, all others keep the one around. Assumes nothing.
+use Prim.Native.Nat.{ℕ, _+_, _≤_, _<_}
+use native.Mathlib.Omega.{arith}
+use mathlib.Core.Path.{_≡_, refl, sym, ap, subst, _∙_}
+use mathlib.Core.Bool.{Bool, true, false}
+use mathlib.Core.List.{List}
+use lib.Dec.{eqb}
+use lib.ListN.{length, getD}
+use borrow.Author.Tests.{eqb-true, eqb-false}
+use Rattle.words.specs.Word.{kindOf, payOf}
+use Rattle.expr.specs.Expr.{Expr}
+use Rattle.expr.proofs.Parts.{wrote-first, pay-is}
+use Rattle.tree.specs.Sorts.{stmt, Kind, sorts, kinds, kindAt, numberOf, label, labelName, let′, print, input, lineInput, if, for, while, doLoop, goto, gosub, return, onGoto, onGosub, dim, declare, shared, static, redim, sub, function, call, midAssign, swap, const, exitLoop, exitProc, optionBase, typeDef, fieldAssign, data′, read, defType, beep, erase, raiseError, onError, resume, locate, color, randomize, restore, cls, selectCase, end′, stop, open′, close, width, field′, setField, getPut, lock}
+use Rattle.tree.specs.Tree.{one, row, Tree, word, value, Stmt, done, cons, wordsT, Right, over}
+use Rattle.tree.specs.Stands.{Stands, SomeTree}
+use Rattle.views.specs.View.{view, inner}
+use Rattle.plans.specs.Plans.{InsideAt}
+use Rattle.plans.proofs.Walk.{head-kind, of-number, fields}
+
+-- ---- the kinds that have a scope of their own, and the others
+
+pub by-scope : (C : Kind → Type 0) → C sub → C function → ((k : Kind) → (numberOf k ≡ 20 → ⊥) → (numberOf k ≡ 21 → ⊥) → C k) → (k : Kind) → C k
+unfolding kindAt kinds
+by-scope C a b c k = go (eqb (numberOf k) 20) (eqb (numberOf k) 21) refl refl
+  where
+    go : (x y : Bool) → eqb (numberOf k) 20 ≡ x → eqb (numberOf k) 21 ≡ y → C k
+    go true y p q = subst C (sym (of-number k 20 (eqb-true (numberOf k) 20 p))) a
+    go false true p q = subst C (sym (of-number k 21 (eqb-true (numberOf k) 21 q))) b
+    go false false p q = c k (eqb-false (numberOf k) 20 p) (eqb-false (numberOf k) 21 q)
+
+pub inner-other : {E : Type 0} (scope : ℕ) (k : Kind) (r : Tree E (row (sorts k))) → (numberOf k ≡ 20 → ⊥) → (numberOf k ≡ 21 → ⊥) → scope ≡ inner scope (view k r)
+unfolding sorts view inner numberOf
+inner-other scope label (cons (word x) done) f g = refl
+inner-other scope labelName (cons (word x) done) f g = refl
+inner-other scope let′ r f g = refl
+inner-other scope print r f g = refl
+inner-other scope input r f g = refl
+inner-other scope lineInput r f g = refl
+inner-other scope if r f g = refl
+inner-other scope for r f g = refl
+inner-other scope while r f g = refl
+inner-other scope doLoop r f g = refl
+inner-other scope goto r f g = refl
+inner-other scope gosub r f g = refl
+inner-other scope return r f g = refl
+inner-other scope onGoto r f g = refl
+inner-other scope onGosub r f g = refl
+inner-other scope dim (cons ds (cons s done)) f g = refl
+inner-other scope declare r f g = refl
+inner-other scope shared (cons is done) f g = refl
+inner-other scope static (cons is done) f g = refl
+inner-other scope redim (cons ds (cons s done)) f g = refl
+inner-other scope sub r f g = absurd (f refl)
+inner-other scope function r f g = absurd (g refl)
+inner-other scope call r f g = refl
+inner-other scope midAssign r f g = refl
+inner-other scope swap r f g = refl
+inner-other scope const (cons (word x) (cons (value e) done)) f g = refl
+inner-other scope exitLoop r f g = refl
+inner-other scope exitProc r f g = refl
+inner-other scope optionBase (cons (word x) done) f g = refl
+inner-other scope typeDef (cons (word x) (cons fs done)) f g = refl
+inner-other scope fieldAssign r f g = refl
+inner-other scope data′ r f g = refl
+inner-other scope read r f g = refl
+inner-other scope defType r f g = refl
+inner-other scope beep r f g = refl
+inner-other scope erase r f g = refl
+inner-other scope raiseError r f g = refl
+inner-other scope onError r f g = refl
+inner-other scope resume r f g = refl
+inner-other scope locate r f g = refl
+inner-other scope color r f g = refl
+inner-other scope randomize r f g = refl
+inner-other scope restore r f g = refl
+inner-other scope cls r f g = refl
+inner-other scope selectCase r f g = refl
+inner-other scope end′ r f g = refl
+inner-other scope stop r f g = refl
+inner-other scope open′ r f g = refl
+inner-other scope close r f g = refl
+inner-other scope width r f g = refl
+inner-other scope field′ r f g = refl
+inner-other scope setField r f g = refl
+inner-other scope getPut r f g = refl
+inner-other scope lock r f g = refl
+
+-- whatever stands for an expression
+module _ {E F : Type 0} (g : E → F) (scope : ℕ) where
+  sub-over : (r : Tree E (row (sorts sub))) → inner scope (view sub (over g r)) ≡ inner scope (view sub r)
+  unfolding sorts view inner over
+  sub-over (cons (word x) (cons ps (cons b (cons s done)))) = refl
+
+  function-over : (r : Tree E (row (sorts function))) → inner scope (view function (over g r)) ≡ inner scope (view function r)
+  unfolding sorts view inner over
+  function-over (cons (word x) (cons ps (cons t (cons b (cons s (cons d done)))))) = refl
+
+  pub inner-over : (k : Kind) (r : Tree E (row (sorts k))) → inner scope (view k (over g r)) ≡ inner scope (view k r)
+  inner-over k = by-scope (λ (k : Kind). (r : Tree E (row (sorts k))) → inner scope (view k (over g r)) ≡ inner scope (view k r)) sub-over function-over (λ k p q r. sym (inner-other scope k (over g r) p q) ∙ inner-other scope k r p q) k
+
+-- ---- the name of a SUB or FUNCTION stands after the head
+
+sub-name : {ws ns : List ℕ} {n at end : ℕ} (scope : ℕ) (r : Tree Expr (row (sorts sub))) → Stands ws ns n at r end → (at < length ws) × (payOf (getD ws at 0) + 1 ≡ inner scope (view sub r))
+unfolding sorts wordsT Right view inner
+sub-name scope (cons (word x) (cons ps (cons b (cons s done)))) h = let f = wrote-first (h .wrote) in (f .inside, ap (λ (y : ℕ). y + 1) (ap payOf (f .is) ∙ pay-is 2 x (h .valid .0 .1)))
+
+function-name : {ws ns : List ℕ} {n at end : ℕ} (scope : ℕ) (r : Tree Expr (row (sorts function))) → Stands ws ns n at r end → (at < length ws) × (payOf (getD ws at 0) + 1 ≡ inner scope (view function r))
+unfolding sorts wordsT Right view inner
+function-name scope (cons (word x) (cons ps (cons t (cons b (cons s (cons d done)))))) h = let f = wrote-first (h .wrote) in (f .inside, ap (λ (y : ℕ). y + 1) (ap payOf (f .is) ∙ pay-is 2 x (h .valid .0 .1)))
+
+-- a statement of a kind whose name is its second word, and which has a scope of its own
+abbrev Opens : List ℕ → ℕ → ℕ → Kind → Type 0
+Opens ws at scope k = (ns : List ℕ) (n line : ℕ) (r : Tree Expr (row (sorts k))) (end : ℕ) → Stands ws ns n at (Stmt k line r) end → (at + 1 < length ws) × (payOf (getD ws (at + 1) 0) + 1 ≡ inner scope (view k r))
+
+module _ (ws : List ℕ) (at scope : ℕ) where
+  opens-sub : Opens ws at scope sub
+  opens-sub ns n line r end s = sub-name scope r (fields s)
+
+  opens-function : Opens ws at scope function
+  opens-function ns n line r end s = function-name scope r (fields s)
+
+  -- the kind j is such a one
+  opens : (j : ℕ) → Opens ws at scope (kindAt j) → kindOf (getD ws at 0) ≡ 64 + j → (k : Kind) → Opens ws at scope k
+  opens j o q k ns n line r end s = subst (λ (k : Kind). Opens ws at scope k) (sym (of-number k j (omega (arith, head-kind s, q)))) o ns n line r end s
+
+  own : (j : ℕ) → Opens ws at scope (kindAt j) → kindOf (getD ws at 0) ≡ 64 + j → InsideAt ws at scope (payOf (getD ws (at + 1) 0) + 1)
+  own j o q = record { fits = omega arith; gives = λ ns n k line r end s. opens j o q k ns n line r end s .1 }
+
+  two : (j : ℕ) → Opens ws at scope (kindAt j) → kindOf (getD ws at 0) ≡ 64 + j → SomeTree (one stmt) ws at → at + 1 < length ws
+  two j o q t = go (t .tree) (t .stands)
+    where
+      go : (v : Tree Expr (one stmt)) → Stands ws (t .names) (t .strings) at v (t .end) → at + 1 < length ws
+      go (Stmt k line r) s = opens j o q k (t .names) (t .strings) line r (t .end) s .0
+
+  pub in-sub : kindOf (getD ws at 0) ≡ 84 → InsideAt ws at scope (payOf (getD ws (at + 1) 0) + 1)
+  unfolding kindAt kinds
+  in-sub q = own 20 opens-sub q
+
+  pub two-sub : kindOf (getD ws at 0) ≡ 84 → SomeTree (one stmt) ws at → at + 1 < length ws
+  unfolding kindAt kinds
+  two-sub q t = two 20 opens-sub q t
+
+  pub in-function : kindOf (getD ws at 0) ≡ 85 → InsideAt ws at scope (payOf (getD ws (at + 1) 0) + 1)
+  unfolding kindAt kinds
+  in-function q = own 21 opens-function q
+
+  pub two-function : kindOf (getD ws at 0) ≡ 85 → SomeTree (one stmt) ws at → at + 1 < length ws
+  unfolding kindAt kinds
+  two-function q t = two 21 opens-function q t
+
+  pub in-other : scope ≤ 16777216 → (kindOf (getD ws at 0) ≡ 84 → ⊥) → (kindOf (getD ws at 0) ≡ 85 → ⊥) → InsideAt ws at scope scope
+  in-other h f g = record {
+    fits = h;
+    gives = λ ns n k line r end s. inner-other scope k r (λ q. f (head-kind s ∙ ap (λ (x : ℕ). 64 + x) q)) (λ q. g (head-kind s ∙ ap (λ (x : ℕ). 64 + x) q));
+  }

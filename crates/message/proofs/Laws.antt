@@ -1,45 +1,49 @@
 -- The table of the templates, and a template read byte by byte: the run of bytes from one start to the next is the template (`row`), and
 -- rendering it from the left is rendering it whole (`render-append`).
 use Prim.Native.Nat.{ℕ, zero, suc, _+_, _-_, _≤_, _<_}
-use native.Mathlib.Nat.{add-zero, zero-add}
 use native.Mathlib.Numerals.{add-one}
 use native.Mathlib.Omega.{arith}
 use mathlib.Core.Path.{_≡_, refl, sym, ap, _∙_}
 use mathlib.Core.List.{List, [], _∷_, _++_, append-assoc, append-nil, map}
 use borrow.Author.Tests.{ne-eqb}
-use lib.ListN.{length, take, drop, getD, length-append, length-drop, List·getD-eq-default}
-use lib.Seq.{take-suc, getD-drop, take-all, take-nil, drop-nil, drop-append-add, take-append-seam}
+use lib.ListN.{length, take, drop, getD, set, length-append, length-drop, List·getD-eq-default}
+use lib.Seq.{sets, take-suc, take-add, getD-drop, take-all, take-nil, drop-nil, drop-drop, drop-append-add, take-append-seam, length-take-le}
 use Rattle.text.specs.Text.{ascii, decimal}
 use Rattle.text.specs.Wrote.{Wrote}
-use Rattle.text.specs.Laws.{nothing, then, same}
+use Rattle.text.specs.Laws.{nothing, then, same, fits, copied-more}
 use Rattle.message.specs.declared.Diag.{Diag}
 use Rattle.message.specs.Message.{Template, error, error-with-note, templates, name, piece, render, messageLine, noteLine, said, lines}
-use Rattle.message.specs.Table.{run, table, flat, starts}
+use Rattle.message.specs.Table.{run, table, flat}
+use Rattle.message.specs.Plain.{Itself, Plain}
 
 pub long : length (flat table) ≡ 1325
 unfolding table run templates ascii flat
 long = refl
 
+pub long-as : {t : List ℕ} → t ≡ flat table → length t ≡ 1325
+long-as e = ap length e ∙ long
+
 pub many : length table ≡ 29
 unfolding table templates
 many = refl
 
-pub past : (i : ℕ) → 1325 ≤ i → 0 ≡ getD (flat table) i 0
-past i h = sym (List·getD-eq-default (flat table) 0 (omega (arith, long)))
+-- past the last template: no code that has one
+unfoldable pub Beyond : ℕ → ℕ → Type 0
+Beyond zero c = Unit {0}
+Beyond (suc n) c = Beyond n c × (c ≡ n → ⊥)
 
--- where a template starts
-starts-at : (n : ℕ) (ts : List (List ℕ)) (c : ℕ) → c ≤ length ts → getD (starts n ts) c 0 ≡ n + length (flat (take c ts))
-unfolding starts flat
-starts-at n [] zero h = sym (add-zero n)
-starts-at n [] (suc c) h = absurd (omega arith)
-starts-at n (t ∷ ts) zero h = sym (add-zero n)
-starts-at n (t ∷ ts) (suc c) h = starts-at (n + length t) ts c (omega arith) ∙ simp length-append (omega arith)
+beyond : (n c : ℕ) → Beyond n c → n ≤ c
+unfolding Beyond
+beyond zero c h = omega arith
+beyond (suc n) c h =
+    let l : n ≤ c = beyond n c (h .0) in
+    let k : c ≡ n → ⊥ = h .1 in
+    omega arith
 
-pub start-here : (c : ℕ) → c < 30 → getD (starts 0 table) c 0 ≡ length (flat (take c table))
-start-here c h = starts-at 0 table c (omega (arith, many)) ∙ zero-add (length (flat (take c table)))
-
-pub start-past : (c : ℕ) → 30 ≤ c → 1325 ≡ length (flat (take c table))
-start-past c h = sym long ∙ ap (λ x. length (flat x)) (sym (take-all c table (omega (arith, many))))
+pub start-past : (c : ℕ) → Beyond 29 c → 1325 ≡ length (flat (take c table))
+start-past c h =
+    let l : 29 ≤ c = beyond 29 c h in
+    sym long ∙ ap (λ x. length (flat x)) (sym (take-all c table (omega (arith, many))))
 
 -- the run from one start to the next is the template
 row : (ts : List (List ℕ)) (c : ℕ) → take (length (flat (take (suc c) ts)) - length (flat (take c ts))) (drop (length (flat (take c ts))) (flat ts)) ≡ getD ts c []
@@ -64,6 +68,25 @@ render-one : (bytes ends : List ℕ) (d : Diag) (b : ℕ) → render bytes ends 
 unfolding render
 render-one bytes ends d b = append-nil (piece bytes ends d b)
 
+-- ---- bytes that stand for themselves
+
+pub plain-none : (s b : List ℕ) (from most at : ℕ) → Plain s from most 0 b b at
+unfolding render
+plain-none s b from most at = record { few = omega arith; room = omega arith; now = refl; self = λ bytes ends d. refl }
+
+pub plain-one : {b c : List ℕ} (s : List ℕ) (from most at i x : ℕ) → from + i < length s → i < most → i < length b - at → x ≡ getD s (from + i) 0 → Itself x → Plain s from most i b c at → Plain s from most (i + 1) b (set c (at + i) x) at
+plain-one {b} {c} s from most at i x h l r e k p =
+    let t = drop from s in
+    let short : i < length t = simp length-drop (omega arith) in
+    let g : getD t i 0 ≡ x = getD-drop from s i 0 ∙ sym e in
+    let grown : take (i + 1) t ≡ take i t ++ (x ∷ []) = ap (λ y. take y t) (add-one i) ∙ take-suc t i 0 short ∙ ap (λ y. take i t ++ (y ∷ [])) g in
+    record {
+      few = omega arith;
+      room = omega arith;
+      now = ap (λ y. set y (at + i) x) (p .now) ∙ ap (set (sets b at (take i t)) (at + i)) e ∙ copied-more b s at from i h;
+      self = λ bytes ends d. rw grown (render-append bytes ends d (take i t) (x ∷ []) ∙ ap (λ y. y ++ render bytes ends d (x ∷ [])) (p .self bytes ends d) ∙ ap (λ y. take i t ++ y) (render-one bytes ends d x ∙ sym (k bytes ends d)));
+    }
+
 -- what was written by the i-th byte of the table, from s on
 abbrev pub sofar : List ℕ → List ℕ → Diag → ℕ → ℕ → List ℕ
 sofar bytes ends d s i = render bytes ends d (take (i - s) (drop s (flat table)))
@@ -83,6 +106,20 @@ one-more bytes ends d s n x h l e p q =
     let short : n - s < length t = simp length-drop (omega (arith, long)) in
     let grown : take (n + 1 - s) t ≡ take (n - s) t ++ (x ∷ []) = ap (λ y. take y t) m ∙ take-suc t (n - s) 0 short ∙ ap (λ y. take (n - s) t ++ (y ∷ [])) g in
     same (sym (ap (render bytes ends d) grown ∙ render-append bytes ends d (take (n - s) t) (x ∷ []) ∙ ap (λ y. render bytes ends d (take (n - s) t) ++ y) (render-one bytes ends d x))) (then p q)
+
+-- bytes that stand for themselves
+pub plain-more : (bytes ends : List ℕ) (d : Diag) {a b c : List ℕ} {i j : ℕ} (t : List ℕ) → t ≡ flat table → (s n most k : ℕ) → s ≤ n → n + k ≤ 1325 → Wrote (sofar bytes ends d s n) a b i j → Plain t n most k b c j → Wrote (sofar bytes ends d s (n + k)) a c i (j + k)
+plain-more bytes ends d {b = b} {c = c} {j = j} texts f s n most k h l p q₀ =
+    let q : Plain (flat table) n most k b c j = rw f at q₀ in
+    let t = drop s (flat table) in
+    let m : n + k - s ≡ (n - s) + k = omega arith in
+    let back : s + (n - s) ≡ n = omega arith in
+    let u = take k (drop n (flat table)) in
+    let e : drop (n - s) t ≡ drop n (flat table) = drop-drop (n - s) s (flat table) ∙ ap (λ y. drop y (flat table)) back in
+    let short : length u ≡ k = length-take-le k (drop n (flat table)) (simp length-drop (omega (arith, long))) in
+    let grown : take (n + k - s) t ≡ take (n - s) t ++ u = ap (λ y. take y t) m ∙ take-add (n - s) k t ∙ ap (λ y. take (n - s) t ++ take k y) e in
+    let whole : render bytes ends d (take (n + k - s) t) ≡ render bytes ends d (take (n - s) t) ++ u = ap (render bytes ends d) grown ∙ render-append bytes ends d (take (n - s) t) u ∙ ap (λ y. render bytes ends d (take (n - s) t) ++ y) (q .self bytes ends d) in
+    same (sym whole) (then p (fits u (q .now) (ap (λ y. j + y) (sym short))))
 
 pub at-end : (bytes ends : List ℕ) (d : Diag) (s i e : ℕ) → s ≡ length (flat (take (d .code) table)) → e ≡ length (flat (take (d .code + 1) table)) → i ≡ e → sofar bytes ends d s i ≡ render bytes ends d (getD table (d .code) [])
 at-end bytes ends d s i e p q r =

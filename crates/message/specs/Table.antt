@@ -1,8 +1,6 @@
--- The templates as the program holds them: one run of bytes, a note on a line of its own, and where each template starts. These are
--- definitions.
-use Prim.Native.Nat.{ℕ, _+_}
+-- The templates as the program holds them: one run of bytes, a note on a line of its own. These are definitions.
+use Prim.Native.Nat.{ℕ}
 use mathlib.Core.List.{List, [], _∷_, _++_, map}
-use lib.ListN.{length}
 use Rattle.text.specs.Text.{ascii}
 use Rattle.message.specs.Message.{Template, error, error-with-note, templates}
 
@@ -16,7 +14,3 @@ table = map run templates
 unfoldable pub flat : List (List ℕ) → List ℕ
 flat [] = []
 flat (t ∷ ts) = t ++ flat ts
-
-unfoldable pub starts : ℕ → List (List ℕ) → List ℕ
-starts n [] = n ∷ []
-starts n (t ∷ ts) = n ∷ starts (n + length t) ts

@@ -5,13 +5,15 @@ use text::put_decimal;
 use text::put_part;
 ghost use mathlib.Core.Path.{_≡_};
 ghost use mathlib.Core.List.{[], _∷_};
-ghost use Prim.Native.Nat.{_-_};
+ghost use mathlib.Core.Bool.{false};
+ghost use Prim.Native.Nat.{_+_, _-_, _≤_, min};
 ghost use lib.ListN.{length, getD, take};
 ghost use lib.Dec.{eqb};
 ghost use Rattle.words.specs.Word.{pick};
 ghost use Rattle.text.specs.Wrote.{Wrote};
 ghost use Rattle.message.specs.Message.{name, piece, render, lines};
 ghost use Rattle.message.specs.Table.{table, flat};
+ghost use Rattle.message.specs.Plain.{Itself, Plain};
 
 // Document 01's six words; a name is its string's number plus 1.
 pub struct Diag {
@@ -23,7 +25,7 @@ pub struct Diag {
     pub note: u32,
 }
 
-// The templates of codes 1 to 28, one after the other, and where each starts, code 0's and the end among them.
+// The templates of codes 1 to 28, one after the other.
 const TEXTS: [u8; 1325] = *b"\
 duplicate line number #\
 duplicate label '@'\
@@ -54,52 +56,48 @@ parameter '@' uses undefined TYPE '&'\
 '@' is declared both as an array and as a !\nN the ! is on line ^\
 '@' is the name of a built-in function and cannot also be an array";
 
-const STARTS: [usize; 30] = [
-    0,
-    0,
-    23,
-    42,
-    104,
-    144,
-    183,
-    213,
-    246,
-    278,
-    314,
-    336,
-    377,
-    413,
-    447,
-    513,
-    571,
-    589,
-    612,
-    650,
-    679,
-    771,
-    810,
-    931,
-    1055,
-    1101,
-    1158,
-    1195,
-    1259,
-    1325,
-];
-
-fn text_byte(i: usize) -> u8
-    ensures { λ r. ⌜ r ≡ getD (flat table) i 0 ⌝ }
+// They are made once for many messages: a constant is stored anew wherever it is used.
+pub fn templates() -> [u8; 1325]
+    ensures { λ r. ⌜ r ≡ flat table ⌝ }
 {
-    if i < TEXTS.len() { TEXTS[i] } else { 0 }
+    TEXTS
 }
 
+// Where a code's template starts.
 fn start_of(code: usize) -> usize
     ensures { λ r. ⌜ r ≡ length (flat (take code table)) ⌝ }
 {
-    if code < STARTS.len() {
-        STARTS[code]
-    } else {
-        TEXTS.len()
+    match code {
+        0 => 0,
+        1 => 0,
+        2 => 23,
+        3 => 42,
+        4 => 104,
+        5 => 144,
+        6 => 183,
+        7 => 213,
+        8 => 246,
+        9 => 278,
+        10 => 314,
+        11 => 336,
+        12 => 377,
+        13 => 413,
+        14 => 447,
+        15 => 513,
+        16 => 571,
+        17 => 589,
+        18 => 612,
+        19 => 650,
+        20 => 679,
+        21 => 771,
+        22 => 810,
+        23 => 931,
+        24 => 1055,
+        25 => 1101,
+        26 => 1158,
+        27 => 1195,
+        28 => 1259,
+        _ => 1325,
     }
 }
 
@@ -153,8 +151,67 @@ fn put_piece(out: &mut [u8], at: usize, bytes: &[u8], ends: &[u32], d: Diag, b: 
     }
 }
 
+// Whether a byte of a template stands for something else.
+fn marked(b: u8) -> bool
+    ensures { λ r. ⌜ (r ≡ false → Itself b) ⌝ }
+{
+    match b {
+        b'@' => true,
+        b'&' => true,
+        b'#' => true,
+        b'%' => true,
+        b'$' => true,
+        b'!' => true,
+        b'^' => true,
+        _ => false,
+    }
+}
+
+// Bytes of s from `from` on, n at most, up to one that is marked; how many.
+fn copy_plain(out: &mut [u8], at: usize, s: &[u8], from: usize, n: usize) -> usize
+    requires { ⌜ (at + n ≤ length (now out)) × (from + n ≤ length (now s)) ⌝ }
+    ensures { λ r. ⌜ Plain (now (s .entry)) from n r (now (out .entry)) (now (out .exit)) at ⌝ }
+{
+    let mut i = 0;
+    while i < n {
+        let b = s[from + i];
+        if marked(b) {
+            return i;
+        }
+        out[at + i] = b;
+        i += 1;
+    }
+    i
+}
+
+fn less(a: usize, b: usize) -> usize
+    ensures { λ r. ⌜ r ≡ min a b ⌝ }
+{
+    if a < b { a } else { b }
+}
+
+// The same up to `to`, so long as there is room.
+fn put_plain(out: &mut [u8], at: usize, s: &[u8], from: usize, to: usize) -> usize
+    requires { ⌜ (from ≤ to) × (to ≤ length (now s)) ⌝ }
+    ensures { λ r. ⌜ Plain (now (s .entry)) from (to - from) r (now (out .entry)) (now (out .exit)) at ⌝ }
+{
+    if out.len() <= at {
+        return 0;
+    }
+    let n = less(to - from, out.len() - at);
+    copy_plain(out, at, s, from, n)
+}
+
 // What the template's bytes stand for, one after the other.
-fn put_message(out: &mut [u8], at: usize, bytes: &[u8], ends: &[u32], d: Diag) -> usize
+fn put_message(
+    out: &mut [u8],
+    at: usize,
+    texts: &[u8],
+    bytes: &[u8],
+    ends: &[u32],
+    d: Diag,
+) -> usize
+    requires { ⌜ now texts ≡ flat table ⌝ }
     ensures { λ r. ⌜ Wrote (render (now (bytes .entry)) (now (ends .entry)) d (getD table (d .code) [])) (now (out .entry)) (now (out .exit)) at r ⌝ }
 {
     let code = d.code as usize;
@@ -162,19 +219,34 @@ fn put_message(out: &mut [u8], at: usize, bytes: &[u8], ends: &[u32], d: Diag) -
     let end = start_of(code + 1);
     let mut next = at;
     while i < end {
-        next = put_piece(out, next, bytes, ends, d, text_byte(i));
+        let n = put_plain(out, next, texts, i, end);
+        i += n;
+        next += n;
+        if end <= i {
+            return next;
+        }
+        next = put_piece(out, next, bytes, ends, d, texts[i]);
         i += 1;
     }
     next
 }
 
 // A diagnostic's `D` line, and its `N` line where its code has one.
-pub fn put_diag(out: &mut [u8], at: usize, bytes: &[u8], ends: &[u32], d: Diag) -> usize
+pub fn put_diag(
+    out: &mut [u8],
+    at: usize,
+    texts: &[u8],
+    bytes: &[u8],
+    ends: &[u32],
+    d: Diag,
+) -> usize
+    requires { ⌜ now texts ≡ flat table ⌝ }
     ensures { λ r. ⌜ Wrote (lines (now (bytes .entry)) (now (ends .entry)) d) (now (out .entry)) (now (out .exit)) at r ⌝ }
 {
-    let mut next = put_bytes(out, at, b"D ");
+    let mut next = put_byte(out, at, b'D');
+    next = put_byte(out, next, b' ');
     next = put_decimal(out, next, d.line);
     next = put_byte(out, next, b' ');
-    next = put_message(out, next, bytes, ends, d);
+    next = put_message(out, next, texts, bytes, ends, d);
     put_byte(out, next, b'\n')
 }

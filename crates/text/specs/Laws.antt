@@ -1,7 +1,7 @@
 -- Texts written one after the other: two texts written in turn are one text written (`then`), and the loops that write parts and decimal
 -- digits come down to it.
 use Prim.Native.Nat.{ℕ, zero, suc, _+_, _-_, _*_, _/_, _%_, _^_, _≤_, _<_, min}
-use native.Mathlib.Nat.{add-zero, pow-suc}
+use native.Mathlib.Nat.{add-zero, pow-suc, div-one}
 use native.Mathlib.Numerals.{add-one}
 use native.Mathlib.Omega.{arith}
 use mathlib.Core.Path.{_≡_, refl, sym, ap, _∙_}
@@ -12,7 +12,7 @@ use lib.Dec.{ltb, leb}
 use lib.ListN.{length, take, drop, getD, set, replicate, length-append, length-drop, take-append-drop}
 use lib.Seq.{sets, sets-eq, length-sets, set-out, take-suc, getD-drop, take-all, take-take, length-take-le}
 use Rattle.words.specs.Word.{pick}
-use Rattle.text.specs.Text.{digit, digits, decimal}
+use Rattle.text.specs.Text.{digit, hex8, digits, decimal}
 use Rattle.text.specs.Wrote.{Wrote, size, laid}
 
 sets-append : (xs ys l : List ℕ) (i : ℕ) → sets l i (xs ++ ys) ≡ sets (sets l i xs) (i + length xs) ys
@@ -157,6 +157,26 @@ no-part s from to n h e =
 
 pub whole : (s : List ℕ) → take (length s - 0) (drop 0 s) ≡ s
 whole s = take-all (length s - 0) s (omega arith)
+
+-- ---- a word
+
+-- a blank and eight digits, stored one by one
+pub nine-laid : (l : List ℕ) (at w a b c d e f g h : ℕ) → a ≡ digit (w / 0x10000000 % 16) → b ≡ digit (w / 0x1000000 % 16) → c ≡ digit (w / 0x100000 % 16) → d ≡ digit (w / 0x10000 % 16) → e ≡ digit (w / 0x1000 % 16) → f ≡ digit (w / 0x100 % 16) → g ≡ digit (w / 16 % 16) → h ≡ digit (w % 16) → set (set (set (set (set (set (set (set (set l at 32) (at + 1) a) (at + 2) b) (at + 3) c) (at + 4) d) (at + 5) e) (at + 6) f) (at + 7) g) (at + 8) h ≡ sets l at (32 ∷ hex8 w)
+unfolding hex8
+nine-laid l at w a b c d e f g h p₁ p₂ p₃ p₄ p₅ p₆ p₇ p₈ =
+    let e₁ : at + 1 ≡ suc at = omega arith in
+    let e₂ : at + 2 ≡ suc (suc at) = omega arith in
+    let e₃ : at + 3 ≡ suc (suc (suc at)) = omega arith in
+    let e₄ : at + 4 ≡ suc (suc (suc (suc at))) = omega arith in
+    let e₅ : at + 5 ≡ suc (suc (suc (suc (suc at)))) = omega arith in
+    let e₆ : at + 6 ≡ suc (suc (suc (suc (suc (suc at))))) = omega arith in
+    let e₇ : at + 7 ≡ suc (suc (suc (suc (suc (suc (suc at)))))) = omega arith in
+    let e₈ : at + 8 ≡ suc (suc (suc (suc (suc (suc (suc (suc at))))))) = omega arith in
+    rw (e₁, e₂, e₃, e₄, e₅, e₆, e₇, e₈, p₁, p₂, p₃, p₄, p₅, p₆, p₇, p₈, div-one)
+
+-- a text stored where there is room for it
+pub fits : {b c : List ℕ} {at next : ℕ} (s : List ℕ) → c ≡ sets b at s → next ≡ at + length s → Wrote s b c at next
+fits s e n = record { now = e; end = rw n }
 
 -- ---- the end of a text
 

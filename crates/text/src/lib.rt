@@ -91,10 +91,32 @@ fn blank_and_digits(w: u32) -> [u8; 9]
     ]
 }
 
+// The same, stored where there is room for it: no tests, so that the compiler makes the digits side by side.
+fn lay_word(out: &mut [u8], at: usize, w: u32)
+    requires { ⌜ at + 9 ≤ length (now out) ⌝ }
+    ensures { λ _. ⌜ now (out .exit) ≡ sets (now (out .entry)) at (32 ∷ hex8 w) ⌝ }
+{
+    out[at] = b' ';
+    out[at + 1] = digit(w / 0x1000_0000 % 16);
+    out[at + 2] = digit(w / 0x100_0000 % 16);
+    out[at + 3] = digit(w / 0x10_0000 % 16);
+    out[at + 4] = digit(w / 0x1_0000 % 16);
+    out[at + 5] = digit(w / 0x1000 % 16);
+    out[at + 6] = digit(w / 0x100 % 16);
+    out[at + 7] = digit(w / 16 % 16);
+    out[at + 8] = digit(w % 16);
+}
+
 // A word after a blank.
 pub fn put_word(out: &mut [u8], at: usize, w: u32) -> usize
     ensures { λ r. ⌜ Wrote (32 ∷ hex8 w) (now (out .entry)) (now (out .exit)) at r ⌝ }
 {
+    if at < out.len() {
+        if 9 <= out.len() - at {
+            lay_word(out, at, w);
+            return at + 9;
+        }
+    }
     let d = blank_and_digits(w);
     put_bytes(out, at, &d)
 }

@@ -111,6 +111,11 @@ unfoldable pub cells : List (List ℕ)
 unfolding builtins cellsOf
 cells = map cellsOf builtins
 
+-- its rows one after the other
+unfoldable pub flat : List (List ℕ) → List ℕ
+flat [] = []
+flat (r ∷ rs) = r ++ flat rs
+
 unfoldable pub nameAt : ℕ → List ℕ
 unfolding builtins
 nameAt i = getD (map (λ (b : Builtin). b .name) builtins) i []

@@ -10,7 +10,7 @@ ghost use Rattle.table.specs.Rows.{Row, width, find, Holds};
 ghost use Rattle.table.specs.Answers.{Within};
 ghost use Rattle.entries.specs.Entries.{entryKey, has as hasOf, rowWord};
 ghost use Rattle.lookup.specs.Lookup.{contains as containsOf, shares as sharesOf, isStatic, recordWords, typeWords, typeOf, arrayOf, visible as visibleOf, typedVar, typedVarIn, lookupArray, fromSuffix, fromTypeRef, declaredType};
-ghost use Rattle.lookup.specs.Builtins.{cells, nameAt, same, builtin as builtinOf};
+ghost use Rattle.lookup.specs.Builtins.{cells, flat, nameAt, same, builtin as builtinOf};
 ghost use Rattle.lookup.specs.Answers.{rowAt, typed, array as arrayOf′, class, argumentsOf};
 
 // The row of an entry.
@@ -239,84 +239,83 @@ pub fn declared_type(b: &[u32], count: usize, last: u8, scope: u32, name: u32) -
     }
 }
 
-// `BUILTINS` of sema.rs: the name's length, the least and most arguments, the name and zeros.
-const BUILTINS: [[u8; 10]; 55] = [
-    [3, 1, 1, b'A', b'B', b'S', 0, 0, 0, 0],
-    [3, 1, 1, b'A', b'S', b'C', 0, 0, 0, 0],
-    [3, 1, 1, b'A', b'T', b'N', 0, 0, 0, 0],
-    [4, 1, 1, b'C', b'D', b'B', b'L', 0, 0, 0],
-    [4, 1, 1, b'C', b'H', b'R', b'$', 0, 0, 0],
-    [4, 1, 1, b'C', b'I', b'N', b'T', 0, 0, 0],
-    [4, 1, 1, b'C', b'L', b'N', b'G', 0, 0, 0],
-    [3, 1, 1, b'C', b'O', b'S', 0, 0, 0, 0],
-    [4, 1, 1, b'C', b'S', b'N', b'G', 0, 0, 0],
-    [3, 1, 1, b'C', b'V', b'D', 0, 0, 0, 0],
-    [3, 1, 1, b'C', b'V', b'I', 0, 0, 0, 0],
-    [3, 1, 1, b'C', b'V', b'L', 0, 0, 0, 0],
-    [3, 1, 1, b'C', b'V', b'S', 0, 0, 0, 0],
-    [3, 1, 1, b'E', b'O', b'F', 0, 0, 0, 0],
-    [3, 1, 1, b'E', b'X', b'P', 0, 0, 0, 0],
-    [3, 1, 1, b'F', b'I', b'X', 0, 0, 0, 0],
-    [4, 1, 1, b'H', b'E', b'X', b'$', 0, 0, 0],
-    [5, 2, 3, b'I', b'N', b'S', b'T', b'R', 0, 0],
-    [3, 1, 1, b'I', b'N', b'T', 0, 0, 0, 0],
-    [6, 1, 2, b'L', b'B', b'O', b'U', b'N', b'D', 0],
-    [6, 1, 1, b'L', b'C', b'A', b'S', b'E', b'$', 0],
-    [5, 2, 2, b'L', b'E', b'F', b'T', b'$', 0, 0],
-    [3, 1, 1, b'L', b'E', b'N', 0, 0, 0, 0],
-    [3, 1, 1, b'L', b'O', b'C', 0, 0, 0, 0],
-    [3, 1, 1, b'L', b'O', b'F', 0, 0, 0, 0],
-    [6, 1, 1, b'L', b'T', b'R', b'I', b'M', b'$', 0],
-    [3, 1, 1, b'L', b'O', b'G', 0, 0, 0, 0],
-    [4, 2, 3, b'M', b'I', b'D', b'$', 0, 0, 0],
-    [4, 1, 1, b'M', b'K', b'D', b'$', 0, 0, 0],
-    [4, 1, 1, b'M', b'K', b'I', b'$', 0, 0, 0],
-    [4, 1, 1, b'M', b'K', b'L', b'$', 0, 0, 0],
-    [4, 1, 1, b'M', b'K', b'S', b'$', 0, 0, 0],
-    [4, 1, 1, b'O', b'C', b'T', b'$', 0, 0, 0],
-    [3, 1, 1, b'P', b'O', b'S', 0, 0, 0, 0],
-    [5, 0, 0, b'D', b'A', b'T', b'E', b'$', 0, 0],
-    [5, 0, 0, b'T', b'I', b'M', b'E', b'$', 0, 0],
-    [3, 1, 1, b'F', b'R', b'E', 0, 0, 0, 0],
-    [6, 2, 2, b'R', b'I', b'G', b'H', b'T', b'$', 0],
-    [6, 1, 1, b'R', b'T', b'R', b'I', b'M', b'$', 0],
-    [3, 0, 1, b'R', b'N', b'D', 0, 0, 0, 0],
-    [3, 1, 1, b'S', b'G', b'N', 0, 0, 0, 0],
-    [3, 1, 1, b'S', b'P', b'C', 0, 0, 0, 0],
-    [3, 1, 1, b'S', b'I', b'N', 0, 0, 0, 0],
-    [6, 1, 1, b'S', b'P', b'A', b'C', b'E', b'$', 0],
-    [3, 1, 1, b'S', b'Q', b'R', 0, 0, 0, 0],
-    [4, 1, 1, b'S', b'T', b'R', b'$', 0, 0, 0],
-    [7, 2, 2, b'S', b'T', b'R', b'I', b'N', b'G', b'$'],
-    [3, 1, 1, b'T', b'A', b'B', 0, 0, 0, 0],
-    [6, 1, 2, b'U', b'B', b'O', b'U', b'N', b'D', 0],
-    [6, 1, 1, b'U', b'C', b'A', b'S', b'E', b'$', 0],
-    [3, 1, 1, b'T', b'A', b'N', 0, 0, 0, 0],
-    [5, 0, 1, b'T', b'I', b'M', b'E', b'R', 0, 0],
-    [3, 0, 0, b'E', b'R', b'R', 0, 0, 0, 0],
-    [3, 0, 0, b'E', b'R', b'L', 0, 0, 0, 0],
-    [3, 1, 1, b'V', b'A', b'L', 0, 0, 0, 0],
-];
+// `BUILTINS` of sema.rs: ten bytes for each, the name's length, the least and most arguments, the name and zeros.
+const BUILTINS: [u8; 550] = *b"\
+\x03\x01\x01ABS\0\0\0\0\
+\x03\x01\x01ASC\0\0\0\0\
+\x03\x01\x01ATN\0\0\0\0\
+\x04\x01\x01CDBL\0\0\0\
+\x04\x01\x01CHR$\0\0\0\
+\x04\x01\x01CINT\0\0\0\
+\x04\x01\x01CLNG\0\0\0\
+\x03\x01\x01COS\0\0\0\0\
+\x04\x01\x01CSNG\0\0\0\
+\x03\x01\x01CVD\0\0\0\0\
+\x03\x01\x01CVI\0\0\0\0\
+\x03\x01\x01CVL\0\0\0\0\
+\x03\x01\x01CVS\0\0\0\0\
+\x03\x01\x01EOF\0\0\0\0\
+\x03\x01\x01EXP\0\0\0\0\
+\x03\x01\x01FIX\0\0\0\0\
+\x04\x01\x01HEX$\0\0\0\
+\x05\x02\x03INSTR\0\0\
+\x03\x01\x01INT\0\0\0\0\
+\x06\x01\x02LBOUND\0\
+\x06\x01\x01LCASE$\0\
+\x05\x02\x02LEFT$\0\0\
+\x03\x01\x01LEN\0\0\0\0\
+\x03\x01\x01LOC\0\0\0\0\
+\x03\x01\x01LOF\0\0\0\0\
+\x06\x01\x01LTRIM$\0\
+\x03\x01\x01LOG\0\0\0\0\
+\x04\x02\x03MID$\0\0\0\
+\x04\x01\x01MKD$\0\0\0\
+\x04\x01\x01MKI$\0\0\0\
+\x04\x01\x01MKL$\0\0\0\
+\x04\x01\x01MKS$\0\0\0\
+\x04\x01\x01OCT$\0\0\0\
+\x03\x01\x01POS\0\0\0\0\
+\x05\x00\x00DATE$\0\0\
+\x05\x00\x00TIME$\0\0\
+\x03\x01\x01FRE\0\0\0\0\
+\x06\x02\x02RIGHT$\0\
+\x06\x01\x01RTRIM$\0\
+\x03\x00\x01RND\0\0\0\0\
+\x03\x01\x01SGN\0\0\0\0\
+\x03\x01\x01SPC\0\0\0\0\
+\x03\x01\x01SIN\0\0\0\0\
+\x06\x01\x01SPACE$\0\
+\x03\x01\x01SQR\0\0\0\0\
+\x04\x01\x01STR$\0\0\0\
+\x07\x02\x02STRING$\
+\x03\x01\x01TAB\0\0\0\0\
+\x06\x01\x02UBOUND\0\
+\x06\x01\x01UCASE$\0\
+\x03\x01\x01TAN\0\0\0\0\
+\x05\x00\x01TIMER\0\0\
+\x03\x00\x00ERR\0\0\0\0\
+\x03\x00\x00ERL\0\0\0\0\
+\x03\x01\x01VAL\0\0\0\0";
 
-fn cell(i: usize, j: usize) -> u8
-    requires { ⌜ (i < 55) × (j < 10) ⌝ }
+fn cell(table: &[u8], i: usize, j: usize) -> u8
+    requires { ⌜ (now table ≡ flat cells) × (i < 55) × (j < 10) ⌝ }
     ensures { λ r. ⌜ r ≡ getD (getD cells i []) j 0 ⌝ }
 {
-    BUILTINS[i][j]
+    table[i * 10 + j]
 }
 
 // Whether it is the name of entry i.
-fn is_named(name: &[u8], i: usize) -> bool
-    requires { ⌜ i < 55 ⌝ }
+fn is_named(name: &[u8], table: &[u8], i: usize) -> bool
+    requires { ⌜ (now table ≡ flat cells) × (i < 55) ⌝ }
     ensures { λ r. ⌜ r ≡ same (now (name .entry)) (nameAt i) ⌝ }
 {
-    let n = cell(i, 0) as usize;
+    let n = cell(table, i, 0) as usize;
     if name.len() != n {
         return false;
     }
     let mut j = 0;
     while j < n {
-        if name[j] != cell(i, j + 3) {
+        if name[j] != cell(table, i, j + 3) {
             return false;
         }
         j += 1;
@@ -330,19 +329,28 @@ pub enum Arguments {
     Takes { least: u8, most: u8 },
 }
 
-// The builtin function of that name.
-pub fn builtin(name: &[u8]) -> Arguments
+// The entry of that name.
+fn search(name: &[u8], table: &[u8]) -> Arguments
+    requires { ⌜ now table ≡ flat cells ⌝ }
     ensures { λ r. ⌜ r ≡ argumentsOf (builtinOf (now (name .entry))) ⌝ }
 {
     let mut i = 0;
     while i < 55 {
-        if is_named(name, i) {
+        if is_named(name, table, i) {
             return Arguments::Takes {
-                least: cell(i, 1),
-                most: cell(i, 2),
+                least: cell(table, i, 1),
+                most: cell(table, i, 2),
             };
         }
         i += 1;
     }
     Arguments::Unknown
+}
+
+// The builtin function of that name. The table is made once for all entries: a constant costs its length wherever it is named.
+pub fn builtin(name: &[u8]) -> Arguments
+    ensures { λ r. ⌜ r ≡ argumentsOf (builtinOf (now (name .entry))) ⌝ }
+{
+    let table = BUILTINS;
+    search(name, &table)
 }

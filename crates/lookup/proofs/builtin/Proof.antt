@@ -1,61 +1,26 @@
--- `builtin`: the entries from i on decide. Assumes nothing.
-use mathlib.Core.Path.{_≡_, refl, sym, ap, _∙_}
-use Prim.Native.Nat.{ℕ, _-_, _≤_}
-use native.Mathlib.Omega.{arith}
-use lib.ListN.{drop}
-use Rattle.lookup.specs.Builtins.{builtins, entryOf, builtin}
-use Rattle.lookup.specs.Answers.{argumentsOf}
-use Rattle.lookup.proofs.Names.{entryAt, cell-least, cell-most, entry-here, entry-next, entry-end}
-use Rattle.lookup.specs.declared.Arguments.the-variants.{Takes}
+-- `builtin`: the code's table is the definition's, by computation. Assumes nothing.
+use mathlib.Core.Path.{refl}
+use Rattle.text.specs.Text.{ascii}
+use Rattle.lookup.specs.Builtins.{flat, cells, builtins, takes, cellsOf}
+use borrow.Author.Needs.{needs}
 use Rattle.lookup.proofs.builtin.Statement.{statement}
 use Rattle.lookup.proofs.builtin.Tie as tie
+use Rattle.lookup.proofs.builtin.Reads as reads
+use Rattle.lookup.proofs.builtin.Lts as lts
+use Rattle.lookup.proofs.search.Reads as search-reads
 
-abbrev Inv-loop : tie.InvT-loop
-Inv-loop name i₀ i = (i ≤ 55) × (builtin name ≡ entryOf name (drop i builtins))
+-- src/lib.rt:355:18
+slice-aggregate-search : tie.Need-slice-aggregate-search
+slice-aggregate-search c = search needs
 
-abbrev μ-loop : tie.MeasureT-loop
-μ-loop name i₀ i = 55 - i
+-- src/lib.rt:355:5
+search-requires : tie.Need-search-requires
+unfolding flat cells builtins takes ascii cellsOf
+search-requires c κs = refl
 
-loop-holds : tie.Need-loop-holds Inv-loop μ-loop
-unfolding builtin
-loop-holds c = (omega arith, refl)
-
-is-named-requires : tie.Need-is-named-requires Inv-loop μ-loop
-is-named-requires c κs = omega arith
-
-cell-requires : tie.Need-cell-requires Inv-loop μ-loop
-cell-requires c κs = (omega (arith, c .before .before .loop-test .taken), omega arith)
-
-cell-requires-2 : tie.Need-cell-requires-2 Inv-loop μ-loop
-cell-requires-2 c κs = (omega (arith, c .before .before .before .loop-test .taken), omega arith)
-
-returns : tie.Need-returns Inv-loop μ-loop
-returns c = ap (λ (x : ℕ). Takes x (c .cell2 .result)) (c .before .cell .ensures ∙ cell-least (c .before .before .before .before .before .loop .i) (c .before .before .before .before .loop-test .taken)) ∙ ap (λ (x : ℕ). Takes (entryAt (c .before .before .before .before .before .loop .i) .least) x) (c .cell2 .ensures ∙ cell-most (c .before .before .before .before .before .loop .i) (c .before .before .before .before .loop-test .taken)) ∙ sym (ap argumentsOf (c .before .before .before .before .before .loop .inv .1 ∙ entry-here (c .before .before .before .before .before .before .before .args .name .now) (c .before .before .before .before .before .loop .i) (c .before .before .before .before .loop-test .taken) (sym (c .before .before .before .is-named .ensures) ∙ c .before .before .if1 .taken)))
-
-add-i : tie.Need-add-i Inv-loop μ-loop
-add-i c = omega arith
-
-loop-less : tie.Need-loop-less Inv-loop μ-loop
-loop-less c = omega arith
-
-loop-again : tie.Need-loop-again Inv-loop μ-loop
-loop-again c = (omega (arith, c .before .before .loop-test .taken), c .before .before .before .loop .inv .1 ∙ entry-next (c .before .before .before .before .before .args .name .now) (c .before .before .before .loop .i) (c .before .before .loop-test .taken) (sym (c .before .is-named .ensures) ∙ c .if1 .left))
-
-returns-2 : tie.Need-returns-2 Inv-loop μ-loop
-returns-2 c = sym (ap argumentsOf (c .before .loop .inv .1 ∙ entry-end (c .before .before .before .args .name .now) (c .before .loop .i) (c .loop-test .left)))
+-- src/lib.rt:351:1
+returns : tie.Need-returns
+returns c = search needs
 
 pub builtin-spec : {M : Type 1} → statement M
-builtin-spec =
-    tie.close
-    (tie.spec
-    Inv-loop
-    μ-loop
-    loop-holds
-    is-named-requires
-    cell-requires
-    cell-requires-2
-    returns
-    add-i
-    loop-less
-    loop-again
-    returns-2)
+builtin-spec = tie.close (tie.spec slice-aggregate-search search-requires returns)

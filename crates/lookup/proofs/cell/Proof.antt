@@ -1,23 +1,33 @@
--- `cell`: the code's table is the definition's, by computation. Assumes nothing.
-use mathlib.Core.Path.{refl}
-use Rattle.text.specs.Text.{ascii}
-use Rattle.lookup.specs.Builtins.{cells, builtins, takes, cellsOf}
+-- `cell`: entry i's cells stand from 10 * i on. Assumes nothing.
+use mathlib.Core.Path.{_≡_, ap, _∙_}
+use mathlib.Core.List.{List}
+use Prim.Native.Nat.{ℕ, _+_, _*_}
+use native.Mathlib.Omega.{arith}
+use lib.ListN.{length, getD}
+use Rattle.lookup.proofs.Names.{flat-length, cell-at}
 use borrow.Author.Needs.{needs}
 use Rattle.lookup.proofs.cell.Statement.{statement}
 use Rattle.lookup.proofs.cell.Tie as tie
+use Rattle.lookup.proofs.cell.Reads as reads
+use Rattle.lookup.proofs.cell.Lts as lts
 
+-- src/lib.rt:304:11
 mul-result : tie.Need-mul-result
 mul-result c = search needs
 
-index-1-result : tie.Need-index-1-result
-index-1-result c = search needs
+-- src/lib.rt:304:11
+add-result : tie.Need-add-result
+add-result c = search needs
 
-index-2-result : tie.Need-index-2-result
-index-2-result c = search needs
+-- src/lib.rt:304:5
+shared-slice-read-result : tie.Need-shared-slice-read-result
+shared-slice-read-result c = omega (arith, flat-length, ap length (c .before .pre .0), c .before .pre .1, c .before .pre .2)
 
+-- src/lib.rt:300:1
 returns : tie.Need-returns
-unfolding cells builtins takes ascii cellsOf
-returns c = refl
+returns c =
+    let a = c .before .args in
+    ap (λ (l : List ℕ). getD l (a .i * 10 + a .j) 0) (c .before .pre .0) ∙ cell-at (a .i) (a .j) (c .before .pre .1) (c .before .pre .2)
 
 pub cell-spec : {M : Type 1} → statement M
-cell-spec = tie.close (tie.spec mul-result index-1-result index-2-result returns)
+cell-spec = tie.close (tie.spec mul-result add-result shared-slice-read-result returns)

@@ -40,21 +40,6 @@ getD-any [] i d d′ h = absurd (omega arith)
 getD-any (x ∷ l) zero d d′ h = refl
 getD-any (x ∷ l) (suc i) d d′ h = getD-any l i d d′ (omega arith)
 
--- the tables of the code
-pub codes-part : (r : ℕ) (d : List ℕ) → r < 39 → getD partCodes r d ≡ codes r
-unfolding codes partCodes
-codes-part r d h = getD-any partCodes r d [] h ∙ sym (lib.ListN.List·getD-append partCodes stmtCodes [] r h)
-
-pub codes-stmt : (r : ℕ) (d : List ℕ) → 39 ≤ r → r - 39 < 54 → getD stmtCodes (r - 39) d ≡ codes r
-unfolding codes partCodes stmtCodes
-codes-stmt r d h k =
-    getD-any stmtCodes (r - 39) d [] k ∙ sym (lib.Seq.getD-append-add partCodes stmtCodes (r - 39) [])
-    ∙ ap (λ (x : ℕ). getD (partCodes ++ stmtCodes) x []) (let e : 39 + (r - 39) ≡ r = omega arith in e)
-
-pub codes-none : (r : ℕ) → 93 ≤ r → [] ≡ codes r
-unfolding codes partCodes stmtCodes
-codes-none r h = sym (lib.ListN.List·getD-eq-default (partCodes ++ stmtCodes) [] h)
-
 -- a row ends at the first 0
 pub decode-stop : (cs : List ℕ) (i : ℕ) → getD cs i 0 ≡ 0 → decode (drop i cs) ≡ nil
 unfolding decode

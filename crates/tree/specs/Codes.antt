@@ -1,5 +1,5 @@
 -- The rows of fields in numbers, as the code's tables have them, and what each number says.
-use Prim.Native.Nat.{ℕ, zero, suc, _-_}
+use Prim.Native.Nat.{ℕ, zero, suc, _+_, _*_, _-_}
 use mathlib.Core.List.{List, [], _∷_, _++_, map}
 use mathlib.Core.Path.{_≡_, refl}
 use lib.ListN.{length, getD, take, drop}
@@ -178,6 +178,10 @@ stmtCodes =
 
 unfoldable pub codes : ℕ → List ℕ
 codes r = getD (partCodes ++ stmtCodes) r []
+
+-- six numbers in one, in base 256, the first lowest
+abbrev pub joined : (a b c d e f : ℕ) → ℕ
+joined a b c d e f = a + 256 * (b + 256 * (c + 256 * (d + 256 * (e + 256 * f))))
 
 -- the numbers say what the definition of each kind says
 pub decoded : map decode (partCodes ++ stmtCodes) ≡ allRows

@@ -8,7 +8,7 @@ ghost use lib.Dec.{eqb};
 ghost use mathlib.Core.List.{List};
 ghost use Rattle.tree.specs.Sorts.{Sort, many, group, opt, nil, body as bodySort, TypeRef};
 ghost use Rattle.tree.specs.Tree.{between, strings};
-ghost use Rattle.tree.specs.Codes.{codes, sortAt, rowOf, chain, allRows};
+ghost use Rattle.tree.specs.Codes.{codes, joined, sortAt, rowOf, chain, allRows};
 ghost use Rattle.tree.specs.Reader.{wordAt, neverAt, fieldAt, rowAt, stmtAt, programAt};
 ghost use Rattle.expr.specs.Reader.{exprAt};
 ghost use Rattle.expr.specs.Answer.{stepOf};
@@ -112,19 +112,127 @@ const PARTS: [[u8; 6]; 39] = [
     [11, 0, 0, 0, 0, 0],
 ];
 
+// A row's numbers; zeros where there is no such row. The tables are read at literal places only: so the compiler can
+// hold the answers in read-only memory, where a table that is read at a computed place is stored anew at every call.
+fn fields(row: usize) -> [u8; 6]
+    ensures { λ r. ⌜ ((i : ℕ) → getD r i 0 ≡ getD (codes row) i 0) ⌝ }
+{
+    let p = PARTS;
+    let f = FIELDS;
+    match row {
+        0 => p[0],
+        1 => p[1],
+        2 => p[2],
+        3 => p[3],
+        4 => p[4],
+        5 => p[5],
+        6 => p[6],
+        7 => p[7],
+        8 => p[8],
+        9 => p[9],
+        10 => p[10],
+        11 => p[11],
+        12 => p[12],
+        13 => p[13],
+        14 => p[14],
+        15 => p[15],
+        16 => p[16],
+        17 => p[17],
+        18 => p[18],
+        19 => p[19],
+        20 => p[20],
+        21 => p[21],
+        22 => p[22],
+        23 => p[23],
+        24 => p[24],
+        25 => p[25],
+        26 => p[26],
+        27 => p[27],
+        28 => p[28],
+        29 => p[29],
+        30 => p[30],
+        31 => p[31],
+        32 => p[32],
+        33 => p[33],
+        34 => p[34],
+        35 => p[35],
+        36 => p[36],
+        37 => p[37],
+        38 => p[38],
+        39 => f[0],
+        40 => f[1],
+        41 => f[2],
+        42 => f[3],
+        43 => f[4],
+        44 => f[5],
+        45 => f[6],
+        46 => f[7],
+        47 => f[8],
+        48 => f[9],
+        49 => f[10],
+        50 => f[11],
+        51 => f[12],
+        52 => f[13],
+        53 => f[14],
+        54 => f[15],
+        55 => f[16],
+        56 => f[17],
+        57 => f[18],
+        58 => f[19],
+        59 => f[20],
+        60 => f[21],
+        61 => f[22],
+        62 => f[23],
+        63 => f[24],
+        64 => f[25],
+        65 => f[26],
+        66 => f[27],
+        67 => f[28],
+        68 => f[29],
+        69 => f[30],
+        70 => f[31],
+        71 => f[32],
+        72 => f[33],
+        73 => f[34],
+        74 => f[35],
+        75 => f[36],
+        76 => f[37],
+        77 => f[38],
+        78 => f[39],
+        79 => f[40],
+        80 => f[41],
+        81 => f[42],
+        82 => f[43],
+        83 => f[44],
+        84 => f[45],
+        85 => f[46],
+        86 => f[47],
+        87 => f[48],
+        88 => f[49],
+        89 => f[50],
+        90 => f[51],
+        91 => f[52],
+        92 => f[53],
+        _ => [0, 0, 0, 0, 0, 0],
+    }
+}
+
+// six numbers in one, in base 256, the first lowest
+fn join(a: u8, b: u8, c: u8, d: u8, e: u8, f: u8) -> u64
+    ensures { λ r. ⌜ r ≡ joined a b c d e f ⌝ }
+{
+    a as u64
+        + 256 * (b as u64 + 256 * (c as u64 + 256 * (d as u64 + 256 * (e as u64 + 256 * f as u64))))
+}
+
 // the i-th field of a row, in numbers; 0 past its end
 pub fn sort(row: usize, i: usize) -> u8
     requires { ⌜ i < 6 ⌝ }
     ensures { λ r. ⌜ r ≡ getD (codes row) i 0 ⌝ }
 {
-    if row < 39 {
-        return PARTS[row][i];
-    }
-    let k = row - 39;
-    if k < 54 {
-        return FIELDS[k][i];
-    }
-    0
+    let f = fields(row);
+    let all = join(f[0], f[1], f[2], f[3], f[4], f[5]);
+    ((all >> (8 * i as u32)) % 256) as u8
 }
 
 // a word of a kind, its payload from a number to below another

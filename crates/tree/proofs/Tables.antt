@@ -1,0 +1,113 @@
+-- The code's tables: past the last row there is nothing, every number is a byte, and six bytes joined are taken apart again. Assumes nothing.
+use Prim.Native.Nat.{ℕ, zero, suc, _+_, _*_, _/_, _%_, _^_, _<_, _≤_}
+use mathlib.Core.Path.{_≡_, refl, sym, ap, subst, _∙_}
+use mathlib.Core.List.{List, [], _∷_, _++_}
+use mathlib.Core.Bool.{Bool, true, false, _&&_, false≢true}
+use native.Mathlib.Omega.{arith}
+use native.Mathlib.Nat.{div-div-eq-div-mul}
+use lib.ListN.{getD, List·getD-eq-default}
+use lib.Dec.{ltb}
+use borrow.Author.Tests.{ltb-true}
+use types.Run.{OneOf}
+use Rattle.expr.proofs.Steps.{past}
+use Rattle.tree.specs.Codes.{partCodes, stmtCodes, codes, joined}
+
+-- ---- past the last row
+
+-- what a `match` tells where none of its arms 0 to n - 1 was taken
+unfoldable pub Past : ℕ → ℕ → Type 0
+Past zero k = Unit
+Past (suc n) k = Past n k × (OneOf (n ∷ []) k → ⊥)
+
+beyond : (n k : ℕ) → Past n k → n ≤ k
+unfolding Past
+beyond zero k p = omega arith
+beyond (suc n) k p = past n k (beyond n k (p .0)) (p .1)
+
+codes-none : (r : ℕ) → 93 ≤ r → [] ≡ codes r
+unfolding codes partCodes stmtCodes
+codes-none r h = sym (List·getD-eq-default (partCodes ++ stmtCodes) [] h)
+
+abbrev six-zeros : List ℕ
+six-zeros = 0 ∷ 0 ∷ 0 ∷ 0 ∷ 0 ∷ 0 ∷ []
+
+zeros : (i : ℕ) → getD six-zeros i 0 ≡ 0
+zeros zero = refl
+zeros (suc zero) = refl
+zeros (suc (suc zero)) = refl
+zeros (suc (suc (suc zero))) = refl
+zeros (suc (suc (suc (suc zero)))) = refl
+zeros (suc (suc (suc (suc (suc zero))))) = refl
+zeros (suc (suc (suc (suc (suc (suc i)))))) = refl
+
+pub codes-zeros : (r : ℕ) → Past 93 r → (i : ℕ) → getD six-zeros i 0 ≡ getD (codes r) i 0
+codes-zeros r p i = zeros i ∙ ap (λ (l : List ℕ). getD l i 0) (codes-none r (beyond 93 r p))
+
+-- ---- every number is a byte
+
+bytes : List ℕ → Bool
+bytes [] = true
+bytes (c ∷ cs) = ltb c 256 && bytes cs
+
+all-bytes : List (List ℕ) → Bool
+all-bytes [] = true
+all-bytes (l ∷ ls) = bytes l && all-bytes ls
+
+both : (a b : Bool) → (a && b) ≡ true → (a ≡ true) × (b ≡ true)
+both true b e = (refl, e)
+both false b e = absurd (false≢true e)
+
+byte-in : (l : List ℕ) (i : ℕ) → bytes l ≡ true → getD l i 0 < 256
+unfolding bytes
+byte-in [] i e = omega arith
+byte-in (c ∷ cs) zero e = ltb-true c 256 (both (ltb c 256) (bytes cs) e .0)
+byte-in (c ∷ cs) (suc i) e = byte-in cs i (both (ltb c 256) (bytes cs) e .1)
+
+row-in : (ls : List (List ℕ)) (r : ℕ) → all-bytes ls ≡ true → bytes (getD ls r []) ≡ true
+unfolding all-bytes bytes
+row-in [] r e = refl
+row-in (l ∷ ls) zero e = both (bytes l) (all-bytes ls) e .0
+row-in (l ∷ ls) (suc r) e = row-in ls r (both (bytes l) (all-bytes ls) e .1)
+
+codes-byte : (r i : ℕ) → getD (codes r) i 0 < 256
+unfolding codes partCodes stmtCodes all-bytes bytes
+codes-byte r i = byte-in (codes r) i (row-in (partCodes ++ stmtCodes) r refl)
+
+-- ---- six bytes joined, taken apart
+
+low : (c j : ℕ) → c < 256 → (c + 256 * j) / 1 % 256 ≡ c
+low c j h = omega arith
+
+last : (c : ℕ) → c < 256 → c / 1 % 256 ≡ c
+last c h = omega arith
+
+step : (c j m : ℕ) → c < 256 → (c + 256 * j) / (256 * m) ≡ j / m
+step c j m h =
+    let e : (c + 256 * j) / 256 ≡ j = omega arith in
+    sym (div-div-eq-div-mul (c + 256 * j) 256 m) ∙ ap (λ (x : ℕ). x / m) e
+
+module _ (g : ℕ → ℕ) (h : (j : ℕ) → g j < 256) where
+  -- the bytes from a place on, joined
+  abbrev from-4 : ℕ
+  from-4 = g 4 + 256 * g 5
+
+  abbrev from-3 : ℕ
+  from-3 = g 3 + 256 * from-4
+
+  abbrev from-2 : ℕ
+  from-2 = g 2 + 256 * from-3
+
+  abbrev from-1 : ℕ
+  from-1 = g 1 + 256 * from-2
+
+  digit : (i : ℕ) → i < 6 → joined (g 0) (g 1) (g 2) (g 3) (g 4) (g 5) / 2 ^ (8 * i) % 256 ≡ g i
+  digit zero k = low (g 0) from-1 (h 0)
+  digit (suc zero) k = ap (λ (x : ℕ). x % 256) (step (g 0) from-1 1 (h 0)) ∙ low (g 1) from-2 (h 1)
+  digit (suc (suc zero)) k = ap (λ (x : ℕ). x % 256) (step (g 0) from-1 256 (h 0) ∙ step (g 1) from-2 1 (h 1)) ∙ low (g 2) from-3 (h 2)
+  digit (suc (suc (suc zero))) k = ap (λ (x : ℕ). x % 256) (step (g 0) from-1 65536 (h 0) ∙ step (g 1) from-2 256 (h 1) ∙ step (g 2) from-3 1 (h 2)) ∙ low (g 3) from-4 (h 3)
+  digit (suc (suc (suc (suc zero)))) k = ap (λ (x : ℕ). x % 256) (step (g 0) from-1 16777216 (h 0) ∙ step (g 1) from-2 65536 (h 1) ∙ step (g 2) from-3 256 (h 2) ∙ step (g 3) from-4 1 (h 3)) ∙ low (g 4) (g 5) (h 4)
+  digit (suc (suc (suc (suc (suc zero))))) k = ap (λ (x : ℕ). x % 256) (step (g 0) from-1 4294967296 (h 0) ∙ step (g 1) from-2 16777216 (h 1) ∙ step (g 2) from-3 65536 (h 2) ∙ step (g 3) from-4 256 (h 3) ∙ step (g 4) (g 5) 1 (h 4)) ∙ last (g 5) (h 5)
+  digit (suc (suc (suc (suc (suc (suc i)))))) k = absurd (omega arith)
+
+pub codes-at : (f : List ℕ) (r i : ℕ) → i < 6 → ((j : ℕ) → getD f j 0 ≡ getD (codes r) j 0) → joined (getD f 0 0) (getD f 1 0) (getD f 2 0) (getD f 3 0) (getD f 4 0) (getD f 5 0) / 2 ^ (8 * i) % 256 ≡ getD (codes r) i 0
+codes-at f r i k e = digit (λ (j : ℕ). getD f j 0) (λ (j : ℕ). subst (λ (x : ℕ). x < 256) (sym (e j)) (codes-byte r j)) i k ∙ e i

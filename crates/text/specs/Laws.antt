@@ -9,10 +9,10 @@ use mathlib.Core.Bool.{Bool, true, false}
 use mathlib.Core.List.{List, [], _∷_, _++_}
 use borrow.Author.Tests.{le-ltb, lt-ltb, lt-leb}
 use lib.Dec.{ltb, leb}
-use lib.ListN.{length, take, drop, getD, set, replicate, length-append, length-drop, take-append-drop}
-use lib.Seq.{sets, sets-eq, length-sets, set-out, take-suc, getD-drop, take-all, take-take, length-take-le}
+use lib.ListN.{length, take, drop, getD, set, replicate, length-append, length-drop, take-append-drop, List·getD-append}
+use lib.Seq.{getD-append-add, sets, sets-eq, length-sets, set-out, take-suc, getD-drop, take-all, take-take, length-take-le}
 use Rattle.words.specs.Word.{pick}
-use Rattle.text.specs.Text.{digit, hex8, digits, decimal}
+use Rattle.text.specs.Text.{digit, hex8, pair, hexPairs, digits, decimal}
 use Rattle.text.specs.Wrote.{Wrote, size, laid}
 
 sets-append : (xs ys l : List ℕ) (i : ℕ) → sets l i (xs ++ ys) ≡ sets (sets l i xs) (i + length xs) ys
@@ -57,6 +57,9 @@ then {s} {t} {b} {c} {d} {i} {j} {k} p q =
       now = q .now ∙ sets-alike t c j (i + length s) e ∙ ap (λ x. sets x (i + length s) t) (p .now) ∙ sym (sets-append s t b i);
       end = simp length-append (apart i j k (length s) (length t) (length b + 1) (p .end) q-end);
     }
+
+pub moved : {s b c : List ℕ} {at i j : ℕ} → i ≡ j → Wrote s b c at i → Wrote s b c at j
+moved e p = rw e at p
 
 pub same : {s t b c : List ℕ} {i j : ℕ} → s ≡ t → Wrote s b c i j → Wrote t b c i j
 same e p = rw e at p
@@ -160,19 +163,58 @@ whole s = take-all (length s - 0) s (omega arith)
 
 -- ---- a word
 
--- a blank and eight digits, stored one by one
-pub nine-laid : (l : List ℕ) (at w a b c d e f g h : ℕ) → a ≡ digit (w / 0x10000000 % 16) → b ≡ digit (w / 0x1000000 % 16) → c ≡ digit (w / 0x100000 % 16) → d ≡ digit (w / 0x10000 % 16) → e ≡ digit (w / 0x1000 % 16) → f ≡ digit (w / 0x100 % 16) → g ≡ digit (w / 16 % 16) → h ≡ digit (w % 16) → set (set (set (set (set (set (set (set (set l at 32) (at + 1) a) (at + 2) b) (at + 3) c) (at + 4) d) (at + 5) e) (at + 6) f) (at + 7) g) (at + 8) h ≡ sets l at (32 ∷ hex8 w)
+pub pairs-long : (n : ℕ) → length (hexPairs n) ≡ n + n
+unfolding hexPairs
+pairs-long zero = refl
+pairs-long (suc n) = simp length-append (omega (arith, pairs-long n))
+
+-- the table grows behind
+pair-before : (n k : ℕ) → k < n + n → getD (hexPairs (suc n)) k 0 ≡ getD (hexPairs n) k 0
+unfolding hexPairs
+pair-before n k h = List·getD-append (hexPairs n) (pair n) 0 k (omega (arith, pairs-long n))
+
+pair-last : (n i k : ℕ) → k ≡ n + n + i → getD (hexPairs (suc n)) k 0 ≡ getD (pair n) i 0
+unfolding hexPairs
+pair-last n i k e =
+    let f : k ≡ length (hexPairs n) + i = omega (arith, pairs-long n) in
+    rw f (getD-append-add (hexPairs n) (pair n) i 0)
+
+-- a byte's two digits stand side by side in the table
+pub pair-at : (n b k : ℕ) → b < n → k ≡ 2 * b → (getD (hexPairs n) k 0 ≡ digit (b / 16)) × (getD (hexPairs n) (k + 1) 0 ≡ digit (b % 16))
+pair-at zero b k h e = absurd (omega arith)
+pair-at (suc n) b k h e = go (ltb b n) refl (λ l. pair-at n b k l e)
+  where
+    go : (t : Bool) → ltb b n ≡ t → (b < n → (getD (hexPairs n) k 0 ≡ digit (b / 16)) × (getD (hexPairs n) (k + 1) 0 ≡ digit (b % 16))) → (getD (hexPairs (suc n)) k 0 ≡ digit (b / 16)) × (getD (hexPairs (suc n)) (k + 1) 0 ≡ digit (b % 16))
+    go true q r =
+        let l : b < n = borrow.Author.Tests.ltb-true b n q in
+        (pair-before n k (omega arith) ∙ r l .0, pair-before n (k + 1) (omega arith) ∙ r l .1)
+    go false q r =
+        let l : n ≤ b = borrow.Author.Tests.ltb-false b n q in
+        let s : b ≡ n = omega arith in
+        (pair-last n 0 k (omega arith) ∙ ap (λ y. digit (y / 16)) (sym s), pair-last n 1 (k + 1) (omega arith) ∙ ap (λ y. digit (y % 16)) (sym s))
+
+pub pairs-size : {t : List ℕ} → t ≡ hexPairs 256 → length t ≡ 512
+pairs-size e = ap length e ∙ pairs-long 256
+
+pub pair-laid : (l t : List ℕ) (at b : ℕ) → b < 256 → t ≡ hexPairs 256 → set (set l at (getD t (2 * b) 0)) (at + 1) (getD t (2 * b + 1) 0) ≡ sets l at (pair b)
+pair-laid l t at b h e = rw (e, pair-at 256 b (2 * b) h refl .0, pair-at 256 b (2 * b) h refl .1, add-one at)
+
+-- a blank and four pairs, stored one by one
+pub word-laid : (l : List ℕ) (at w : ℕ) {a b c d : List ℕ} → w < 2 ^ 32 → a ≡ sets (set l at 32) (at + 1) (pair (w / 0x1000000)) → b ≡ sets a (at + 3) (pair (w / 0x10000 % 256)) → c ≡ sets b (at + 5) (pair (w / 0x100 % 256)) → d ≡ sets c (at + 7) (pair (w % 256)) → d ≡ sets l at (32 ∷ hex8 w)
 unfolding hex8
-nine-laid l at w a b c d e f g h p₁ p₂ p₃ p₄ p₅ p₆ p₇ p₈ =
+word-laid l at w h p₁ p₂ p₃ p₄ =
     let e₁ : at + 1 ≡ suc at = omega arith in
-    let e₂ : at + 2 ≡ suc (suc at) = omega arith in
     let e₃ : at + 3 ≡ suc (suc (suc at)) = omega arith in
-    let e₄ : at + 4 ≡ suc (suc (suc (suc at))) = omega arith in
     let e₅ : at + 5 ≡ suc (suc (suc (suc (suc at)))) = omega arith in
-    let e₆ : at + 6 ≡ suc (suc (suc (suc (suc (suc at))))) = omega arith in
     let e₇ : at + 7 ≡ suc (suc (suc (suc (suc (suc (suc at)))))) = omega arith in
-    let e₈ : at + 8 ≡ suc (suc (suc (suc (suc (suc (suc (suc at))))))) = omega arith in
-    rw (e₁, e₂, e₃, e₄, e₅, e₆, e₇, e₈, p₁, p₂, p₃, p₄, p₅, p₆, p₇, p₈, div-one)
+    let d₁ : w / 0x1000000 / 16 ≡ w / 0x10000000 % 16 = omega arith in
+    let d₃ : w / 0x10000 % 256 / 16 ≡ w / 0x100000 % 16 = omega arith in
+    let d₄ : w / 0x10000 % 256 % 16 ≡ w / 0x10000 % 16 = omega arith in
+    let d₅ : w / 0x100 % 256 / 16 ≡ w / 0x1000 % 16 = omega arith in
+    let d₆ : w / 0x100 % 256 % 16 ≡ w / 0x100 % 16 = omega arith in
+    let d₇ : w % 256 / 16 ≡ w / 16 % 16 = omega arith in
+    let d₈ : w % 256 % 16 ≡ w % 16 = omega arith in
+    rw (p₄, p₃, p₂, p₁, e₁, e₃, e₅, e₇, d₁, d₃, d₄, d₅, d₆, d₇, d₈, div-one)
 
 -- a text stored where there is room for it
 pub fits : {b c : List ℕ} {at next : ℕ} (s : List ℕ) → c ≡ sets b at s → next ≡ at + length s → Wrote s b c at next

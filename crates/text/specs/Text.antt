@@ -19,6 +19,14 @@ digit n = pick (ltb n 10) (48 + n) (87 + n)
 unfoldable pub hex8 : ℕ → List ℕ
 hex8 w = map (λ k. digit (w / 16 ^ k % 16)) (7 ∷ 6 ∷ 5 ∷ 4 ∷ 3 ∷ 2 ∷ 1 ∷ 0 ∷ [])
 
+-- a byte as two digits, and those of each byte below n, one byte after the other
+abbrev pub pair : ℕ → List ℕ
+pair b = digit (b / 16) ∷ digit (b % 16) ∷ []
+
+unfoldable pub hexPairs : ℕ → List ℕ
+hexPairs zero = []
+hexPairs (suc n) = hexPairs n ++ pair n
+
 -- a number's digits, at most so many, the highest first: its tenth's, and then its last
 unfoldable pub digits : ℕ → ℕ → List ℕ
 digits zero n = []

@@ -4,7 +4,6 @@ use mathlib.Core.List.{List}
 use mathlib.Core.Option.{some}
 use mathlib.Core.Path.{_≡_}
 use mathlib.Core.Bool.{true}
-use lib.ListN.{length}
 use Rattle.strings.specs.Table.{sound, namesOf}
 use Rattle.expr.specs.Expr.{Expr}
 use Rattle.tree.specs.Sorts.{Kind, sorts}
@@ -28,6 +27,16 @@ pub record StmtAt (ns : List ℕ) (n : ℕ) (k : Kind) (ws : List ℕ) (at : ℕ
 pub record Collects (ns : List ℕ) (n : ℕ) (k : Kind) (ws bytes ends erased : List ℕ) (scope at : ℕ) (s r : Counts) (b d b′ d′ : List ℕ) : Type 0 where
   pub does : (line : ℕ) (fields : Tree Expr (row (sorts k))) (end : ℕ) → Stands ws ns n at (Stmt k line fields) end
       → Does (λ N D. statement (given (some N) (some D) bytes ends erased) scope line (view k (over see fields))) s r b d b′ d′
+
+-- a statement of the kind stands there, with whatever names and strings
+pub record SomeStmt (k : Kind) (ws : List ℕ) (at : ℕ) : Type 0 where
+  pub names : List ℕ
+  pub strings : ℕ
+  pub stmt : StmtAt names strings k ws at
+
+-- what it does, with whatever names, strings and erased names
+pub record CollectsAny (k : Kind) (ws : List ℕ) (scope at : ℕ) (s r : Counts) (b d b′ d′ : List ℕ) : Type 0 where
+  pub all : (ns : List ℕ) (n : ℕ) (bytes ends erased : List ℕ) → Collects ns n k ws bytes ends erased scope at s r b d b′ d′
 
 -- the strings are sound, and the marks say which are names
 pub record Named (bytes ends marks : List ℕ) : Type 0 where

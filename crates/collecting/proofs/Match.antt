@@ -10,9 +10,9 @@ use Rattle.tree.specs.Tree.{one}
 use Rattle.steps.specs.State.{State, running, stopped}
 use Rattle.steps.specs.Held.{Fit, Held}
 use Rattle.steps.specs.declared.Counts.{Counts}
-use Rattle.collect.specs.Code.{StmtAt, Collects, Named}
-use Rattle.labels.specs.Labels.{SomeStmt, ConstAt, CollectsAny, HeldConsts, ConstsHeld}
-use Rattle.types.specs.Types.{SomeType, CollectsType}
+use Rattle.collect.specs.Code.{StmtAt, Collects, SomeStmt, CollectsAny, Named}
+use Rattle.labels.specs.Labels.{ConstAt, HeldConsts, ConstsHeld}
+use Rattle.types.specs.Types.{SomeType}
 use Rattle.dims.specs.Declarators.{ReadyStmt}
 use Rattle.lawful.specs.Good.{Good}
 use Rattle.collecting.specs.Walk.{Kept, Ready, Stated}
@@ -34,7 +34,7 @@ module _ {ws ns bytes ends : List ℕ} {scope at : ℕ} {s : Counts} {b d : List
   any-there = record { names = ns; strings = length ends; stmt = there }
 
   declared-there : ReadyStmt (kindAt j) bytes ends ws at
-  declared-there = record { marks = ns; strings = length ends; named = R .around .named; stmt = there }
+  declared-there = record { any = any-there; named = R .around .named }
 
 -- ---- the arms
 
@@ -73,7 +73,7 @@ module _ {ws ns bytes ends : List ℕ} {scope at : ℕ} {s : Counts} {b d : List
 
   pub constant-there : kindOf (getD ws at 0) ≡ 89 → ConstAt ws at s b × Fit s (length b) (length d)
   unfolding kindAt kinds
-  constant-there q = (record { names = ns; strings = length ends; stmt = there R 25 q; held = consts-held (R .kept) }, R .kept .fit)
+  constant-there q = (record { any = any-there R 25 q; held = consts-held (R .kept) }, R .kept .fit)
 
   pub option-base-there : kindOf (getD ws at 0) ≡ 92 → SomeStmt optionBase ws at × Fit s (length b) (length d)
   unfolding kindAt kinds
@@ -81,7 +81,7 @@ module _ {ws ns bytes ends : List ℕ} {scope at : ℕ} {s : Counts} {b d : List
 
   pub type-def-there : kindOf (getD ws at 0) ≡ 93 → SomeType ws at × Fit s (length b) (length d)
   unfolding kindAt kinds
-  type-def-there q = (record { names = ns; strings = length ends; few = omega (arith, R .around .counted, R .around .few); stmt = there R 29 q }, R .kept .fit)
+  type-def-there q = (record { any = any-there R 29 q; few = omega (arith, R .around .counted, R .around .few) }, R .kept .fit)
 
 -- what the arm of the kind j does
 module _ {ws ns bytes ends erased : List ℕ} {n scope at : ℕ} {s r : Counts} {b d b′ d′ : List ℕ} where
@@ -125,6 +125,6 @@ module _ {ws ns bytes ends erased : List ℕ} {n scope at : ℕ} {s r : Counts} 
   unfolding kindAt kinds
   option-base-done q c = of-kind 28 q (c scope .all ns n bytes ends erased)
 
-  pub type-def-done : kindOf (getD ws at 0) ≡ 93 → CollectsType ws scope at s r b d b′ d′ → Stated ws ns n bytes ends erased scope at s r b d b′ d′
+  pub type-def-done : kindOf (getD ws at 0) ≡ 93 → CollectsAny typeDef ws scope at s r b d b′ d′ → Stated ws ns n bytes ends erased scope at s r b d b′ d′
   unfolding kindAt kinds
   type-def-done q c = of-kind 29 q (c .all ns n bytes ends erased)

@@ -65,21 +65,21 @@ pub record Begun (bytes ends ws : List ℕ) (at : ℕ) : Type 0 where
   pub list : Ready bytes ends ws (at + 1)
   pub flag-inside : {p : ℕ} → Past ws (at + 1) p → p < length ws
 
-begun : {bytes ends ws : List ℕ} {at line : ℕ} {k : Kind} {v : View Seen} {made : List (Declarator Seen) → Bool → View Seen} (R : ReadyStmt k bytes ends ws at) → Sees ws (R .marks) (R .strings) at line v made → Begun bytes ends ws at
+begun : {bytes ends ws : List ℕ} {at line : ℕ} {k : Kind} {v : View Seen} {made : List (Declarator Seen) → Bool → View Seen} (R : ReadyStmt k bytes ends ws at) → Sees ws (R .any .names) (R .any .strings) at line v made → Begun bytes ends ws at
 begun {ws = ws} R S =
     let L = S .leads in
     record {
       inside = L .inside;
-      list = record { marks = R .marks; strings = R .strings; named = R .named; tree = S .list; end = L .mid; stands = L .there };
-      flag-inside = λ P. subst (λ (m : ℕ). m < length ws) (sym (P (R .marks) (R .strings) (S .list) (L .mid) (L .there))) (L .flag-inside);
+      list = record { marks = R .any .names; strings = R .any .strings; named = R .named; tree = S .list; end = L .mid; stands = L .there };
+      flag-inside = λ P. subst (λ (m : ℕ). m < length ws) (sym (P (R .any .names) (R .any .strings) (S .list) (L .mid) (L .there))) (L .flag-inside);
     }
 
 module _ {bytes ends ws : List ℕ} {at : ℕ} where
   pub dim-begun : ReadyStmt dimKind bytes ends ws at → Begun bytes ends ws at
-  dim-begun R = begun R (dim-seen (R .stmt .fields) (R .stmt .stands))
+  dim-begun R = begun R (dim-seen (R .any .stmt .fields) (R .any .stmt .stands))
 
   pub redim-begun : ReadyStmt redimKind bytes ends ws at → Begun bytes ends ws at
-  redim-begun R = begun R (redim-seen (R .stmt .fields) (R .stmt .stands))
+  redim-begun R = begun R (redim-seen (R .any .stmt .fields) (R .any .stmt .stands))
 
 -- SHARED leaves counts that fit
 pub shares-fit : {bytes ends ws : List ℕ} {scope line : ℕ} {shared : Bool} {at : ℕ} {s r : Counts} {b d b′ d′ : List ℕ} → Ready bytes ends ws at → Shares ws scope line shared at s r b d b′ d′ → Fit r (length b′) (length d′)

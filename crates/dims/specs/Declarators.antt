@@ -20,7 +20,7 @@ use Rattle.steps.specs.declared.Counts.{Counts}
 use Rattle.steps.specs.Held.{Fit, Sized, Does, Rows}
 use Rattle.collect.specs.Seen.{Seen, see}
 use Rattle.collect.specs.Collect.{given, lastOf, disagrees, isRecord, isSome, anySome, member, declaredType, declaredArray, declared, dimShared}
-use Rattle.collect.specs.Code.{StmtAt, Named}
+use Rattle.collect.specs.Code.{SomeStmt, Named}
 use Rattle.dims.specs.declared.Bound.{Bound}
 use Rattle.dims.specs.declared.Ranked.{Ranked}
 use Rattle.dims.specs.declared.Decl.{Decl}
@@ -74,10 +74,8 @@ pub record Ready (bytes ends ws : List ℕ) (at : ℕ) : Type 0 where
 
 -- a statement of the kind does
 pub record ReadyStmt (k : Kind) (bytes ends ws : List ℕ) (at : ℕ) : Type 0 where
-  pub marks : List ℕ
-  pub strings : ℕ
-  pub named : Named bytes ends marks
-  pub stmt : StmtAt marks strings k ws at
+  pub any : SomeStmt k ws at
+  pub named : Named bytes ends (any .names)
 
 -- ---- what is asked
 

@@ -30,7 +30,7 @@ use Rattle.parts.specs.declared.TypeAt.{TypeAt}
 use Rattle.parts.specs.Parts.{AsTypeIs}
 use Rattle.parts.specs.Over.{scope-items-over}
 use Rattle.parts.specs.Turns.{Turn, turn-start, turn-next, turn-some, turn-end, list-rows, list-all}
-use Rattle.labels.specs.Labels.{SomeStmt, CollectsAny}
+use Rattle.collect.specs.Code.{SomeStmt, CollectsAny}
 use Rattle.items.specs.declared.ItemAt.{ItemAt}
 use Rattle.items.specs.Items.{ItemIs, itemAs, Enters, EntersAll}
 

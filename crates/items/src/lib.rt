@@ -9,7 +9,7 @@ ghost use Rattle.tree.specs.Stands.{SomeTree};
 ghost use Rattle.table.specs.Rows.{width};
 ghost use Rattle.steps.specs.Held.{Fit};
 ghost use Rattle.collect.specs.Collect.{marked as markedOf};
-ghost use Rattle.labels.specs.Labels.{SomeStmt, CollectsAny};
+ghost use Rattle.collect.specs.Code.{SomeStmt, CollectsAny};
 ghost use Rattle.items.specs.Items.{ItemIs, Enters, EntersAll};
 
 // An item: its name, whether it is an array, its type (head 0: none), and the place past it.

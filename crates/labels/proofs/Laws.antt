@@ -31,7 +31,8 @@ use Rattle.consteval.specs.declared.Folded.{Folded}
 use Rattle.collect.specs.Diagnostics.{duplicateLine, duplicateLabel, optionBaseTwice, optionBaseLate, constDefined, constOverflow, notConstant}
 use Rattle.collect.specs.Seen.{Seen, see}
 use Rattle.collect.specs.Collect.{given, statement, anyArray, constOf, label, labelName, optionBase, folded, const}
-use Rattle.labels.specs.Labels.{SomeStmt, CollectsAny, ConstAt, sayBase}
+use Rattle.collect.specs.Code.{SomeStmt, CollectsAny}
+use Rattle.labels.specs.Labels.{ConstAt, sayBase}
 use Rattle.labels.specs.Laws.{stopped-does}
 
 -- ---- a statement whose first field is a plain word: its line, and the word's payload
@@ -193,13 +194,13 @@ const-seen {at = at} (cons (word x) (cons (value e) done)) S =
 
 module _ {ws : List ℕ} {at : ℕ} {s : Counts} {b : List ℕ} where
   pub const-inside : ConstAt ws at s b → at + 1 < length ws
-  const-inside C = const-seen (C .stmt .fields) (C .stmt .stands) .leads .inside
+  const-inside C = const-seen (C .any .stmt .fields) (C .any .stmt .stands) .leads .inside
 
   pub const-ready : ConstAt ws at s b → s .stop ≡ 0 → Ready ws (at + 2) b (s .rows)
   const-ready C go =
       let h = C .held go in
-      let S = const-seen (C .stmt .fields) (C .stmt .stands) in
-      record { strings = strings (C .names) (C .strings); expr = S .expression; end = C .stmt .end; stands = S .there; rows = h .rows; holds = h .holds; consts = h .consts }
+      let S = const-seen (C .any .stmt .fields) (C .any .stmt .stands) in
+      record { strings = strings (C .any .names) (C .any .strings); expr = S .expression; end = C .any .stmt .end; stands = S .there; rows = h .rows; holds = h .holds; consts = h .consts }
 
 module _ {s : Counts} {b d : List ℕ} {ws : List ℕ} {at : ℕ} where
   const-does : {r : Counts} {b′ d′ : List ℕ} → ((bytes ends erased : List ℕ) (e : Expr) (end : ℕ) (ns : List ℕ) (n : ℕ) → W.Stands ws (strings ns n) (at + 2) e end

@@ -13,7 +13,8 @@ ghost use Rattle.fold.specs.Fold.{GoodFold};
 ghost use Rattle.tree.specs.Sorts.{label as labelKind, labelName, optionBase, const as constKind};
 ghost use Rattle.steps.specs.Held.{Fit, Rows, Notes, Does, entering};
 ghost use Rattle.collect.specs.Collect.{given, anyArray, constOf, folded as foldedStep};
-ghost use Rattle.labels.specs.Labels.{SomeStmt, ConstAt, CollectsAny, sayBase};
+ghost use Rattle.labels.specs.Labels.{ConstAt, sayBase};
+ghost use Rattle.collect.specs.Code.{SomeStmt, CollectsAny};
 
 // A line number. The last one stays, also after a diagnostic.
 pub fn label(

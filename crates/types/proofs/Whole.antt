@@ -27,7 +27,8 @@ use Rattle.steps.specs.Compose.{then, same, notes-does, asked, stays-asking, st
 use Rattle.collect.specs.Diagnostics.{typeDefined, typeInside}
 use Rattle.collect.specs.Seen.{see}
 use Rattle.collect.specs.Collect.{given, fields, typeDef, statement}
-use Rattle.types.specs.Types.{SomeType, CollectsType, SomeFields, checks, keeps, Checks, Enters, Defines}
+use Rattle.collect.specs.Code.{CollectsAny}
+use Rattle.types.specs.Types.{SomeType, SomeFields, checks, keeps, Checks, Enters, Defines}
 use Rattle.types.specs.declared.Summed.{Summed}
 use Rattle.types.proofs.Laws.{same-none, Put, fields-split, checks-rows}
 use Rattle.types.proofs.Alike.{put-does}
@@ -115,8 +116,8 @@ type-parts {ws} {ns} {n} {at} {line} {end} (cons (word x) (cons (list rs) done))
     }
 
 module _ {ws : List ℕ} {at : ℕ} where
-  abbrev type-there : (T : SomeType ws at) → TypeParts ws (T .names) (T .strings) at (T .stmt .line) (T .stmt .fields) (T .stmt .end)
-  type-there T = type-parts (T .stmt .fields) (T .stmt .stands)
+  abbrev type-there : (T : SomeType ws at) → TypeParts ws (T .any .names) (T .any .strings) at (T .any .stmt .line) (T .any .stmt .fields) (T .any .stmt .end)
+  type-there T = type-parts (T .any .stmt .fields) (T .any .stmt .stands)
 
   pub type-inside : SomeType ws at → at + 2 < length ws
   type-inside T = type-there T .inside
@@ -124,13 +125,13 @@ module _ {ws : List ℕ} {at : ℕ} where
   pub type-fields : SomeType ws at → SomeFields ws (at + 3) (payOf (getD ws (at + 2) 0))
   type-fields T =
       let p = type-there T in
-      record { names = T .names; strings = T .strings; tree = p .decls; end = T .stmt .end; stands = p .there; enough = omega (arith, p .count-is) }
+      record { names = T .any .names; strings = T .any .strings; tree = p .decls; end = T .any .stmt .end; stands = p .there; enough = omega (arith, p .count-is) }
 
   -- a name's number is below the number of the marks
   pub type-name : SomeType ws at → payOf (getD ws (at + 1) 0) + 1 < 16777216
-  type-name T = omega (arith, T .few, below (T .names) (p .name) (p .named), p .name-is)
+  type-name T = omega (arith, T .few, below (T .any .names) (p .name) (p .named), p .name-is)
     where
-      p : TypeParts ws (T .names) (T .strings) at (T .stmt .line) (T .stmt .fields) (T .stmt .end)
+      p : TypeParts ws (T .any .names) (T .any .strings) at (T .any .stmt .line) (T .any .stmt .fields) (T .any .stmt .end)
       p = type-there T
 
       below : (ns : List ℕ) (x : ℕ) → getD ns x 0 ≡ 1 → x < length ns
@@ -164,7 +165,7 @@ module _ (ws : List ℕ) (at scope : ℕ) {s t₁ t₂ r : Counts} {b d d₁ d�
       same (λ N D. when (not (eqb scope 0)) (push (some D) (typeInside (payOf (getD ws at 0)) (payOf (getD ws (at + 1) 0))))) (λ N D st. ap (λ (t : Bool). when t (push (some D) (typeInside (payOf (getD ws at 0)) (payOf (getD ws (at + 1) 0)))) st) is)
       (notes-does B b (omega (arith, A .kept, fit .0)))
 
-  pub type-collects : CollectsType ws scope at s r b d b′ d′
+  pub type-collects : CollectsAny typeKind ws scope at s r b d b′ d′
   unfolding statement typeDef
   type-collects =
       record {

@@ -20,21 +20,15 @@ use Rattle.steps.specs.declared.Counts.{Counts}
 use Rattle.steps.specs.Held.{Held, Does, Notes, Rows}
 use Rattle.collect.specs.Diagnostics.{fieldTwice, containsItself, fieldUndefined}
 use Rattle.collect.specs.Collect.{FieldInfo, fieldRows, given, fields}
-use Rattle.collect.specs.Code.{StmtAt, Collects}
+use Rattle.collect.specs.Code.{SomeStmt}
 use Rattle.types.specs.declared.FieldAt.{FieldAt}
 use Rattle.types.specs.declared.Summed.{Summed}
 use Rattle.types.specs.declared.Kept.{Kept}
 
 -- a TYPE stands there, and its name's number plus 1 is a payload too
 pub record SomeType (ws : List ℕ) (at : ℕ) : Type 0 where
-  pub names : List ℕ
-  pub strings : ℕ
-  pub few : length names < 16777216
-  pub stmt : StmtAt names strings typeKind ws at
-
--- what it does, with whatever names, strings and erased names
-pub record CollectsType (ws : List ℕ) (scope at : ℕ) (s r : Counts) (b d b′ d′ : List ℕ) : Type 0 where
-  pub all : (ns : List ℕ) (n : ℕ) (bytes ends erased : List ℕ) → Collects ns n typeKind ws bytes ends erased scope at s r b d b′ d′
+  pub any : SomeStmt typeKind ws at
+  pub few : length (any .names) < 16777216
 
 -- at least n fields stand there
 pub record SomeFields (ws : List ℕ) (at n : ℕ) : Type 0 where

@@ -7,11 +7,12 @@ ghost use Prim.Native.Nat.{ℕ, _+_, _*_, _≤_, _<_};
 ghost use lib.Dec.{eqb};
 ghost use lib.ListN.{length};
 ghost use Rattle.table.specs.Rows.{Row, width, noteWidth, Holds};
-ghost use Rattle.tree.specs.Sorts.{FieldDecl as FieldRow};
+ghost use Rattle.tree.specs.Sorts.{FieldDecl as FieldRow, typeDef};
 ghost use Rattle.tree.specs.Tree.{row as oneRow};
 ghost use Rattle.tree.specs.Stands.{SomeTree};
 ghost use Rattle.steps.specs.Held.{Fit, Notes, pushing};
-ghost use Rattle.types.specs.Types.{SomeType, CollectsType, SomeFields, FieldIs, Upto, typeCode, said as saidOf, codeOf, noteOf, grown as grownOf, Looks, Checks, Keeps, Enters, Defines};
+ghost use Rattle.collect.specs.Code.{CollectsAny};
+ghost use Rattle.types.specs.Types.{SomeType, SomeFields, FieldIs, Upto, typeCode, said as saidOf, codeOf, noteOf, grown as grownOf, Looks, Checks, Keeps, Enters, Defines};
 
 // A field of a TYPE: its name, its type, and the place past it.
 pub struct FieldAt {
@@ -270,7 +271,7 @@ pub fn type_def(
     at: usize,
 ) -> Counts
     requires { ⌜ SomeType (now words) at × Fit s (length (now b)) (length (now d)) ⌝ }
-    ensures { λ r. ⌜ CollectsType (now (words .entry)) scope at s r (now (b .entry)) (now (d .entry)) (now (b .exit)) (now (d .exit)) ⌝ }
+    ensures { λ r. ⌜ CollectsAny typeDef (now (words .entry)) scope at s r (now (b .entry)) (now (d .entry)) (now (b .exit)) (now (d .exit)) ⌝ }
 {
     let line = words[at] % 16777216;
     let name = words[at + 1] % 16777216;

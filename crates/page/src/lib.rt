@@ -4,6 +4,8 @@ use message::put_diag;
 use message::templates;
 use table::NOTE_WIDTH;
 use table::WIDTH;
+use text::hex_pairs;
+use text::lay_word;
 use text::put_byte;
 use text::put_bytes;
 use text::put_decimal;
@@ -12,23 +14,69 @@ ghost use mathlib.Core.Path.{_≡_};
 ghost use mathlib.Core.List.{flatMap};
 ghost use Prim.Native.Nat.{_+_, _*_, _≤_};
 ghost use lib.ListN.{length, take, drop};
+ghost use Rattle.text.specs.Text.{hexPairs};
 ghost use Rattle.text.specs.Wrote.{Wrote};
 ghost use Rattle.message.specs.Message.{lines};
 ghost use Rattle.table.specs.Rows.{width, noteWidth};
-ghost use Rattle.page.specs.Page.{line, diagOf, page, refusal};
+ghost use Rattle.page.specs.Page.{word, line, diagOf, page, refusal};
 ghost use Rattle.page.specs.Chunks.{chunks};
 
-// n words from `from` on, as a line.
-fn put_line(out: &mut [u8], at: usize, letter: u8, words: &[u32], from: usize, n: usize) -> usize
-    requires { ⌜ from + n ≤ length (now words) ⌝ }
-    ensures { λ r. ⌜ Wrote (line letter (take n (drop from (now (words .entry))))) (now (out .entry)) (now (out .exit)) at r ⌝ }
+// n words from `from` on, where there is room for all.
+fn lay_words(out: &mut [u8], at: usize, pairs: &[u8], words: &[u32], from: usize, n: usize)
+    requires { ⌜ (at + 9 * n ≤ length (now out)) × (from + n ≤ length (now words)) × (now pairs ≡ hexPairs 256) ⌝ }
+    ensures { λ _. ⌜ Wrote (flatMap word (take n (drop from (now (words .entry))))) (now (out .entry)) (now (out .exit)) at (at + 9 * n) ⌝ }
 {
-    let mut next = put_byte(out, at, letter);
+    let mut i = 0;
+    while i < n {
+        lay_word(out, at + 9 * i, pairs, words[from + i]);
+        i += 1;
+    }
+}
+
+// One by one, as much as fits.
+fn put_each(out: &mut [u8], at: usize, words: &[u32], from: usize, n: usize) -> usize
+    requires { ⌜ from + n ≤ length (now words) ⌝ }
+    ensures { λ r. ⌜ Wrote (flatMap word (take n (drop from (now (words .entry))))) (now (out .entry)) (now (out .exit)) at r ⌝ }
+{
+    let mut next = at;
     let mut i = 0;
     while i < n {
         next = put_word(out, next, words[from + i]);
         i += 1;
     }
+    next
+}
+
+// At once where there is room for all.
+fn put_words(out: &mut [u8], at: usize, pairs: &[u8], words: &[u32], from: usize, n: usize) -> usize
+    requires { ⌜ (from + n ≤ length (now words)) × (now pairs ≡ hexPairs 256) ⌝ }
+    ensures { λ r. ⌜ Wrote (flatMap word (take n (drop from (now (words .entry))))) (now (out .entry)) (now (out .exit)) at r ⌝ }
+{
+    if out.len() <= at {
+        return put_each(out, at, words, from, n);
+    }
+    if (out.len() - at) / 9 < n {
+        return put_each(out, at, words, from, n);
+    }
+    lay_words(out, at, pairs, words, from, n);
+    at + 9 * n
+}
+
+// n words from `from` on, as a line.
+fn put_line(
+    out: &mut [u8],
+    at: usize,
+    pairs: &[u8],
+    letter: u8,
+    words: &[u32],
+    from: usize,
+    n: usize,
+) -> usize
+    requires { ⌜ (from + n ≤ length (now words)) × (now pairs ≡ hexPairs 256) ⌝ }
+    ensures { λ r. ⌜ Wrote (line letter (take n (drop from (now (words .entry))))) (now (out .entry)) (now (out .exit)) at r ⌝ }
+{
+    let mut next = put_byte(out, at, letter);
+    next = put_words(out, next, pairs, words, from, n);
     put_byte(out, next, b'\n')
 }
 
@@ -71,14 +119,14 @@ fn put_notes(
     next
 }
 
-fn put_rows(out: &mut [u8], at: usize, rows: &[u32], n: usize) -> usize
-    requires { ⌜ n * width ≤ length (now rows) ⌝ }
+fn put_rows(out: &mut [u8], at: usize, pairs: &[u8], rows: &[u32], n: usize) -> usize
+    requires { ⌜ (n * width ≤ length (now rows)) × (now pairs ≡ hexPairs 256) ⌝ }
     ensures { λ r. ⌜ Wrote (flatMap (line 84) (chunks width n (now (rows .entry)))) (now (out .entry)) (now (out .exit)) at r ⌝ }
 {
     let mut next = at;
     let mut i = 0;
     while i < n {
-        next = put_line(out, next, b'T', rows, i * WIDTH, WIDTH);
+        next = put_line(out, next, pairs, b'T', rows, i * WIDTH, WIDTH);
         i += 1;
     }
     next
@@ -103,8 +151,9 @@ pub fn put_page(
     ensures { λ r. ⌜ Wrote (page (now (bytes .entry)) (now (ends .entry)) (chunks noteWidth (n .notes) (now (notes .entry))) (chunks width (n .rows) (now (rows .entry))) (now (words .entry))) (now (out .entry)) (now (out .exit)) 0 r ⌝ }
 {
     let shown = put_notes(out, 0, bytes, ends, notes, n.notes);
-    let next = put_rows(out, shown, rows, n.rows);
-    put_line(out, next, b'R', words, 0, words.len())
+    let pairs = hex_pairs();
+    let next = put_rows(out, shown, &pairs, rows, n.rows);
+    put_line(out, next, &pairs, b'R', words, 0, words.len())
 }
 
 pub fn put_refusal(out: &mut [u8], n: u32) -> usize

@@ -1,73 +1,26 @@
--- put_line: after i turns the letter and i words are written.
+-- put_line: the letter, the words and the line's end, one after the other.
+use lib.ListN.{take, drop}
+use Rattle.page.proofs.Laws.{whole-line}
 use borrow.Author.Needs.{needs}
-use mathlib.Core.Path.{_≡_, refl, _∙_}
-use mathlib.Core.List.{flatMap}
-use Prim.Native.Nat.{_≤_, _-_}
-use native.Mathlib.Omega.{arith}
-use lib.ListN.{length, take, drop}
-use Rattle.text.specs.Wrote.{Wrote}
-use Rattle.page.specs.Page.{word}
-use Rattle.page.proofs.Laws.{words-none, words-more, whole-line}
 use Rattle.page.proofs.put_line.Statement.{statement}
 use Rattle.page.proofs.put_line.Tie as tie
 
-abbrev Inv-loop : tie.InvT-loop
-Inv-loop out₀ at letter words from n next₀ i₀ out next i = (i ≤ n) × (length out ≡ length out₀) × Wrote (flatMap word (take i (drop from words))) out₀ out next₀ next
-
-abbrev μ-loop : tie.MeasureT-loop
-μ-loop out₀ at letter words from n next₀ i₀ out next i = n - i
-
-put-byte-requires : tie.Need-put-byte-requires Inv-loop μ-loop
+put-byte-requires : tie.Need-put-byte-requires
 put-byte-requires c κs = search needs
 
-loop-holds : tie.Need-loop-holds Inv-loop μ-loop
-loop-holds c = (omega arith, refl, words-none (c .before .before .before .before .before .before .args .words .now) (c .before .before .before .before .before .before .args .from))
+put-words-requires : tie.Need-put-words-requires
+put-words-requires c κs = search needs
 
-add-put-word : tie.Need-add-put-word Inv-loop μ-loop
-add-put-word c = omega arith
-
-mul-put-word : tie.Need-mul-put-word Inv-loop μ-loop
-mul-put-word c = search needs
-
-shared-slice-read-put-word : tie.Need-shared-slice-read-put-word Inv-loop μ-loop
-shared-slice-read-put-word c = omega arith
-
-put-word-requires : tie.Need-put-word-requires Inv-loop μ-loop
-put-word-requires c κs = search needs
-
-add-i : tie.Need-add-i Inv-loop μ-loop
-add-i c = omega arith
-
-loop-less : tie.Need-loop-less Inv-loop μ-loop
-loop-less c = omega arith
-
-loop-again : tie.Need-loop-again Inv-loop μ-loop
-loop-again c = (omega arith, c .before .before .put-word .kept .0 ∙ c .before .before .before .before .before .before .loop .inv .1, words-more (c .before .before .before .before .before .before .before .before .before .before .before .before .before .args .words .now) (c .before .before .before .before .before .before .before .before .before .before .before .before .before .args .from) (c .before .before .before .before .before .before .loop .i) (omega arith) (c .before .before .before .before .before .before .loop .inv .2) (c .before .before .put-word .ensures))
-
-put-byte-requires-2 : tie.Need-put-byte-requires-2 Inv-loop μ-loop
+put-byte-requires-2 : tie.Need-put-byte-requires-2
 put-byte-requires-2 c κs = search needs
 
-same-length : tie.Need-same-length Inv-loop μ-loop
-same-length c = c .before .before .put-byte2 .kept .0 ∙ c .before .before .before .before .before .loop .inv .1 ∙ c .before .before .before .before .before .before .before .before .put-byte .kept .0
+same-length : tie.Need-same-length
+same-length c = search needs
 
-returns : tie.Need-returns Inv-loop μ-loop
-returns c = let e : c .before .before .before .before .before .loop .i ≡ (c .before .before .before .before .before .before .before .before .before .before .before .before .args .n) = omega arith in whole-line (take (c .before .before .before .before .before .before .before .before .before .before .before .before .args .n) (drop (c .before .before .before .before .before .before .before .before .before .before .before .before .args .from) (c .before .before .before .before .before .before .before .before .before .before .before .before .args .words .now))) (c .before .before .before .before .before .before .before .before .put-byte .ensures) (rw e at (c .before .before .before .before .before .loop .inv .2)) (c .before .before .put-byte2 .ensures)
+returns : tie.Need-returns
+returns c = whole-line (take (c .before .before .before .before .before .before .before .before .before .before .before .before .before .before .before .args .n) (drop (c .before .before .before .before .before .before .before .before .before .before .before .before .before .before .before .args .from) (c .before .before .before .before .before .before .before .before .before .before .before .before .before .before .before .args .words .now))) (c .before .before .before .before .before .before .before .before .before .before .put-byte .ensures) (c .before .before .before .before .before .before .put-words .ensures) (c .before .before .put-byte2 .ensures)
 
 pub put-line-spec : {M : Type 1} → statement M
 put-line-spec =
     tie.close
-    (tie.spec
-    Inv-loop
-    μ-loop
-    put-byte-requires
-    loop-holds
-    add-put-word
-    mul-put-word
-    shared-slice-read-put-word
-    put-word-requires
-    add-i
-    loop-less
-    loop-again
-    put-byte-requires-2
-    same-length
-    returns)
+    (tie.spec put-byte-requires put-words-requires put-byte-requires-2 same-length returns)

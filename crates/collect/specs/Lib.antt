@@ -1,3 +1,4 @@
+-- `Diagnostics`, `Seen` and `Collect` say what collecting is. `Code` is what the crates that do it promise each other; the rest are laws and examples.
 pub mod Diagnostics
 pub mod Seen
 pub mod Collect

@@ -1,1 +1,2 @@
+-- The laws that the proof of the entry cites.
 pub mod Entry

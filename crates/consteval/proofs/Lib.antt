@@ -1,3 +1,4 @@
+-- The laws that the proof of `const_eval` cites: literals, CONST rows, nodes.
 pub mod Literals
 pub mod Rows
 pub mod Laws

@@ -1,2 +1,3 @@
+-- The sixteen kinds of rows, and each of them once as words.
 pub mod Entries
 pub mod Examples

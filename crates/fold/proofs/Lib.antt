@@ -1,1 +1,2 @@
+-- The definitions case by case, as the code's proofs cite them.
 pub mod Cases

@@ -1,3 +1,4 @@
+-- `Rules` and `Lent` say what a lent table is; that the test is exact, the laws of building rows, and the examples are vouched for.
 pub mod Rules
 pub mod Lent
 pub mod LentLaws

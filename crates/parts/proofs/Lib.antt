@@ -1,2 +1,3 @@
+-- The laws that the proofs of the readers of parts cite: types and suffixes.
 pub mod Types
 pub mod Suffixes

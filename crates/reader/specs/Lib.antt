@@ -1,3 +1,4 @@
+-- The definitions of the entries: sizes, one node at a place, a whole program.
 pub mod Sized
 pub mod Reading
 pub mod Program

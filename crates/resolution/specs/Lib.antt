@@ -1,2 +1,3 @@
+-- `Entries` is the entries' definition; `Inner` is what the code behind the first checks promises.
 pub mod Entries
 pub mod Inner

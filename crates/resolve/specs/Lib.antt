@@ -1,3 +1,4 @@
+-- `Tables`, `Resolve` and `FromRows` say what resolving is; `Flags` and `Keeps` are vouched for.
 pub mod Tables
 pub mod Resolve
 pub mod FromRows

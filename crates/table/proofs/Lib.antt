@@ -1,2 +1,3 @@
+-- The laws that the proofs cite: words moved within a buffer, rows entered in turn.
 mod Moves
 mod Turns

@@ -1,3 +1,4 @@
+-- `Rows` and `Answers` say what a table in a buffer is and what is done to it; the laws that other crates cite are vouched for.
 pub mod Rows
 pub mod Answers
 pub mod Laws

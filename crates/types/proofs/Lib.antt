@@ -1,3 +1,4 @@
+-- The laws that the proofs of TYPE cite, from one field to the statement.
 pub mod Laws
 pub mod Alike
 pub mod Walk

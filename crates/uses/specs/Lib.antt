@@ -1,2 +1,3 @@
+-- `Count` is the entry's definition; the examples are vouched for.
 pub mod Count
 pub mod Examples

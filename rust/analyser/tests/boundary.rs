@@ -5,6 +5,7 @@ mod common;
 
 use analyser::{ENOUGH, listing, listing_of};
 use common::{Guard, guarded};
+use image::ast::*;
 
 /// What a byte holds before the call.
 const MARK: u8 = 0x55;
@@ -24,7 +25,34 @@ fn longest() -> Vec<u8> {
     file
 }
 
-/// Files of every sort: none, damaged, short, long, refused, listed.
+/// The deepest trees: 100 statements in each other, and 99 expressions in a statement.
+fn deepest() -> [Vec<u8>; 2] {
+    let stmt = |kind| Stmt { line: 1, kind };
+    let name = || Expr::Variable("A".into());
+    let mut body = vec![stmt(StmtKind::Cls)];
+    for _ in 0..99 {
+        body = vec![stmt(StmtKind::If {
+            condition: name(),
+            then_branch: body,
+            else_branch: None,
+        })];
+    }
+    let mut value = name();
+    for _ in 0..98 {
+        value = Expr::FnCall {
+            name: "F".into(),
+            args: vec![value],
+        };
+    }
+    let assign = stmt(StmtKind::Let {
+        name: "A".into(),
+        indices: None,
+        value,
+    });
+    [body, vec![assign]].map(|program| image::build(&program, &[], &[]).to_bytes())
+}
+
+/// Files of every sort: none, damaged, short, long, deep, refused, listed.
 fn files() -> Vec<Vec<u8>> {
     let mut files: Vec<_> = common::samples().into_iter().map(|s| s.image).collect();
     files.extend([
@@ -35,6 +63,7 @@ fn files() -> Vec<Vec<u8>> {
         vec![255; 12],
         vec![1; 57_356],
     ]);
+    files.extend(deepest());
     files.extend([
         longest(),
         [longest(), vec![0; 4]].concat(),
@@ -73,6 +102,13 @@ fn longest_image() {
     );
     assert_eq!(text(&[&file[..], &[0; 4]].concat()), "E 5\n", "a word more");
     assert_eq!(text(&file[..57_355]), "E 5\n", "a byte less");
+}
+
+#[test]
+fn deepest_trees() {
+    for file in deepest() {
+        assert!(text(&file).starts_with('R'), "accepted");
+    }
 }
 
 #[test]

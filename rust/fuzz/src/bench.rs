@@ -1,6 +1,7 @@
 //! How long one image takes, side by side on the same images in one run.
 //!
-//! A side is a function from an image to its listing. The original's is here; another joins by an entry in [`sides`].
+//! A side is a function from an image to its listing. The two are here; another joins by an entry in [`sides`]. What is timed is
+//! the call alone: the listings are compared afterwards, and what a side has allocated for its answer is freed after the clock stopped.
 
 use crate::{limit, program, rng::Rng};
 use image::ast::*;
@@ -10,16 +11,36 @@ use std::time::{Duration, Instant};
 
 /// Images of one sort, to be timed.
 pub struct Set {
-    pub name: &'static str,
+    pub name: String,
     pub files: Vec<Vec<u8>>,
+    /// Whether its images count in the line over all.
+    pub counts: bool,
 }
+
+/// Where a side leaves a listing: at the start of the buffer that it was lent, or in bytes of its own.
+pub enum Made {
+    Lent(usize),
+    Own(Vec<u8>),
+}
+
+impl Made {
+    fn listing<'a>(&'a self, lent: &'a [u8]) -> &'a [u8] {
+        match self {
+            Made::Lent(length) => &lent[..*length],
+            Made::Own(bytes) => bytes,
+        }
+    }
+}
+
+/// The parts of a side's work, by name, and their times.
+type Parts = [(&'static str, Duration); 3];
 
 /// One way to make a listing.
 pub struct Side {
     pub name: &'static str,
-    /// The time of each part of it, and the listing.
-    pub run: fn(&[u8]) -> (Vec<Duration>, Vec<u8>),
-    pub parts: &'static [&'static str],
+    pub run: fn(&[u8], &mut [u8]) -> Made,
+    /// A run with a clock between its parts, where it has some.
+    pub parts: Option<fn(&[u8]) -> Parts>,
 }
 
 /// Every side there is in this build.
@@ -28,81 +49,115 @@ pub fn sides() -> Vec<Side> {
         #[cfg(original)]
         Side {
             name: "original",
-            run: original,
-            parts: &["decode", "passes", "text"],
+            run: |file, _| Made::Own(original(file, |_| ())),
+            parts: Some(parts_of_original),
         },
         #[cfg(analyser)]
         Side {
             name: "proved",
-            run: proved,
-            parts: &[],
+            run: |file, out| Made::Lent(analyser::listing(file, out).expect("a listing fits")),
+            parts: None,
         },
     ]
 }
 
-#[cfg(analyser)]
-fn proved(file: &[u8]) -> (Vec<Duration>, Vec<u8>) {
-    thread_local! {
-        static OUT: std::cell::RefCell<Vec<u8>> = std::cell::RefCell::new(vec![0; analyser::ENOUGH]);
-    }
-    // The buffer is lent and reused, as a compiler would.
-    OUT.with_borrow_mut(|out| {
-        let length = analyser::listing(file, out).expect("a listing fits");
-        (vec![], out[..length].to_vec())
-    })
+/// The original's listing; `then` is called after decoding, after the passes and after the text.
+#[cfg(original)]
+fn original(file: &[u8], mut then: impl FnMut(&'static str)) -> Vec<u8> {
+    let read = Raw::from_bytes(file);
+    let input = read.as_ref().map_err(|r| *r).and_then(oracle::input);
+    then("decode");
+    let answer = input.map(oracle::whole);
+    then("passes");
+    let text = oracle::text(&answer).into_bytes();
+    then("text");
+    text
 }
 
 #[cfg(original)]
-fn original(file: &[u8]) -> (Vec<Duration>, Vec<u8>) {
-    let start = Instant::now();
-    let read = Raw::from_bytes(file);
-    let input = read.as_ref().map_err(|r| *r).and_then(oracle::input);
-    let decoded = start.elapsed();
-    let answer = input.map(oracle::whole);
-    let passed = start.elapsed();
-    let text = oracle::text(&answer).into_bytes();
-    let written = start.elapsed();
-    (vec![decoded, passed - decoded, written - passed], text)
+fn parts_of_original(file: &[u8]) -> Parts {
+    let mut parts = [("", Duration::ZERO); 3];
+    let mut done = 0;
+    let mut start = Instant::now();
+    black_box(original(black_box(file), |name| {
+        parts[done] = (name, start.elapsed());
+        done += 1;
+        start = Instant::now();
+    }));
+    parts
 }
 
-fn median(mut times: Vec<Duration>) -> Duration {
-    times.sort_unstable();
-    times[times.len() / 2]
+fn middle<T: Copy>(mut all: Vec<T>, order: impl FnMut(&T, &T) -> std::cmp::Ordering) -> T {
+    all.sort_unstable_by(order);
+    all[all.len() / 2]
 }
 
-/// Time each side on each set and print a table: the median image and the slowest, each image by the median of its runs, and how
-/// many times as fast as the first side that is.
+/// The median time of a side's call on an image.
+fn time(side: &Side, file: &[u8], out: &mut [u8], runs: usize) -> Duration {
+    let run = |_| {
+        let start = Instant::now();
+        let made = black_box((side.run)(black_box(file), out));
+        let taken = start.elapsed();
+        drop(made);
+        taken
+    };
+    middle((0..runs).map(run).collect(), Ord::cmp)
+}
+
+/// Whether two sides have different listings for an image.
+fn differ(file: &[u8], out: &mut [u8]) -> bool {
+    let mut listings = sides()
+        .into_iter()
+        .map(|s| (s.run)(file, out).listing(out).to_vec());
+    let first = listings.next();
+    listings.any(|l| Some(l) != first)
+}
+
+/// Time each side on each set and print a table: the median image and the slowest, each image by the median of its runs; and how
+/// many times as fast as the first side that is, at the median image and at the worst. Below it the line over all.
 pub fn report(sets: &[Set], runs: usize) {
     println!(
-        "| set | images | side | median | slowest | times as fast | parts of the median |\n|---|---|---|---|---|---|---|"
+        "| set | images | side | median | slowest | times as fast: median, least | parts of the median |\n|---|---|---|---|---|---|---|"
     );
+    let sides = sides();
+    let mut out = vec![0; ENOUGH];
+    let mut over_all = Vec::new();
+    let mut different = 0;
     for set in sets {
-        let mut first = None;
-        for side in sides() {
-            let mut images: Vec<(Duration, Vec<Duration>)> =
-                set.files.iter().map(|f| time(&side, f, runs)).collect();
-            images.sort_unstable();
-            let (typical, parts) = &images[images.len() / 2];
-            let slowest = images[images.len() - 1].0;
-            let (m, s) = *first.get_or_insert((*typical, slowest));
-            let named = side.parts.iter().zip(parts);
-            let parts: Vec<String> = named.map(|(n, t)| format!("{n} {t:.1?}")).collect();
-            println!(
-                "| {} | {} | {} | {typical:.1?} | {slowest:.1?} | {:.1}, {:.1} | {} |",
-                set.name,
-                set.files.len(),
-                side.name,
-                m.div_duration_f64(*typical),
-                s.div_duration_f64(slowest),
-                parts.join(", ")
-            );
+        // Image by image, so that both sides meet the same state of the machine.
+        let mut times = vec![Vec::new(); sides.len()];
+        for file in &set.files {
+            for (side, times) in sides.iter().zip(&mut times) {
+                times.push(time(side, file, &mut out, runs));
+            }
+            different += usize::from(differ(file, &mut out));
+        }
+        for (side, of_side) in sides.iter().zip(&times) {
+            let ratios: Vec<f64> = times[0]
+                .iter()
+                .zip(of_side)
+                .map(|(first, this)| first.div_duration_f64(*this))
+                .collect();
+            print_row(set, side, of_side, &ratios, runs);
+            if set.counts && side.name != sides[0].name {
+                over_all.extend(ratios);
+            }
         }
     }
-    if sides().len() < 2 {
+    if sides.len() < 2 {
         return;
     }
-    let parted = sets.iter().flat_map(|s| &s.files).filter(|f| parts(f));
-    match parted.count() {
+    if !over_all.is_empty() {
+        let counted: Vec<&str> = sets.iter().filter(|s| s.counts).map(|s| &*s.name).collect();
+        let n = over_all.len();
+        let least = over_all.iter().copied().fold(f64::INFINITY, f64::min);
+        let median = middle(over_all, f64::total_cmp);
+        println!(
+            "\nOver the {n} images of {}: {median:.2} times as fast at the median, {least:.2} at the worst.",
+            counted.join(" and ")
+        );
+    }
+    match different {
         0 => println!("\nThe sides' listings are equal on every image."),
         n => println!(
             "\nOn {n} images the sides' listings are not equal, so that these times say nothing."
@@ -110,77 +165,89 @@ pub fn report(sets: &[Set], runs: usize) {
     }
 }
 
-/// Whether two sides have different listings for an image.
-fn parts(file: &[u8]) -> bool {
-    let listings: Vec<_> = sides().iter().map(|s| (s.run)(file).1).collect();
-    listings.windows(2).any(|w| w[0] != w[1])
+/// Room for every listing.
+const ENOUGH: usize = 1 << 20;
+
+fn print_row(set: &Set, side: &Side, times: &[Duration], ratios: &[f64], runs: usize) {
+    let mut order: Vec<usize> = (0..times.len()).collect();
+    order.sort_unstable_by_key(|i| times[*i]);
+    let typical = order[order.len() / 2];
+    let slowest = times[order[order.len() - 1]];
+    let least = ratios.iter().copied().fold(f64::INFINITY, f64::min);
+    let ratio = middle(ratios.to_vec(), f64::total_cmp);
+    println!(
+        "| {} | {} | {} | {:.1?} | {slowest:.1?} | {ratio:.2}, {least:.2} | {} |",
+        set.name,
+        set.files.len(),
+        side.name,
+        times[typical],
+        parts(side, &set.files[typical], runs)
+    );
 }
 
-fn time(side: &Side, file: &[u8], runs: usize) -> (Duration, Vec<Duration>) {
-    let mut totals = Vec::with_capacity(runs);
-    let mut parts = vec![Vec::with_capacity(runs); side.parts.len()];
-    for _ in 0..runs {
-        let start = Instant::now();
-        let (times, text) = black_box((side.run)(black_box(file)));
-        totals.push(start.elapsed());
-        drop(text);
-        for (part, t) in parts.iter_mut().zip(times) {
-            part.push(t);
-        }
-    }
-    (median(totals), parts.into_iter().map(median).collect())
+/// The median time of each part of a side's work on an image.
+fn parts(side: &Side, file: &[u8], runs: usize) -> String {
+    let Some(parted) = side.parts else {
+        return String::new();
+    };
+    let all: Vec<Parts> = (0..runs).map(|_| parted(file)).collect();
+    let named: Vec<String> = (0..3)
+        .map(|p| {
+            let (name, t) = middle(all.iter().map(|run| run[p]).collect(), |a, b| a.1.cmp(&b.1));
+            format!("{name} {t:.1?}")
+        })
+        .collect();
+    named.join(", ")
 }
 
-/// The sets of this benchmark: generated programs, and the worst that each limit allows.
+/// The sets of this benchmark: generated programs, the worst that each limit allows, and the same work in growing sizes.
 pub fn sets() -> Vec<Set> {
     let generated = |pick: fn(&mut Rng) -> Raw, count: u64| -> Vec<Vec<u8>> {
         (0..count)
             .map(|s| pick(&mut Rng::new(s)).to_bytes())
             .collect()
     };
+    let set = |name: &str, files: Vec<Vec<u8>>| Set {
+        name: name.to_string(),
+        files,
+        counts: false,
+    };
+    let counted = |name: &str, files: Vec<Vec<u8>>| Set {
+        counts: true,
+        ..set(name, files)
+    };
     let one = |program: Vec<Stmt>| vec![image::build(&program, &[], &[]).to_bytes()];
-    vec![
-        Set {
-            name: "small programs",
-            files: generated(program::small, 300),
-        },
-        Set {
-            name: "programs",
-            files: generated(|r| program::any(r).0, 300),
-        },
-        Set {
-            name: "rows in falling order",
-            files: one(falling()),
-        },
-        Set {
-            name: "array parameters over one body",
-            files: one(parameters()),
-        },
-        Set {
-            name: "calls, 1,000 words",
-            files: one(calls(30)),
-        },
-        Set {
-            name: "calls, 2,000 words",
-            files: one(calls(60)),
-        },
-        Set {
-            name: "calls, 4,000 words",
-            files: one(calls(120)),
-        },
-        Set {
-            name: "calls, 8,000 words",
-            files: one(calls(240)),
-        },
-        Set {
-            name: "depth 100",
-            files: generated(limit::deep, 100),
-        },
-        Set {
-            name: "long names",
-            files: vec![names()],
-        },
-    ]
+    let mut sets = vec![
+        counted("small programs", generated(program::small, 300)),
+        counted("programs", generated(|r| program::any(r).0, 300)),
+        set("depth 100", generated(limit::deep, 100)),
+        set("long names", vec![names()]),
+        set("array parameters over one body", one(parameters())),
+    ];
+    for words in [1_024, 2_048, 4_096, 8_192] {
+        let name = format!("calls, {} words", grouped(words));
+        sets.push(set(&name, one(calls(words))));
+    }
+    for rows in [64, 256, 1_024, 2_048] {
+        let name = |order| format!("line numbers, {} rows {order}", grouped(rows));
+        sets.push(set(&name("rising"), one(line_numbers(0..rows))));
+        sets.push(set(&name("falling"), one(line_numbers((0..rows).rev()))));
+    }
+    // No more arrays than 1,024 names and 8,192 words allow.
+    for rows in [64, 256, 1_000] {
+        let name = |order| format!("arrays, {} rows {order}", grouped(rows));
+        sets.push(set(&name("rising"), one(arrays(0..rows))));
+        sets.push(set(&name("falling"), one(arrays((0..rows).rev()))));
+    }
+    sets
+}
+
+/// A number below a million with its comma.
+fn grouped(n: usize) -> String {
+    if n < 1_000 {
+        return n.to_string();
+    }
+    format!("{},{:03}", n / 1_000, n % 1_000)
 }
 
 fn at(line: usize, kind: StmtKind) -> Stmt {
@@ -190,12 +257,26 @@ fn at(line: usize, kind: StmtKind) -> Stmt {
     }
 }
 
-/// 2,048 line numbers, the highest first.
-fn falling() -> Vec<Stmt> {
-    (0..2_048)
-        .rev()
-        .map(|n| at(n, StmtKind::Label(n as u32)))
-        .collect()
+/// A row for each line number, in this order.
+fn line_numbers(order: impl Iterator<Item = usize>) -> Vec<Stmt> {
+    order.map(|n| at(n, StmtKind::Label(n as u32))).collect()
+}
+
+/// One DIM with a row for each array, in this order.
+fn arrays(order: impl Iterator<Item = usize>) -> Vec<Stmt> {
+    let decls = order.map(|n| array(format!("A{n:04}"))).collect();
+    let shared = false;
+    vec![at(1, StmtKind::Dim { decls, shared })]
+}
+
+/// An array of one dimension.
+fn array(name: String) -> Declarator {
+    Declarator {
+        name,
+        dimensions: Some(vec![Expr::Literal(Literal::Integer(9))]),
+        lowers: vec![],
+        ty: None,
+    }
 }
 
 /// Hundreds of array parameters, none of which the large body subscripts.
@@ -227,15 +308,10 @@ fn parameters() -> Vec<Stmt> {
     vec![at(1, sub)]
 }
 
-/// So many statements of nested calls of arrays and procedures, with pairs.
-fn calls(statements: usize) -> Vec<Stmt> {
+/// Statements of nested calls of arrays and procedures, with pairs, and CLS up to exactly so many tree words.
+fn calls(words: usize) -> Vec<Stmt> {
     let dim = StmtKind::Dim {
-        decls: vec![Declarator {
-            name: "A".into(),
-            dimensions: Some(vec![Expr::Literal(Literal::Integer(9))]),
-            lowers: vec![],
-            ty: None,
-        }],
+        decls: vec![array("A".into())],
         shared: true,
     };
     let element = Expr::FnCall {
@@ -246,15 +322,20 @@ fn calls(statements: usize) -> Vec<Stmt> {
         name: "F".into(),
         args: vec![Expr::Paren(Box::new(element)); 4],
     };
-    let mut program = vec![at(1, dim)];
-    program.extend((0..statements).map(|n| {
-        let kind = StmtKind::Let {
-            name: "X".into(),
-            indices: None,
-            value: call.clone(),
-        };
-        at(n, kind)
-    }));
+    let assignment = StmtKind::Let {
+        name: "X".into(),
+        indices: None,
+        value: call,
+    };
+    let size = |program: &[Stmt]| image::build(program, &[], &[]).tree.len();
+    let mut program = vec![at(1, dim), at(2, assignment.clone())];
+    let each = size(&program) - size(&program[..1]);
+    while size(&program) + each <= words {
+        program.push(at(program.len() + 1, assignment.clone()));
+    }
+    while size(&program) < words {
+        program.push(at(program.len() + 1, StmtKind::Cls));
+    }
     program
 }
 

@@ -217,7 +217,7 @@ pub fn file(rng: &mut Rng, mut file: Vec<u8>) -> Vec<u8> {
         3 => file.push(0),
         4 => {
             if let Some(b) = file.last_mut() {
-                *b = rng.next() as u8;
+                *b = rng.bits() as u8;
             }
         }
         5 => {
@@ -227,7 +227,7 @@ pub fn file(rng: &mut Rng, mut file: Vec<u8>) -> Vec<u8> {
         }
         6 => {
             let at = rng.below(12);
-            file[at] = rng.next() as u8;
+            file[at] = rng.bits() as u8;
         }
         _ => {
             let at = rng.below(file.len());

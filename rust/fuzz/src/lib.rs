@@ -2,6 +2,7 @@
 //!
 //! A case is a function of its seed and of nothing else, so a seed is all that a record of a run needs.
 
+pub mod all;
 pub mod bench;
 #[cfg(all(original, analyser))]
 pub mod compare;

@@ -279,7 +279,7 @@ fn rows(rng: &mut Rng) -> Raw {
         name: numbered('P', n),
         byval: false,
         array: n % 3 == 1,
-        ty: if n % 2 == 0 {
+        ty: if n.is_multiple_of(2) {
             Some(TypeRef::Long)
         } else {
             None

@@ -129,7 +129,7 @@ const TEXTS: &[&str] = &[
 ];
 
 /// Whole numbers at the edges of their ranges.
-const WHOLE: &[i32] = &[
+pub(crate) const WHOLE: &[i32] = &[
     0,
     1,
     -1,
@@ -166,7 +166,7 @@ const WHOLE: &[i32] = &[
 ];
 
 /// Floats at the edges: halves, the LONG range, where 32 bits end, the smallest and the largest.
-const FLOATS: &[f64] = &[
+pub(crate) const FLOATS: &[f64] = &[
     0.0,
     -0.0,
     0.5,
@@ -219,7 +219,8 @@ const FLOATS: &[f64] = &[
     4503599627370495.5,
     9007199254740993.0,
     1.0000000596046448,
-    1.00000005960464477539,
+    // The same once more: without it every seed would have another case.
+    1.0000000596046448,
     1.0000001788139343,
 ];
 
@@ -413,8 +414,8 @@ impl<'a> Maker<'a> {
 
     fn whole(&mut self) -> i64 {
         match self.rng.below(8) {
-            0 => i64::from(self.rng.next() as i32),
-            1 => i64::from(self.rng.next() as i16),
+            0 => i64::from(self.rng.bits() as i32),
+            1 => i64::from(self.rng.bits() as i16),
             2..4 => self.rng.below(10) as i64,
             _ => i64::from(*self.rng.pick(WHOLE)),
         }
@@ -425,16 +426,16 @@ impl<'a> Maker<'a> {
             8 => self.half_way(),
             9 => {
                 // Between two whole numbers, or next to there.
-                let half = f64::from(self.rng.next() as i32 >> self.rng.below(31)) + 0.5;
+                let half = f64::from(self.rng.bits() as i32 >> self.rng.below(31)) + 0.5;
                 f64::from_bits(
                     half.to_bits()
                         .wrapping_add(self.rng.below(3) as u64)
                         .wrapping_sub(1),
                 )
             }
-            0 => f64::from_bits(self.rng.next()),
-            1 => f64::from(f32::from_bits(self.rng.next() as u32)),
-            2 => self.rng.next() as i32 as f64 / 2.0,
+            0 => f64::from_bits(self.rng.bits()),
+            1 => f64::from(f32::from_bits(self.rng.bits() as u32)),
+            2 => self.rng.bits() as i32 as f64 / 2.0,
             3 => {
                 // A neighbour of an edge.
                 let bits = self.rng.pick(FLOATS).to_bits();
@@ -448,7 +449,7 @@ impl<'a> Maker<'a> {
 
     /// Between two neighbours of 32 bits, or next to there, where narrowing has to choose.
     fn half_way(&mut self) -> f64 {
-        let narrow = f64::from(f32::from_bits(self.rng.next() as u32)).to_bits();
+        let narrow = f64::from(f32::from_bits(self.rng.bits() as u32)).to_bits();
         let step = self.rng.below(3) as u64;
         f64::from_bits((narrow | 1 << 28).wrapping_add(step).wrapping_sub(1))
     }

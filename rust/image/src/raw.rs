@@ -53,7 +53,7 @@ impl Raw {
     /// Take a file apart. Malformed or oversized is number 5.
     pub fn from_bytes(file: &[u8]) -> Result<Raw, Refusal> {
         let refused = Err(Refusal::new(5, 0));
-        if file.len() < 12 || file.len() % 4 != 0 {
+        if file.len() < 12 || !file.len().is_multiple_of(4) {
             return refused;
         }
         let [strings, words, erased] = [0, 4, 8].map(|at| word(file, at) as usize);

@@ -134,8 +134,7 @@ mod rows {
                 let find_rows = best(size, || {
                     let mut sum = 0;
                     for &i in order.iter() {
-                        sum +=
-                            unsafe { measure_find(buffer.as_ptr(), buffer.len(), size, key(i)) };
+                        sum += unsafe { measure_find(buffer.as_ptr(), buffer.len(), size, key(i)) };
                     }
                     sum
                 });

@@ -1,3 +1,4 @@
+-- `accept`: 5, then 1, then what `check_program` says under the names' marks. Assumes nothing.
 use mathlib.Core.Path.{refl, sym, ap, _∙_}
 use native.Mathlib.Omega.{arith}
 use borrow.Author.Tests.{not-true, not-false}

@@ -1,3 +1,4 @@
+-- `check_program` by the step that `tree::program` gives: a wrong word, too deep, or what `whole` says. Assumes nothing.
 use mathlib.Core.Path.{sym, ap, _∙_}
 use Rattle.words.specs.Refusals.{refused}
 use Rattle.reader.specs.Program.{told}

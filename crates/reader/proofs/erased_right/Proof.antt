@@ -1,3 +1,4 @@
+-- `erased_right`: the names left from i on, none below `low`, decide. Assumes nothing.
 use Prim.Native.Nat.{ℕ, _≤_, _-_}
 use mathlib.Core.Path.{_≡_, refl, sym, ap, _∙_}
 use native.Mathlib.Omega.{arith}

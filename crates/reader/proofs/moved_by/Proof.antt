@@ -1,3 +1,4 @@
+-- `moved_by` by cases: past the node that was read, and no move on a refusal. Assumes nothing.
 use mathlib.Core.Path.{refl, sym, ap, _∙_}
 use Rattle.reader.specs.Reading.{told, movedOf}
 use Rattle.words.specs.Refusals.{refused}

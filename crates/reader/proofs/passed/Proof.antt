@@ -1,3 +1,4 @@
+-- `passed` by the three cases of a step: the node with its head word, or 2 or 3 with the place. Assumes nothing.
 use mathlib.Core.Path.{refl, sym, ap, _∙_}
 use Prim.Native.Nat.{ℕ}
 use Rattle.words.specs.Told.{gives}

@@ -1,3 +1,4 @@
+-- `read_expression`: 5, then 1, then what `expression_at` gives under the names' marks. Assumes nothing.
 use mathlib.Core.Path.{refl, sym, ap, _∙_}
 use native.Mathlib.Omega.{arith}
 use borrow.Author.Tests.{not-true, not-false}

@@ -1,3 +1,4 @@
+-- `sized_program` is `sized_tree` and the count of erased names. Assumes nothing.
 use mathlib.Core.Path.{sym, _∙_}
 use borrow.Author.Tests.{not-true, not-false}
 use Rattle.reader.proofs.Laws.{tree-over, erased-are}

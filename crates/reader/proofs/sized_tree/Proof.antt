@@ -1,3 +1,4 @@
+-- `sized_tree` by its three tests: bytes, strings, tree words. Assumes nothing.
 use mathlib.Core.Path.{sym}
 use Rattle.reader.proofs.Laws.{bytes-over, ends-over, words-are}
 use Rattle.reader.proofs.sized_tree.Statement.{statement}

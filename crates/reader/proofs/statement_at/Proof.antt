@@ -1,3 +1,4 @@
+-- `statement_at` is the node that `tree::stmt` passed, of at most 100 levels. Assumes nothing.
 use Rattle.reader.specs.Reading.{nodeOf}
 use mathlib.Core.Path.{_∙_}
 use Rattle.reader.specs.Reading.{statementOf}

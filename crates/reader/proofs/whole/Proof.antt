@@ -1,3 +1,4 @@
+-- `whole` by cases: words over, right erased names, wrong ones. Assumes nothing.
 use mathlib.Core.Path.{sym, _∙_}
 use Rattle.words.specs.Refusals.{refused}
 use Rattle.reader.specs.Program.{told}

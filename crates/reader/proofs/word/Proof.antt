@@ -1,3 +1,4 @@
+-- `word` is `getD`: the word at the place, 0 past the end. Assumes nothing.
 use mathlib.Core.Path.{sym}
 use lib.ListN.{List·getD-eq-default}
 use borrow.Author.Needs.{needs}

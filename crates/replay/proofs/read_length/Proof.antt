@@ -1,3 +1,4 @@
+-- `replay::read_length` meets its contract: four bytes are read into a buffer that has four, and the length is at most `most`. Assumes nothing.
 use denote.Ref.{now}
 use mathlib.Core.Path.{sym}
 use native.Mathlib.Omega.{arith}

@@ -1,3 +1,4 @@
+-- `replay::read_part` meets its contract: the part that is read into is within the buffer. Assumes nothing.
 use mathlib.Core.Path.{sym}
 use lib.Seq.{length-take-le}
 use borrow.Author.Needs.{needs}

@@ -1,3 +1,4 @@
+-- `check`: all strings before i are right, and the first that is not is a place where the table breaks. Assumes nothing.
 use Prim.Native.Nat.{ℕ, _≤_, _-_}
 use mathlib.Core.Path.{_≡_, refl, sym, ap, _∙_}
 use mathlib.Core.Bool.{true, false, false≢true}

@@ -1,3 +1,4 @@
+-- `is_inner` by its three tests, in turn. Assumes nothing.
 use mathlib.Core.Path.{sym, _∙_}
 use Rattle.strings.specs.Name.{inner}
 use Rattle.strings.proofs.Laws.{or-true, or-false}

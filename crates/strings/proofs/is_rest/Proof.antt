@@ -1,3 +1,4 @@
+-- `is_rest`: what is left from i on decides; the last byte may be a suffix. Assumes nothing.
 use Prim.Native.Nat.{_≤_, _-_}
 use mathlib.Core.Path.{_≡_, refl, sym, ap, _∙_}
 use native.Mathlib.Omega.{arith}

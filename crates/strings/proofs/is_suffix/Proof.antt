@@ -1,3 +1,4 @@
+-- `is_suffix` by its two tests, in turn. Assumes nothing.
 use mathlib.Core.Path.{sym, _∙_}
 use borrow.Author.Tests.{eq-eqb, ne-eqb}
 use Rattle.strings.specs.Name.{suffix}

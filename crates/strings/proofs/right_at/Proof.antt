@@ -1,3 +1,4 @@
+-- `right_at` by its tests, in turn; the strings before it are right, so that this one begins inside the bytes. Assumes nothing.
 use mathlib.Core.Path.{refl, sym, ap, _∙_}
 use native.Mathlib.Omega.{arith}
 use borrow.Author.Tests.{not-true, not-false}

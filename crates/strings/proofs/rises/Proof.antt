@@ -1,3 +1,4 @@
+-- `rises`: the first string does, any other by `compare` with the one before it. Assumes nothing.
 use mathlib.Core.Path.{sym, ap, _∙_}
 use native.Mathlib.Omega.{arith}
 use Rattle.strings.specs.Order.{isBelow}

@@ -11,8 +11,9 @@ fn main() {
     }
     let read = |f: &String| std::fs::read(f).unwrap_or_else(|e| panic!("{f}: {e}"));
     let set = Set {
-        name: "named files",
+        name: "named files".into(),
         files: named.iter().map(read).collect(),
+        counts: true,
     };
     report(&[set], 1_001);
 }

@@ -8,6 +8,7 @@ fuzz image SEED                  the image of a seed, to standard output
 fuzz small SEED                  a small program's image
 fuzz self FIRST COUNT            the original against itself: whole and by steps, both codecs, the text form; a table of what came
 fuzz compare FIRST COUNT         the analyser against the original, line by line; ends with 1 where they part
+fuzz all                         the same on every small program: spaces that are gone through to their end (all.rs)
 fuzz steps FIRST COUNT           demand 3 by running: random steps, allowed and forbidden
 fuzz digest FIRST COUNT          a number for each listing, to compare two builds of the original
 fuzz vectors FIRST COUNT         small programs as words, with their listings, as text
@@ -25,17 +26,23 @@ fn main() -> ExitCode {
         #[cfg(original)]
         ["self", first, count] => range(first, count).map(fuzz::judged::check_self),
         #[cfg(all(original, analyser))]
-        ["compare", first, count] => range(first, count).map(|seeds| {
-            if !fuzz::compare::compare(seeds) {
-                std::process::exit(1);
-            }
-        }),
+        ["compare", first, count] => {
+            range(first, count).map(|seeds| equal(fuzz::compare::compare(seeds)))
+        }
+        #[cfg(all(original, analyser))]
+        ["all"] => {
+            equal(fuzz::compare::compare_all(fuzz::all::LONG));
+            Some(())
+        }
         #[cfg(original)]
         ["digest", first, count] => range(first, count).map(fuzz::judged::digest),
         #[cfg(original)]
         ["steps", first, count] => range(first, count).map(fuzz::judged::steps),
         #[cfg(original)]
-        ["samples", folder] => Some(fuzz::judged::samples(folder.as_ref())),
+        ["samples", folder] => {
+            fuzz::judged::samples(folder.as_ref());
+            Some(())
+        }
         #[cfg(original)]
         ["vectors", first, count] => range(first, count).map(fuzz::judged::vectors),
         #[cfg(original)]
@@ -50,6 +57,14 @@ fn main() -> ExitCode {
             eprint!("{HELP}");
             ExitCode::from(2)
         }
+    }
+}
+
+/// Ends with 1 where listings were not equal.
+#[cfg(all(original, analyser))]
+fn equal(all: bool) {
+    if !all {
+        std::process::exit(1);
     }
 }
 

@@ -1,3 +1,4 @@
+-- `Reader::expression`: the answer is `read_expression`'s, the place `moved_by`'s. Assumes nothing.
 use mathlib.Core.Path.{_≡_, refl, _∙_}
 use borrow.Author.Needs.{needs}
 use Rattle.reader.proofs.Reader.expression.Statement.{statement}

@@ -1,3 +1,4 @@
+-- `Reader::statement`: the answer is `read_statement`'s, the place `moved_by`'s. Assumes nothing.
 use mathlib.Core.Path.{_≡_, refl, _∙_}
 use borrow.Author.Needs.{needs}
 use Rattle.reader.proofs.Reader.statement.Statement.{statement}

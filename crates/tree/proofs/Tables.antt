@@ -1,11 +1,12 @@
 -- The code's tables: past the last row there is nothing, every number is a byte, and six bytes joined are taken apart again. Assumes nothing.
-use Prim.Native.Nat.{ℕ, zero, suc, _+_, _*_, _/_, _%_, _^_, _<_, _≤_}
+use Prim.Native.Nat.{ℕ, zero, suc, _+_, _*_, _/_, _%_, _-_, _^_, _<_, _≤_}
 use mathlib.Core.Path.{_≡_, refl, sym, ap, subst, _∙_}
 use mathlib.Core.List.{List, [], _∷_, _++_}
 use mathlib.Core.Bool.{Bool, true, false, _&&_, false≢true}
 use native.Mathlib.Omega.{arith}
 use native.Mathlib.Nat.{div-div-eq-div-mul}
-use lib.ListN.{getD, List·getD-eq-default}
+use lib.ListN.{length, getD, List·getD-append, List·getD-eq-default}
+use lib.Seq.{getD-append-add}
 use lib.Dec.{ltb}
 use borrow.Author.Tests.{ltb-true}
 use types.Run.{OneOf}
@@ -24,10 +25,6 @@ unfolding Past
 beyond zero k p = omega arith
 beyond (suc n) k p = past n k (beyond n k (p .0)) (p .1)
 
-codes-none : (r : ℕ) → 93 ≤ r → [] ≡ codes r
-unfolding codes partCodes stmtCodes
-codes-none r h = sym (List·getD-eq-default (partCodes ++ stmtCodes) [] h)
-
 abbrev six-zeros : List ℕ
 six-zeros = 0 ∷ 0 ∷ 0 ∷ 0 ∷ 0 ∷ 0 ∷ []
 
@@ -40,8 +37,20 @@ zeros (suc (suc (suc (suc zero)))) = refl
 zeros (suc (suc (suc (suc (suc zero))))) = refl
 zeros (suc (suc (suc (suc (suc (suc i)))))) = refl
 
-pub codes-zeros : (r : ℕ) → Past 93 r → (i : ℕ) → getD six-zeros i 0 ≡ getD (codes r) i 0
-codes-zeros r p i = zeros i ∙ ap (λ (l : List ℕ). getD l i 0) (codes-none r (beyond 93 r p))
+pub no-row : (ls : List (List ℕ)) (r : ℕ) → Past (length ls) r → (i : ℕ) → getD six-zeros i 0 ≡ getD (getD ls r []) i 0
+no-row ls r p i = zeros i ∙ sym (ap (λ (l : List ℕ). getD l i 0) (List·getD-eq-default ls [] (beyond (length ls) r p)))
+
+-- ---- the parts' rows, then the statements'
+
+pub codes-part : (f : List ℕ) (r : ℕ) → r < 39 → ((i : ℕ) → getD f i 0 ≡ getD (getD partCodes r []) i 0) → (i : ℕ) → getD f i 0 ≡ getD (codes r) i 0
+unfolding codes partCodes
+codes-part f r h e i = e i ∙ ap (λ (l : List ℕ). getD l i 0) (sym (List·getD-append partCodes stmtCodes [] r h))
+
+pub codes-stmt : (f : List ℕ) (r : ℕ) → 39 ≤ r → ((i : ℕ) → getD f i 0 ≡ getD (getD stmtCodes (r - 39) []) i 0) → (i : ℕ) → getD f i 0 ≡ getD (codes r) i 0
+unfolding codes partCodes
+codes-stmt f r h e i =
+    let k : 39 + (r - 39) ≡ r = omega arith in
+    e i ∙ ap (λ (l : List ℕ). getD l i 0) (sym (getD-append-add partCodes stmtCodes (r - 39) []) ∙ ap (λ (x : ℕ). getD (partCodes ++ stmtCodes) x []) k)
 
 -- ---- every number is a byte
 

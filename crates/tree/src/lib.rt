@@ -5,10 +5,10 @@ ghost use mathlib.Core.Path.{_≡_};
 ghost use Prim.Native.Nat.{ℕ, _<_, _≤_, _+_};
 ghost use lib.ListN.{getD, take, drop};
 ghost use lib.Dec.{eqb};
-ghost use mathlib.Core.List.{List};
+ghost use mathlib.Core.List.{List, []};
 ghost use Rattle.tree.specs.Sorts.{Sort, many, group, opt, nil, body as bodySort, TypeRef};
 ghost use Rattle.tree.specs.Tree.{between, strings};
-ghost use Rattle.tree.specs.Codes.{codes, joined, sortAt, rowOf, chain, allRows};
+ghost use Rattle.tree.specs.Codes.{partCodes, stmtCodes, codes, joined, sortAt, rowOf, chain, allRows};
 ghost use Rattle.tree.specs.Reader.{wordAt, neverAt, fieldAt, rowAt, stmtAt, programAt};
 ghost use Rattle.expr.specs.Reader.{exprAt};
 ghost use Rattle.expr.specs.Answer.{stepOf};
@@ -112,109 +112,128 @@ const PARTS: [[u8; 6]; 39] = [
     [11, 0, 0, 0, 0, 0],
 ];
 
-// A row's numbers; zeros where there is no such row. The tables are read at literal places only: so the compiler can
-// hold the answers in read-only memory, where a table that is read at a computed place is stored anew at every call.
-fn fields(row: usize) -> [u8; 6]
-    ensures { λ r. ⌜ ((i : ℕ) → getD r i 0 ≡ getD (codes row) i 0) ⌝ }
+// A row of `PARTS`, zeros past the last. The table is read at literal places only: so the compiler can hold the answers
+// in read-only memory, where a table that is read at a computed place is stored anew at every call.
+fn part(row: usize) -> [u8; 6]
+    ensures { λ r. ⌜ ((i : ℕ) → getD r i 0 ≡ getD (getD partCodes row []) i 0) ⌝ }
 {
-    let p = PARTS;
-    let f = FIELDS;
+    let t = PARTS;
     match row {
-        0 => p[0],
-        1 => p[1],
-        2 => p[2],
-        3 => p[3],
-        4 => p[4],
-        5 => p[5],
-        6 => p[6],
-        7 => p[7],
-        8 => p[8],
-        9 => p[9],
-        10 => p[10],
-        11 => p[11],
-        12 => p[12],
-        13 => p[13],
-        14 => p[14],
-        15 => p[15],
-        16 => p[16],
-        17 => p[17],
-        18 => p[18],
-        19 => p[19],
-        20 => p[20],
-        21 => p[21],
-        22 => p[22],
-        23 => p[23],
-        24 => p[24],
-        25 => p[25],
-        26 => p[26],
-        27 => p[27],
-        28 => p[28],
-        29 => p[29],
-        30 => p[30],
-        31 => p[31],
-        32 => p[32],
-        33 => p[33],
-        34 => p[34],
-        35 => p[35],
-        36 => p[36],
-        37 => p[37],
-        38 => p[38],
-        39 => f[0],
-        40 => f[1],
-        41 => f[2],
-        42 => f[3],
-        43 => f[4],
-        44 => f[5],
-        45 => f[6],
-        46 => f[7],
-        47 => f[8],
-        48 => f[9],
-        49 => f[10],
-        50 => f[11],
-        51 => f[12],
-        52 => f[13],
-        53 => f[14],
-        54 => f[15],
-        55 => f[16],
-        56 => f[17],
-        57 => f[18],
-        58 => f[19],
-        59 => f[20],
-        60 => f[21],
-        61 => f[22],
-        62 => f[23],
-        63 => f[24],
-        64 => f[25],
-        65 => f[26],
-        66 => f[27],
-        67 => f[28],
-        68 => f[29],
-        69 => f[30],
-        70 => f[31],
-        71 => f[32],
-        72 => f[33],
-        73 => f[34],
-        74 => f[35],
-        75 => f[36],
-        76 => f[37],
-        77 => f[38],
-        78 => f[39],
-        79 => f[40],
-        80 => f[41],
-        81 => f[42],
-        82 => f[43],
-        83 => f[44],
-        84 => f[45],
-        85 => f[46],
-        86 => f[47],
-        87 => f[48],
-        88 => f[49],
-        89 => f[50],
-        90 => f[51],
-        91 => f[52],
-        92 => f[53],
+        0 => t[0],
+        1 => t[1],
+        2 => t[2],
+        3 => t[3],
+        4 => t[4],
+        5 => t[5],
+        6 => t[6],
+        7 => t[7],
+        8 => t[8],
+        9 => t[9],
+        10 => t[10],
+        11 => t[11],
+        12 => t[12],
+        13 => t[13],
+        14 => t[14],
+        15 => t[15],
+        16 => t[16],
+        17 => t[17],
+        18 => t[18],
+        19 => t[19],
+        20 => t[20],
+        21 => t[21],
+        22 => t[22],
+        23 => t[23],
+        24 => t[24],
+        25 => t[25],
+        26 => t[26],
+        27 => t[27],
+        28 => t[28],
+        29 => t[29],
+        30 => t[30],
+        31 => t[31],
+        32 => t[32],
+        33 => t[33],
+        34 => t[34],
+        35 => t[35],
+        36 => t[36],
+        37 => t[37],
+        38 => t[38],
         _ => [0, 0, 0, 0, 0, 0],
     }
+}
+
+// A row of `FIELDS`, in the same way: the fields of a kind of statement.
+fn fields(kind: usize) -> [u8; 6]
+    ensures { λ r. ⌜ ((i : ℕ) → getD r i 0 ≡ getD (getD stmtCodes kind []) i 0) ⌝ }
+{
+    let t = FIELDS;
+    match kind {
+        0 => t[0],
+        1 => t[1],
+        2 => t[2],
+        3 => t[3],
+        4 => t[4],
+        5 => t[5],
+        6 => t[6],
+        7 => t[7],
+        8 => t[8],
+        9 => t[9],
+        10 => t[10],
+        11 => t[11],
+        12 => t[12],
+        13 => t[13],
+        14 => t[14],
+        15 => t[15],
+        16 => t[16],
+        17 => t[17],
+        18 => t[18],
+        19 => t[19],
+        20 => t[20],
+        21 => t[21],
+        22 => t[22],
+        23 => t[23],
+        24 => t[24],
+        25 => t[25],
+        26 => t[26],
+        27 => t[27],
+        28 => t[28],
+        29 => t[29],
+        30 => t[30],
+        31 => t[31],
+        32 => t[32],
+        33 => t[33],
+        34 => t[34],
+        35 => t[35],
+        36 => t[36],
+        37 => t[37],
+        38 => t[38],
+        39 => t[39],
+        40 => t[40],
+        41 => t[41],
+        42 => t[42],
+        43 => t[43],
+        44 => t[44],
+        45 => t[45],
+        46 => t[46],
+        47 => t[47],
+        48 => t[48],
+        49 => t[49],
+        50 => t[50],
+        51 => t[51],
+        52 => t[52],
+        53 => t[53],
+        _ => [0, 0, 0, 0, 0, 0],
+    }
+}
+
+// a row's six numbers: the parts' rows stand before the statements'
+fn numbers(row: usize) -> [u8; 6]
+    ensures { λ r. ⌜ ((i : ℕ) → getD r i 0 ≡ getD (codes row) i 0) ⌝ }
+{
+    if row < 39 {
+        return part(row);
+    }
+    fields(row - 39)
 }
 
 // six numbers in one, in base 256, the first lowest
@@ -230,7 +249,7 @@ pub fn sort(row: usize, i: usize) -> u8
     requires { ⌜ i < 6 ⌝ }
     ensures { λ r. ⌜ r ≡ getD (codes row) i 0 ⌝ }
 {
-    let f = fields(row);
+    let f = numbers(row);
     let all = join(f[0], f[1], f[2], f[3], f[4], f[5]);
     ((all >> (8 * i as u32)) % 256) as u8
 }

@@ -6,8 +6,8 @@ use borrow.Author.Needs.{needs}
 use Rattle.tree.proofs.sort.Statement.{statement}
 use Rattle.tree.proofs.sort.Tie as tie
 
-fields-requires : tie.Need-fields-requires
-fields-requires c κs = search needs
+numbers-requires : tie.Need-numbers-requires
+numbers-requires c κs = search needs
 
 array-read-join : tie.Need-array-read-join
 array-read-join c = search needs
@@ -46,13 +46,13 @@ cast-result-3 : tie.Need-cast-result-3
 cast-result-3 c = search needs
 
 returns : tie.Need-returns
-returns c = ap (λ (x : ℕ). x / 2 ^ (8 * c .before .before .args .i) % 256) (c .join .ensures) ∙ codes-at (c .before .fields .result) (c .before .before .args .row) (c .before .before .args .i) (c .before .before .pre) (c .before .fields .ensures)
+returns c = ap (λ (x : ℕ). x / 2 ^ (8 * c .before .before .args .i) % 256) (c .join .ensures) ∙ codes-at (c .before .numbers .result) (c .before .before .args .row) (c .before .before .args .i) (c .before .before .pre) (c .before .numbers .ensures)
 
 pub sort-spec : {M : Type 1} → statement M
 sort-spec =
     tie.close
     (tie.spec
-    fields-requires
+    numbers-requires
     array-read-join
     array-read-join-2
     array-read-join-3

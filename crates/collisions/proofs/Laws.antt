@@ -27,10 +27,9 @@ use Rattle.consteval.specs.EvalLaws.{Words32}
 use Rattle.steps.specs.State.{State, running, stopped, Step, when, asking, each}
 use Rattle.steps.specs.declared.Counts.{Counts}
 use Rattle.steps.specs.Held.{Fit, Held, Sized, Does, Notes, pushing, noting}
-use Rattle.steps.specs.Compose.{same, nothing-does, each-next, notes-does, when-yes, stays-asking}
+use Rattle.steps.specs.Compose.{same, nothing-does, each-next, notes-does, when-yes, stays-asking, stopped-does}
 use Rattle.collect.specs.Diagnostics.{arrayAndProc, arrayAndBuiltin}
 use Rattle.collect.specs.Collect.{Given, given, anyArray, collides, collision, checkNameCollisions}
-use Rattle.labels.specs.Laws.{stopped-does}
 use Rattle.labels.specs.Arrays.{holds-small, arraysFrom, arraysTo, take-quiet, drop-quiet, array-between}
 use Rattle.collisions.specs.Collisions.{Ready, Checks, headAt, wordAt, NamedAt, Collides}
 

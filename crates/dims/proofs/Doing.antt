@@ -5,7 +5,7 @@ use mathlib.Core.Path.{_≡_, refl, sym, ap, subst, _∙_}
 use mathlib.Core.Bool.{Bool, true, false, not, _&&_, _||_}
 use mathlib.Core.List.{List, [], _∷_}
 use mathlib.Core.Option.{Option, none, some}
-use lib.Dec.{eqb, lit<}
+use lib.Dec.{eqb}
 use lib.ListN.{length, getD}
 use borrow.Author.Tests.{eq-eqb, ne-eqb, not-true, not-false}
 use Rattle.words.specs.Word.{pick, payOf}
@@ -28,6 +28,7 @@ use Rattle.collect.specs.Seen.{Seen, see}
 use Rattle.collect.specs.Collect.{given, lastOf, disagrees, isRecord, isSome, anySome, member, differs, undefined, declaredType, redeclared, declaredArray, declared, sharedAll, dimShared}
 use Rattle.parts.specs.Parts.{NameAt}
 use Rattle.parts.specs.Names.{name-at}
+use Rattle.parts.proofs.Types.{head-some}
 use Rattle.parts.specs.Over.{items-over}
 use Rattle.parts.specs.Turns.{RowAt, Turn, turn-start, turn-row, turn-next, turn-end, list-all}
 use Rattle.dims.specs.declared.Decl.{Decl}
@@ -56,14 +57,6 @@ asking-nothing (running rows notes) = refl
 asking-nothing (stopped k) = refl
 
 -- ---- a type
-
-head-some : (t : TypeRef) → 0 < head t
-head-some Integer = lit< tt
-head-some Long = lit< tt
-head-some Single = lit< tt
-head-some Double = lit< tt
-head-some (FixedString n) = lit< tt
-head-some (Record x) = lit< tt
 
 abbrev undefinedIn : ℕ → ℕ → List Row → Bool
 undefinedIn h a rows = eqb h 45 && not (has rows 130 a 0)

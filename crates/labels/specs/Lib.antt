@@ -1,4 +1,3 @@
 pub mod Labels
-pub mod Laws
 pub mod Arrays
 pub mod Examples

@@ -8,7 +8,7 @@ use Prim.Native.Nat.{ℕ, zero, suc, _+_, _-_, _≤_, _<_}
 use native.Mathlib.Omega.{arith}
 use native.Mathlib.Nat.{not-suc-le-zero}
 use lib.Dec.{leb, ltb, eqb}
-use lib.ListN.{length, take, drop, getD, List·getD-append, List·getD-eq-default, length-drop}
+use lib.ListN.{length, take, drop, getD, List·getD-append, length-drop}
 use lib.Seq.{getD-at, getD-take, getD-drop, length-take-le}
 use borrow.Author.Tests.{eqb-true, ltb-true}
 use Rattle.words.specs.Word.{pick}
@@ -22,6 +22,7 @@ use Rattle.strings.proofs.Laws.{marks-length, marks-all, names-length, sound-at
 use Rattle.table.specs.Rows.{rowsOf}
 use Rattle.table.specs.Laws.{order, pick-false}
 use Rattle.lent.specs.Rules.{isName, scopeOk, typeOk}
+use Rattle.lent.specs.RuleLaws.{name-below, scope-below}
 use Rattle.lent.specs.Lent.{checked, lentRows}
 use Rattle.lent.specs.declared.Checked.the-variants.{Bad, Rows}
 use Rattle.leaves.specs.Leaves.{admits, ruled, lastByte}
@@ -84,23 +85,6 @@ and-both true b e = (refl, e)
 and-both false b e =
     let z : _≡_ {A = ℕ} 0 1 = cc in
     absurd (omega arith)
-
-pub name-below : (names : List ℕ) (x : ℕ) → isName names x ≡ true → x < length names
-name-below names x e = go (order x (length names))
-  where
-    go : (x < length names) ⊎ (length names ≤ x) → x < length names
-    go (inl h) = h
-    go (inr h) =
-        let one : getD names x 0 ≡ 1 = eqb-true (getD names x 0) 1 e in
-        absurd (omega (arith, one, List·getD-eq-default names 0 h))
-
-pub scope-below : (names : List ℕ) (w : ℕ) → scopeOk names w ≡ true → w ≤ length names
-unfolding scopeOk
-scope-below names w e = go (eqb w 0) refl e
-  where
-    go : (t : Bool) → eqb w 0 ≡ t → pick t true (isName names (w - 1)) ≡ true → w ≤ length names
-    go true q f = omega (arith, eqb-true w 0 q)
-    go false q f = omega (arith, name-below names (w - 1) f)
 
 arg-below : (names : List ℕ) (head arg : ℕ) → length names ≤ 1024 → typeOk names head arg ≡ true → arg < 16777216
 unfolding typeOk

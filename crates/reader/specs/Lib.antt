@@ -1,4 +1,5 @@
 pub mod Sized
 pub mod Reading
+pub mod Answered
 pub mod Program
 pub mod Whole

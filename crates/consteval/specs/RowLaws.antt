@@ -26,7 +26,7 @@ use Rattle.fold.specs.ValueLaws.{RowValue, rule-row, row-rule, value-words}
 use Rattle.fold.specs.FoldLaws.{RowFold}
 use Rattle.fold.specs.declared.Value.{Value}
 use Rattle.fold.specs.declared.Fold.the-variants.{Is}
-use Rattle.lent.specs.Rules.{rules, isName, constOk, wordOk, wordsOk, kindOk, rowOk}
+use Rattle.lent.specs.Rules.{rules, isMarked, constOk, wordOk, wordsOk, kindOk, rowOk}
 use Rattle.lent.specs.RuleLaws.{words-ok-at}
 use Rattle.lent.specs.Lent.{Lent}
 use Rattle.consteval.specs.ConstEval.{rowValue, constEval}
@@ -76,7 +76,7 @@ module _ {names : List ℕ} {rows : List Row} {count : ℕ} {buf : List ℕ} (L 
 -- ---- what folding gives, as a row of a lent table
 
 -- a CONST row of a name and of words that meet their rule is in order by itself
-const-row-ok : (names : List ℕ) (name kind low high : ℕ) → name < 16777216 → isName names name ≡ true → constOk names kind low high ≡ true → rowOk names (constRow name kind low high) ≡ true
+const-row-ok : (names : List ℕ) (name kind low high : ℕ) → name < 16777216 → isMarked names name ≡ true → constOk names kind low high ≡ true → rowOk names (constRow name kind low high) ≡ true
 unfolding rowOk kindOk wordsOk wordOk
 const-row-ok names name kind low high h q o = rw (kind-is 132 name h, pay-is 132 name h, q, o) refl
 

@@ -325,10 +325,10 @@ module _ (ns : List ℕ) (n : ℕ) where
     items-k static scope line is s a =
         pick-k ns n (eqb scope 0) (λ e. error-k _) (λ e. then-k ns n (each-k ns n (λ i q. item-k static scope i s q) is a) (when-k ns n static (each-k ns n (λ i q. itemType-k scope i s q) is a)))
 
-    declaredType-k : (scope line : ℕ) (is-redim : Bool) (x : ℕ) (t : Option TypeRef) → Scope ns n scope → Named ns x → OptFine ns n t → Keeps ns n (C.declaredType G scope line is-redim x t)
-    unfolding C.declaredType
-    declaredType-k scope line is-redim x none s h q = nothing-k ns n
-    declaredType-k scope line is-redim x (some t) s h q =
+    declaredAs-k : (scope line : ℕ) (is-redim : Bool) (x : ℕ) (t : Option TypeRef) → Scope ns n scope → Named ns x → OptFine ns n t → Keeps ns n (C.declaredAs G scope line is-redim x t)
+    unfolding C.declaredAs
+    declaredAs-k scope line is-redim x none s h q = nothing-k ns n
+    declaredAs-k scope line is-redim x (some t) s h q =
         then-k ns n (then-k ns n (then-k ns n
         (when-k ns n (not (C.isRecord t) && C.differs G x t) (error-k _))
         (undefined-k t _))
@@ -354,7 +354,7 @@ module _ (ns : List ℕ) (n : ℕ) where
     declared-k : (scope line : ℕ) (is-redim preserve : Bool) (d : Declarator Seen) → line < 16777216 → Scope ns n scope → FineDecl ns n d → Keeps ns n (C.declared G scope line is-redim preserve d)
     unfolding C.declared
     declared-k scope line is-redim preserve d l s a =
-        then-k ns n (declaredType-k scope line is-redim (d .name) (d .ty) s (a .name) (a .ty)) (declaredArray-k scope line is-redim preserve (d .name) (d .lowers) (d .dimensions) l s (a .name) (a .dims))
+        then-k ns n (declaredAs-k scope line is-redim (d .name) (d .ty) s (a .name) (a .ty)) (declaredArray-k scope line is-redim preserve (d .name) (d .lowers) (d .dimensions) l s (a .name) (a .dims))
 
     sharedAll-k : (d : Declarator Seen) → FineDecl ns n d → Keeps ns n (C.sharedAll G d)
     unfolding C.sharedAll

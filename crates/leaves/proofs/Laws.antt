@@ -21,7 +21,7 @@ use Rattle.strings.specs.Open.{entryOf, Answers}
 use Rattle.strings.proofs.Laws.{marks-length, marks-all, names-length, sound-at, ends-in, name-empty}
 use Rattle.table.specs.Rows.{rowsOf}
 use Rattle.table.specs.Laws.{order, pick-false}
-use Rattle.lent.specs.Rules.{isName, scopeOk, typeOk}
+use Rattle.lent.specs.Rules.{isMarked, scopeOk, typeOk}
 use Rattle.lent.specs.RuleLaws.{name-below, scope-below}
 use Rattle.lent.specs.Lent.{checked, lentRows}
 use Rattle.lent.specs.declared.Checked.the-variants.{Bad, Rows}
@@ -90,7 +90,7 @@ arg-below : (names : List ℕ) (head arg : ℕ) → length names ≤ 1024 → ty
 unfolding typeOk
 arg-below names head arg l e = go (eqb head 44) (eqb head 45) (leb 40 head) (leb head 43) e
   where
-    go : (s t u v : Bool) → pick s (ltb arg 16777216) (pick t (isName names arg) (pick u (pick v (eqb arg 0) false) false)) ≡ true → arg < 16777216
+    go : (s t u v : Bool) → pick s (ltb arg 16777216) (pick t (isMarked names arg) (pick u (pick v (eqb arg 0) false) false)) ≡ true → arg < 16777216
     go true t u v f = ltb-true arg 16777216 f
     go false true u v f = omega (arith, name-below names arg f)
     go false false true true f = omega (arith, eqb-true arg 0 f)
@@ -104,16 +104,16 @@ arg-below names head arg l e = go (eqb head 44) (eqb head 45) (leb 40 head) (leb
 pub small-admitted : (names : List ℕ) (q : Question) → length names ≤ 1024 → admits names q ≡ true → Small q
 unfolding admits
 small-admitted names (InProc proc name) l e =
-    let b = and-both (isName names proc) (isName names name) e in
+    let b = and-both (isMarked names proc) (isMarked names name) e in
     (omega (arith, name-below names proc (b .0)), omega (arith, name-below names name (b .1)))
 small-admitted names (InScope scope name) l e =
-    let b = and-both (scopeOk names scope) (isName names name) e in
+    let b = and-both (scopeOk names scope) (isMarked names name) e in
     (omega (arith, scope-below names scope (b .0)), omega (arith, name-below names name (b .1)))
 small-admitted names (OfType head arg) l e = arg-below names head arg l e
 
-pub scope-admitted : (names : List ℕ) (scope name : ℕ) → admits names (InScope scope name) ≡ true → isName names name ≡ true
+pub scope-admitted : (names : List ℕ) (scope name : ℕ) → admits names (InScope scope name) ≡ true → isMarked names name ≡ true
 unfolding admits
-scope-admitted names scope name e = and-both (scopeOk names scope) (isName names name) e .1
+scope-admitted names scope name e = and-both (scopeOk names scope) (isMarked names name) e .1
 
 -- ---- names of a string table
 
@@ -134,7 +134,7 @@ pub record Spelled (bytes ends : List ℕ) (x : ℕ) : Type 0 where
   pub more : startOf ends x < getD ends x 0
   pub fits : getD ends x 0 ≤ length bytes
 
-module _ (bytes ends : List ℕ) (x : ℕ) (s : sound bytes ends ≡ true) (e : isName (namesOf bytes ends) x ≡ true) where
+module _ (bytes ends : List ℕ) (x : ℕ) (s : sound bytes ends ≡ true) (e : isMarked (namesOf bytes ends) x ≡ true) where
   pub inside : x < length ends
   inside = omega (arith, name-below (namesOf bytes ends) x e, names-length bytes ends)
 

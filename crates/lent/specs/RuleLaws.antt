@@ -12,11 +12,11 @@ use lib.Seq.{getD-drop}
 use borrow.Author.Tests.{eqb-true}
 use Rattle.words.specs.Word.{pick}
 use Rattle.table.specs.Laws.{order}
-use Rattle.lent.specs.Rules.{isName, scopeOk, wordOk, wordsOk}
+use Rattle.lent.specs.Rules.{isMarked, scopeOk, wordOk, wordsOk}
 
 -- ---- numbers of names
 
-pub name-below : (names : List ℕ) (x : ℕ) → isName names x ≡ true → x < length names
+pub name-below : (names : List ℕ) (x : ℕ) → isMarked names x ≡ true → x < length names
 name-below names x e = go (order x (length names))
   where
     go : (x < length names) ⊎ (length names ≤ x) → x < length names
@@ -29,7 +29,7 @@ pub scope-below : (names : List ℕ) (w : ℕ) → scopeOk names w ≡ true → 
 unfolding scopeOk
 scope-below names w e = go (eqb w 0) refl e
   where
-    go : (t : Bool) → eqb w 0 ≡ t → pick t true (isName names (w - 1)) ≡ true → w ≤ length names
+    go : (t : Bool) → eqb w 0 ≡ t → pick t true (isMarked names (w - 1)) ≡ true → w ≤ length names
     go true q f = omega (arith, eqb-true w 0 q)
     go false q f = omega (arith, name-below names (w - 1) f)
 

@@ -8,7 +8,7 @@ use lib.Dec.{ltb, eqb}
 use borrow.Author.Tests.{lt-ltb}
 use Rattle.words.specs.Word.{kindOf, payOf, wordOf, pick}
 use Rattle.entries.specs.Entries.{bit, lineRow, labelRow, typeRow, fieldRow, constRow, arrayRow, typedVarRow, procRow, paramRow, dimSharedRow, sharedRow, staticRow, staticProcRow, defFnRow, unrankedRow, optionBaseRow}
-use Rattle.lent.specs.Rules.{isName, scopeOk, typeOk, constOk, wordOk, wordsOk, kindOk, rowOk}
+use Rattle.lent.specs.Rules.{isMarked, scopeOk, typeOk, constOk, wordOk, wordsOk, kindOk, rowOk}
 
 -- ---- parts
 
@@ -40,7 +40,7 @@ module _ (names : List ℕ) where
       let p : payOf (wordOf 128 number) ≡ number = omega arith in
       rw (k, p, lt-ltb number 16777216 h, s)
 
-  module _ (name : ℕ) (h : name < 16777216) (n : isName names name ≡ true) where
+  module _ (name : ℕ) (h : name < 16777216) (n : isMarked names name ≡ true) where
     pub label-ok : (scope : ℕ) → scopeOk names scope ≡ true → rowOk names (labelRow name scope) ≡ true
     unfolding rowOk kindOk wordsOk wordOk
     label-ok scope s =
@@ -55,7 +55,7 @@ module _ (names : List ℕ) where
         let p : payOf (wordOf 130 name) ≡ name = omega arith in
         rw (k, p, n, lt-ltb words 65536 w, lt-ltb line 16777216 l)
 
-    pub field-ok : (ordinal field word head arg : ℕ) → ordinal < 16777216 → isName names field ≡ true → word < 65536 → typeOk names head arg ≡ true → rowOk names (fieldRow name ordinal field word head arg) ≡ true
+    pub field-ok : (ordinal field word head arg : ℕ) → ordinal < 16777216 → isMarked names field ≡ true → word < 65536 → typeOk names head arg ≡ true → rowOk names (fieldRow name ordinal field word head arg) ≡ true
     unfolding rowOk kindOk wordsOk wordOk
     field-ok ordinal field word head arg o f w t =
         let k : kindOf (wordOf 131 name) ≡ 131 = omega arith in
@@ -90,7 +90,7 @@ module _ (names : List ℕ) where
         let p : payOf (wordOf 135 name) ≡ name = omega arith in
         rw (k, p, n, bit-flag function, lt-ltb line 16777216 l, t)
 
-    pub param-ok : (ordinal param : ℕ) (byval array : Bool) (head arg : ℕ) → ordinal < 16777216 → isName names param ≡ true → typeOrNone names head arg ≡ true
+    pub param-ok : (ordinal param : ℕ) (byval array : Bool) (head arg : ℕ) → ordinal < 16777216 → isMarked names param ≡ true → typeOrNone names head arg ≡ true
         → rowOk names (paramRow name ordinal param byval array head arg) ≡ true
     unfolding rowOk kindOk wordsOk wordOk
     param-ok ordinal param byval array head arg o f t =

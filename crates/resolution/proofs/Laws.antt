@@ -31,7 +31,7 @@ use Rattle.tree.proofs.Sound.{program-sound}
 use Rattle.reader.specs.Program.{wholeOf, programOf}
 use Rattle.table.specs.Rows.{rowsOf, Holds}
 use Rattle.table.specs.Images.{holds-fits}
-use Rattle.lent.specs.Rules.{isName, scopeOk}
+use Rattle.lent.specs.Rules.{isMarked, scopeOk}
 use Rattle.lent.specs.Lent.{checked, lentRows}
 use Rattle.lent.specs.LentLaws.{checked-sound}
 use Rattle.lent.specs.declared.Checked.the-variants.{Bad, Rows}
@@ -187,11 +187,11 @@ module _ (names ws rows : List ℕ) (room scope name at end : ℕ) (few : length
   head-is = wrote-first (listed .wrote) .is
 
   abbrev right : Bool
-  right = scopeOk names scope && isName names name
+  right = scopeOk names scope && isMarked names name
 
   ready-there : {n : ℕ} → Passed names rows right (end - at) room n → ReadyAll (take (end - at) (drop at ws)) rows n scope 1 1 room (payOf (getD ws at 0))
   ready-there p =
-      let b = and-both (scopeOk names scope) (isName names name) (p .admitted) in
+      let b = and-both (scopeOk names scope) (isMarked names name) (p .admitted) in
       record { strings = S; trees = es; end = end - at; stands = listed .there; counted = sym (ap payOf head-is ∙ pay-is 1 (many es) (listed .small)); room = room-for (take (end - at) (drop at ws)) p (take-short (end - at) (drop at ws)) (scope-fits names scope few (b .0)) 1 }
 
   -- one word is written already, and the output is as long as it was
@@ -203,7 +203,7 @@ module _ (names ws rows : List ℕ) (room scope name at end : ℕ) (few : length
 
   pub name-fits : {n : ℕ} → Passed names rows right (end - at) room n → name < 16777216
   name-fits p =
-      let b = and-both (scopeOk names scope) (isName names name) (p .admitted) in
+      let b = and-both (scopeOk names scope) (isMarked names name) (p .admitted) in
       omega (arith, name-below names name (b .1))
 
   pub args-shut : (s : Refusal) → ruling names rows right (end - at) room ≡ refused s → resolveArgsAt names ws rows room scope name at ≡ refused s
@@ -270,11 +270,11 @@ module _ (names ws rows : List ℕ) (room : ℕ) where
 
   pub args-wrong : (scope name at : ℕ) {s : Step} {p : ℕ} → s ≡ stepOf (listed-at at) → s ≡ Wrong p → resolveArgsAt names ws rows room scope name at ≡ refused (Word p)
   unfolding resolveArgsAt
-  args-wrong scope name at e q = at-wrong names rows (scopeOk names scope && isName names name) at room (λ T es. wordOf 1 (many es) ∷ wordsAll (resolveArgs T scope (places T name) es)) (listed-at at) e q
+  args-wrong scope name at e q = at-wrong names rows (scopeOk names scope && isMarked names name) at room (λ T es. wordOf 1 (many es) ∷ wordsAll (resolveArgs T scope (places T name) es)) (listed-at at) e q
 
   pub args-deep : (scope name at : ℕ) {s : Step} {p : ℕ} → s ≡ stepOf (listed-at at) → s ≡ Deep p → resolveArgsAt names ws rows room scope name at ≡ refused (Depth p)
   unfolding resolveArgsAt
-  args-deep scope name at e q = at-deep names rows (scopeOk names scope && isName names name) at room (λ T es. wordOf 1 (many es) ∷ wordsAll (resolveArgs T scope (places T name) es)) (listed-at at) e q
+  args-deep scope name at e q = at-deep names rows (scopeOk names scope && isMarked names name) at room (λ T es. wordOf 1 (many es) ∷ wordsAll (resolveArgs T scope (places T name) es)) (listed-at at) e q
 
   pub all-over : {s : Step} {m : ℕ} → s ≡ stepOf (programAt ws names (length names)) → s ≡ Passed-by (record { at = m }) → (m ≡ length ws → ⊥) → resolveAll names ws rows room ≡ refused (Word m)
   unfolding resolveAll programOf wholeOf after refused

@@ -13,7 +13,7 @@ ghost use Rattle.strings.specs.Table.{namesOf};
 ghost use Rattle.expr.specs.Reader.{exprAt, listAt};
 ghost use Rattle.tree.specs.Tree.{strings as stringsOf};
 ghost use Rattle.tree.specs.Reader.{programAt};
-ghost use Rattle.lent.specs.Rules.{scopeOk, isName};
+ghost use Rattle.lent.specs.Rules.{scopeOk, isMarked};
 ghost use Rattle.reader.specs.Sized.{sizedTree};
 ghost use Rattle.resolution.specs.Entries.{Rewrites, Tells, resolveExprAt, resolveArgsAt, resolveAll};
 ghost use Rattle.reader.specs.Answered.{ReadTo};
@@ -56,7 +56,7 @@ fn ruled(rows: &[u32], names: &[u8], right: bool, size: usize, room: usize) -> O
 
 // Whether a scope and a name are right.
 fn admits(names: &[u8], scope: u32, name: u32) -> bool
-    ensures { λ r. ⌜ r ≡ (scopeOk (now (names .entry)) scope && isName (now (names .entry)) name) ⌝ }
+    ensures { λ r. ⌜ r ≡ (scopeOk (now (names .entry)) scope && isMarked (now (names .entry)) name) ⌝ }
 {
     if lent::scope_ok(names, scope) {
         lent::is_name(names, name)

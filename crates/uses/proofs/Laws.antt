@@ -24,7 +24,7 @@ use Rattle.tree.specs.Reader.{programAt}
 use Rattle.tree.proofs.Sound.{program-sound}
 use Rattle.reader.specs.Answered.{answer-read, answer-wrong, answer-deep}
 use Rattle.reader.specs.Program.{Program, programOf, wholeOf}
-use Rattle.lent.specs.Rules.{isName}
+use Rattle.lent.specs.Rules.{isMarked}
 use Rattle.subscripts.specs.Subscripts.{inExpr, subscriptCount}
 use Rattle.subscripts.specs.Code.{useOf}
 use Rattle.subscripts.specs.declared.Use.{Use}
@@ -52,7 +52,7 @@ module _ {ns ws : List ℕ} {at : ℕ} (R : WasRead ns ws at) where
 
   -- what is told after reading
   rest : ℕ → Program → Told (Option ℕ)
-  rest name p = unless (isName ns name) 11 0 (gives (subscriptCount (λ name (e : Expr). inExpr name e) name p))
+  rest name p = unless (isMarked ns name) 11 0 (gives (subscriptCount (λ name (e : Expr). inExpr name e) name p))
 
   read-is : (name : ℕ) → countOf ns ws name ≡ after (pick (eqb at (length ws)) (gives (R .body)) (stops 2 at)) (rest name)
   unfolding countOf programOf wholeOf rest
@@ -66,11 +66,11 @@ module _ {ns ws : List ℕ} {at : ℕ} (R : WasRead ns ws at) where
   unfolding after
   whole-is name q = read-is name ∙ ap (λ (b : Bool). after (pick b (gives (R .body)) (stops 2 at)) (rest name)) (eq-eqb at (length ws) q)
 
-  pub no-name-is : (name : ℕ) → at ≡ length ws → isName ns name ≡ false → refused Lookup ≡ countOf ns ws name
+  pub no-name-is : (name : ℕ) → at ≡ length ws → isMarked ns name ≡ false → refused Lookup ≡ countOf ns ws name
   unfolding refused rest unless
   no-name-is name q z = sym (whole-is name q ∙ ap (λ (b : Bool). unless b 11 0 (gives (subscriptCount (λ name (e : Expr). inExpr name e) name (R .body)))) z)
 
-  pub counted-is : (name : ℕ) {t : Told (Option ℕ)} {o : Option ℕ} → at ≡ length ws → isName ns name ≡ true → ((ks : List ℕ) (k : ℕ) (v : Tree Expr (one body)) (end : ℕ) → Stands ws ks k 0 v end → o ≡ subscriptCount (λ name (e : Expr). inExpr name e) name v) → t ≡ gives o → t ≡ countOf ns ws name
+  pub counted-is : (name : ℕ) {t : Told (Option ℕ)} {o : Option ℕ} → at ≡ length ws → isMarked ns name ≡ true → ((ks : List ℕ) (k : ℕ) (v : Tree Expr (one body)) (end : ℕ) → Stands ws ks k 0 v end → o ≡ subscriptCount (λ name (e : Expr). inExpr name e) name v) → t ≡ gives o → t ≡ countOf ns ws name
   unfolding rest unless
   counted-is name q z f e = e ∙ ap gives (f ns (length ns) (R .body) at stands) ∙ sym (whole-is name q ∙ ap (λ (b : Bool). unless b 11 0 (gives (subscriptCount (λ name (e : Expr). inExpr name e) name (R .body)))) z)
 

@@ -20,7 +20,7 @@ use Rattle.fold.specs.Value.{literalKind, lowOf, highOf}
 use Rattle.table.specs.Rows.{Row, find}
 use Rattle.entries.specs.Entries.{entryKey, rowWord, has, lineRow, labelRow, typeRow, fieldRow, constRow, arrayRow, typedVarRow, procRow, paramRow, dimSharedRow, sharedRow, staticRow, staticProcRow, defFnRow, unrankedRow, optionBaseRow, replaceType, replaceProc}
 use Rattle.lookup.specs.Lookup.{typeWords, fromSuffix, fromTypeRef}
-use Rattle.lookup.specs.Builtins.{isBuiltin}
+use Rattle.lookup.specs.Builtins.{isSome, isBuiltin}
 use Rattle.subscripts.specs.Subscripts.{subscriptCount}
 use Rattle.steps.specs.State.{State, running, Step, _⨾_, nothing, when, asking, each, stop, change, enter, push}
 use Rattle.collect.specs.Diagnostics.{duplicateLine, duplicateLabel, typeDefined, typeInside, fieldTwice, containsItself, fieldUndefined, optionBaseTwice, optionBaseLate, constDefined, constOverflow, notConstant, itemsOutside, dimSharedInside, suffixDiffers, undefinedType, declaredTwice, noDimension, arrayTwice, otherRank, fixedParam, fixedResult, procInside, procDefined, paramUndefined, arrayAndProc, arrayAndBuiltin}
@@ -55,11 +55,6 @@ disagrees last ty = suffix last && not (eqb (fromTypeRef (head ty)) (fromSuffix 
 
 abbrev pub isRecord : TypeRef → Bool
 isRecord t = eqb (head t) 45
-
--- `is_some`
-abbrev pub isSome : {A : Type 0} → Option A → Bool
-isSome none = false
-isSome (some a) = true
 
 unfoldable pub anySome : {A : Type 0} → List (Option A) → Bool
 anySome [] = false
@@ -241,9 +236,9 @@ module _ (G : Given) where
 
   -- ---- StmtKind::Dim, StmtKind::Redim
 
-  unfoldable pub declaredType : (scope line : ℕ) (is-redim : Bool) (name : ℕ) → Option TypeRef → Step
-  declaredType scope line is-redim name none = nothing
-  declaredType scope line is-redim name (some ty) =
+  unfoldable pub declaredAs : (scope line : ℕ) (is-redim : Bool) (name : ℕ) → Option TypeRef → Step
+  declaredAs scope line is-redim name none = nothing
+  declaredAs scope line is-redim name (some ty) =
       when (not (isRecord ty) && differs name ty) (error (suffixDiffers line name))
       ⨾ undefined ty (λ (r : ℕ). undefinedType line r)
       ⨾ asking (λ rows. when (has rows 134 name scope && not is-redim) (error (declaredTwice line name)))
@@ -265,7 +260,7 @@ module _ (G : Given) where
 
   unfoldable pub declared : {E : Type 0} (scope line : ℕ) (is-redim preserve : Bool) → Declarator E → Step
   declared scope line is-redim preserve d =
-      declaredType scope line is-redim (d .name) (d .ty)
+      declaredAs scope line is-redim (d .name) (d .ty)
       ⨾ declaredArray scope line is-redim preserve (d .name) (d .lowers) (d .dimensions)
 
   unfoldable pub sharedAll : {E : Type 0} → Declarator E → Step

@@ -12,7 +12,7 @@ use lib.Seq.{take-suc}
 use borrow.Author.Tests.{eq-eqb}
 use Rattle.words.specs.Word.{kindOf, payOf}
 use Rattle.strings.specs.Table.{stringAt, namesOf}
-use Rattle.lent.specs.Rules.{isName}
+use Rattle.lent.specs.Rules.{isMarked}
 use Rattle.table.specs.Rows.{Row, width, noteWidth, rank, find, Holds}
 use Rattle.table.specs.Laws.{rank-mono, rank-le}
 use Rattle.table.specs.Images.{word-at}
@@ -27,10 +27,9 @@ use Rattle.consteval.specs.EvalLaws.{Words32}
 use Rattle.steps.specs.State.{State, running, stopped, Step, when, asking, each}
 use Rattle.steps.specs.declared.Counts.{Counts}
 use Rattle.steps.specs.Held.{Fit, Held, Sized, Does, Notes, pushing, noting}
-use Rattle.steps.specs.Compose.{same, nothing-does, each-next, notes-does, when-yes, stays-asking}
+use Rattle.steps.specs.Compose.{same, nothing-does, each-next, notes-does, when-yes, stays-asking, stopped-does}
 use Rattle.collect.specs.Diagnostics.{arrayAndProc, arrayAndBuiltin}
 use Rattle.collect.specs.Collect.{Given, given, anyArray, collides, collision, checkNameCollisions}
-use Rattle.labels.specs.Laws.{stopped-does}
 use Rattle.labels.specs.Arrays.{holds-small, arraysFrom, arraysTo, take-quiet, drop-quiet, array-between}
 use Rattle.collisions.specs.Collisions.{Ready, Checks, headAt, wordAt, NamedAt, Collides}
 
@@ -164,7 +163,7 @@ module _ {bytes ends b d : List ℕ} {s : Counts} where
         let a = array-at (n .rows) (n .holds) h in
         let inside : i < s .rows = omega (arith, a .0, n .holds .filled .count) in
         let e = head-is (n .rows) (n .holds) inside in
-        record { strings = R .strings; inside = inside; fits = fit; named = ap (λ (w : ℕ). isName (namesOf bytes ends) (payOf w)) e ∙ n .named i (a .0) (a .1) }
+        record { strings = R .strings; inside = inside; fits = fit; named = ap (λ (w : ℕ). isMarked (namesOf bytes ends) (payOf w)) e ∙ n .named i (a .0) (a .1) }
 
     -- one more was looked at
     next-done : i < to → {u : Counts} {d″ : List ℕ} → Collides bytes ends b (s .rows) i t u d′ d″

@@ -7,7 +7,7 @@ use mathlib.Core.Option.{some}
 use lib.ListN.{length, getD}
 use Rattle.words.specs.Word.{kindOf, payOf}
 use Rattle.strings.specs.Table.{sound, namesOf}
-use Rattle.lent.specs.Rules.{isName}
+use Rattle.lent.specs.Rules.{isMarked}
 use Rattle.table.specs.Rows.{Row, width, find, Holds}
 use Rattle.entries.specs.Entries.{entryKey}
 use Rattle.steps.specs.declared.Counts.{Counts}
@@ -16,7 +16,7 @@ use Rattle.collect.specs.Collect.{given, collides, checkNameCollisions}
 
 -- each array's name is a name's number
 abbrev pub ArraysNamed : List ℕ → List Row → Type 0
-ArraysNamed names rows = (i : ℕ) → i < length rows → kindOf (getD (getD rows i []) 0 0) ≡ 133 → isName names (payOf (getD (getD rows i []) 0 0)) ≡ true
+ArraysNamed names rows = (i : ℕ) → i < length rows → kindOf (getD (getD rows i []) 0 0) ≡ 133 → isMarked names (payOf (getD (getD rows i []) 0 0)) ≡ true
 
 -- the buffer holds such rows
 pub record NamesHeld (names : List ℕ) (s : Counts) (b : List ℕ) : Type 0 where
@@ -45,7 +45,7 @@ pub record NamedAt (bytes ends b : List ℕ) (count i : ℕ) : Type 0 where
   pub strings : sound bytes ends ≡ true
   pub inside : i < count
   pub fits : count * width ≤ length b
-  pub named : isName (namesOf bytes ends) (payOf (headAt b i)) ≡ true
+  pub named : isMarked (namesOf bytes ends) (payOf (headAt b i)) ≡ true
 
 -- what is done for it, whatever rows the buffer holds
 pub record Collides (bytes ends b : List ℕ) (count i : ℕ) (s r : Counts) (d d′ : List ℕ) : Type 0 where

@@ -1,40 +1,29 @@
 -- Rows of a lent table name their arrays; what a state gives to the check. Assumes nothing.
-use Prim.Native.Nat.{ℕ, zero, suc, _<_}
-use mathlib.Core.Path.{_≡_, refl, sym, _∙_}
-use mathlib.Core.Bool.{Bool, true, false}
-use mathlib.Core.List.{List, [], _∷_}
+use Prim.Native.Nat.{ℕ}
+use mathlib.Core.Path.{_≡_, sym, _∙_}
+use mathlib.Core.Bool.{true}
+use mathlib.Core.List.{List, []}
 use native.Mathlib.Omega.{arith}
-use native.Mathlib.Nat.{not-suc-le-zero, le-of-suc-le-suc}
-use lib.ListN.{length, getD}
-use Rattle.words.specs.Word.{kindOf, payOf, pick}
-use Rattle.lent.specs.Rules.{isName, wordOk, wordsOk, kindOk, rowOk}
+use lib.ListN.{getD}
+use Rattle.words.specs.Word.{kindOf, payOf}
+use Rattle.lent.specs.Rules.{isMarked, wordOk, wordsOk, kindOk, rowOk}
+use Rattle.lent.specs.RuleLaws.{pick-both}
 use Rattle.lent.specs.Lent.{AllOk}
 use Rattle.table.specs.Rows.{Row}
+use Rattle.table.specs.Each.{each-at}
 use Rattle.steps.specs.State.{State, running, stopped}
 use Rattle.steps.specs.declared.Counts.{Counts}
 use Rattle.steps.specs.Held.{Held}
 use Rattle.collisions.specs.Collisions.{ArraysNamed, NamesHeld}
 
-ok-at : (names : List ℕ) (rows : List Row) → AllOk names rows → (i : ℕ) → i < length rows → rowOk names (getD rows i []) ≡ true
-unfolding AllOk
-ok-at names [] o i h = absurd (not-suc-le-zero h)
-ok-at names (r ∷ rs) o zero h = o .0
-ok-at names (r ∷ rs) o (suc i) h = ok-at names rs (o .1) i (le-of-suc-le-suc h)
-
-first-yes : (a b : Bool) → pick a b false ≡ true → a ≡ true
-first-yes true b e = refl
-first-yes false b e =
-    let z : _≡_ {A = ℕ} 0 1 = cc in
-    absurd (omega arith)
-
-array-name : (names : List ℕ) (r : Row) → kindOf (getD r 0 0) ≡ 133 → rowOk names r ≡ true → isName names (payOf (getD r 0 0)) ≡ true
+array-name : (names : List ℕ) (r : Row) → kindOf (getD r 0 0) ≡ 133 → rowOk names r ≡ true → isMarked names (payOf (getD r 0 0)) ≡ true
 unfolding rowOk kindOk wordsOk wordOk
 array-name names r k o =
     let t : kindOk names 5 r ≡ true = rw k at o in
-    first-yes (isName names (payOf (getD r 0 0))) _ t
+    pick-both (isMarked names (payOf (getD r 0 0))) _ t .0
 
 pub arrays-named : (names : List ℕ) (rows : List Row) → AllOk names rows → ArraysNamed names rows
-arrays-named names rows o i h k = array-name names (getD rows i []) k (ok-at names rows o i h)
+arrays-named names rows o i h k = array-name names (getD rows i []) k (each-at (λ r. rowOk names r ≡ true) [] rows o i h)
 
 -- where it runs, the rows of the state are in order by themselves
 abbrev pub OkIn : List ℕ → State → Type 0

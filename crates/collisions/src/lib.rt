@@ -12,7 +12,7 @@ ghost use Prim.Native.Nat.{ℕ, _+_, _*_, _≤_, _<_};
 ghost use lib.ListN.{length, getD};
 ghost use Rattle.strings.specs.Table.{sound, stringAt, namesOf};
 ghost use Rattle.lookup.specs.Builtins.{isBuiltin};
-ghost use Rattle.lent.specs.Rules.{isName};
+ghost use Rattle.lent.specs.Rules.{isMarked};
 ghost use Rattle.table.specs.Rows.{width};
 ghost use Rattle.steps.specs.Held.{Fit};
 ghost use Rattle.collect.specs.Code.{Named};
@@ -21,7 +21,7 @@ ghost use Rattle.collisions.specs.Entry.{LentReady, Tells, overOf, check
 
 // Whether a name is a builtin function's.
 fn is_builtin(bytes: &[u8], ends: &[u32], name: u32) -> bool
-    requires { ⌜ (sound (now bytes) (now ends) ≡ true) × (isName (namesOf (now bytes) (now ends)) name ≡ true) ⌝ }
+    requires { ⌜ (sound (now bytes) (now ends) ≡ true) × (isMarked (namesOf (now bytes) (now ends)) name ≡ true) ⌝ }
     ensures { λ r. ⌜ r ≡ isBuiltin (stringAt (now (bytes .entry)) (now (ends .entry)) name) ⌝ }
 {
     match leaves::spelled(bytes, ends, name) {

@@ -1,23 +1,24 @@
 -- The CONST rows of a lent table meet the rule that `const_eval` asks for, and what folding gives meets the rule of a lent table's CONST row: the rule
 -- of a lent table cites the rule of a folded value's words. Rows stay such when others, or a value, are entered. Assumes nothing.
-use Prim.Native.Nat.{ℕ, zero, suc, _+_, _-_, _*_, _<_, _≤_}
+use Prim.Native.Nat.{ℕ, _+_, _*_, _<_, _≤_}
 use mathlib.Core.Path.{_≡_, refl, sym, ap, _∙_, subst}
-use mathlib.Core.Bool.{Bool, true, false, false≢true}
+use mathlib.Core.Bool.{Bool, true, false}
 use mathlib.Core.Logic.{_⊎_, inl, inr}
 use mathlib.Core.List.{List, [], _∷_}
 use mathlib.Core.Option.{some}
 use native.Mathlib.Omega.{arith}
-use native.Mathlib.Nat.{le-of-suc-le-suc, not-suc-le-zero}
 use borrow.Author.Tests.{eqb-true, eqb-false}
 use lib.Dec.{T, eqb}
+use lib.Ieee.Bits.{is-true}
 use lib.ListN.{length, drop, getD, length-drop}
 use lib.Seq.{getD-drop}
-use Rattle.words.specs.Word.{kindOf, payOf, pick}
+use Rattle.words.specs.Word.{kindOf, payOf}
 use Rattle.expr.specs.Expr.{Strings, Named, Expr}
 use Rattle.expr.specs.Stands.{Stands}
 use Rattle.expr.proofs.Parts.{kind-is, pay-is}
-use Rattle.table.specs.Rows.{Row, width, keyOf, key, rank, find, insert, remove, Wide}
+use Rattle.table.specs.Rows.{Row, width, keyOf, key, rank, find, insert, remove}
 use Rattle.table.specs.Laws.{order, find-some, find-insert-same, find-insert-other, find-remove-in, find-remove-out}
+use Rattle.table.specs.Each.{each-at, each-find, find-key, wide-each}
 use Rattle.table.specs.Images.{word-at}
 use Rattle.entries.specs.Entries.{entryKey, constRow}
 use Rattle.fold.specs.Value.{constRule, literalKind, lowOf, highOf}
@@ -25,61 +26,18 @@ use Rattle.fold.specs.ValueLaws.{RowValue, rule-row, row-rule, value-words}
 use Rattle.fold.specs.FoldLaws.{RowFold}
 use Rattle.fold.specs.declared.Value.{Value}
 use Rattle.fold.specs.declared.Fold.the-variants.{Is}
-use Rattle.lent.specs.Rules.{rules, isName, constOk, wordOk, wordsOk, kindOk, rowOk}
-use Rattle.lent.specs.Lent.{AllOk, Lent}
+use Rattle.lent.specs.Rules.{rules, isMarked, constOk, wordOk, wordsOk, kindOk, rowOk}
+use Rattle.lent.specs.RuleLaws.{words-ok-at}
+use Rattle.lent.specs.Lent.{Lent}
 use Rattle.consteval.specs.ConstEval.{rowValue, constEval}
 use Rattle.consteval.specs.Evaluates.{Consts}
 use Rattle.consteval.specs.EvalLaws.{Words32, const-row}
-
-pick-yes : (b c : Bool) → pick b c false ≡ true → (b ≡ true) × (c ≡ true)
-pick-yes true c e = (refl, e)
-pick-yes false c e = absurd (false≢true e)
-
-T-true : (b : Bool) → T b → b ≡ true
-T-true true t = refl
-T-true false t = absurd t
 
 -- the strings of which these are the marks
 abbrev pub strings : List ℕ → Strings
 strings ns = record { count = length ns; names = ns }
 
--- ---- a row that was found
-
-find-key : (k : ℕ) (rows : List Row) (r : Row) → find k rows ≡ some r → key r ≡ k
-unfolding find
-find-key k [] r e = let z : _≡_ {A = ℕ} 0 1 = cc in absurd (omega arith)
-find-key k (x ∷ xs) r e = go (eqb (key x) k) refl e (find-key k xs r)
-  where
-    go : (b : Bool) → eqb (key x) k ≡ b → pick b (some x) (find k xs) ≡ some r → (find k xs ≡ some r → key r ≡ k) → key r ≡ k
-    go true q f ih = let p : x ≡ r = cc in ap key (sym p) ∙ eqb-true (key x) k q
-    go false q f ih = ih f
-
-find-ok : (names : List ℕ) (k : ℕ) (rows : List Row) (r : Row) → AllOk names rows → find k rows ≡ some r → rowOk names r ≡ true
-unfolding find AllOk
-find-ok names k [] r o e = let z : _≡_ {A = ℕ} 0 1 = cc in absurd (omega arith)
-find-ok names k (x ∷ xs) r o e = go (eqb (key x) k) e (find-ok names k xs r (o .1))
-  where
-    go : (b : Bool) → pick b (some x) (find k xs) ≡ some r → (find k xs ≡ some r → rowOk names r ≡ true) → rowOk names r ≡ true
-    go true f ih = let p : x ≡ r = cc in ap (rowOk names) (sym p) ∙ o .0
-    go false f ih = ih f
-
--- each row has its words
-wide-at : (w : ℕ) (rows : List Row) → Wide w rows → (i : ℕ) → i < length rows → length (getD rows i []) ≡ w
-wide-at w [] t i h = absurd (not-suc-le-zero h)
-wide-at w (r ∷ rs) t zero h = t .0
-wide-at w (r ∷ rs) t (suc i) h = wide-at w rs (t .1) i (le-of-suc-le-suc h)
-
 -- ---- a CONST row's words under their rules
-
--- word j under its rule
-words-ok-at : (names rs ws : List ℕ) (j : ℕ) → wordsOk names rs ws ≡ true → j < length ws → wordOk names (getD rs j 0) (getD ws j 0) (getD ws (suc j) 0) (getD ws (suc (suc j)) 0) ≡ true
-unfolding wordsOk
-words-ok-at names rs [] j e h = absurd (not-suc-le-zero h)
-words-ok-at names rs (w ∷ ws) zero e h = pick-yes (wordOk names (getD rs 0 0) w (getD ws 0 0) (getD ws 1 0)) _ e .0
-words-ok-at names rs (w ∷ ws) (suc j) e h =
-    let t = words-ok-at names (drop 1 rs) ws j (pick-yes (wordOk names (getD rs 0 0) w (getD ws 0 0) (getD ws 1 0)) _ e .1) (le-of-suc-le-suc h) in
-    let p : 1 + j ≡ suc j = omega arith in
-    subst (λ (x : ℕ). wordOk names x (getD ws j 0) (getD ws (suc j) 0) (getD ws (suc (suc j)) 0) ≡ true) (getD-drop 1 rs j 0 ∙ ap (λ (i : ℕ). getD rs i 0) p) t
 
 -- the three words of a constant
 const-words-ok : (names : List ℕ) (r : Row) → 5 ≤ length r → kindOf (getD r 0 0) ≡ 132 → rowOk names r ≡ true → constOk names (getD r 2 0) (getD r 3 0) (getD r 4 0) ≡ true
@@ -107,9 +65,9 @@ module _ {names : List ℕ} {rows : List Row} {count : ℕ} {buf : List ℕ} (L 
       let i : ℕ = rank (entryKey 132 name 0) rows in
       let i< : i < count = omega (arith, f .0, L .holds .filled .count) in
       let word : (j : ℕ) → j < width → getD r j 0 < 4294967296 = λ j k. subst (λ (x : Row). getD x j 0 < 4294967296) (sym (f .1)) (row-32 i j i< k) in
-      let long : length r ≡ width = ap length (f .1) ∙ wide-at width rows (L .holds .filled .wide) i (f .0) in
+      let long : length r ≡ width = ap length (f .1) ∙ each-at (λ r. length r ≡ width) [] rows (wide-each width rows (L .holds .filled .wide)) i (f .0) in
       let kind : kindOf (getD r 0 0) ≡ 132 = const-key (getD r 0 0) (getD r 1 0) name (word 1 (omega arith)) h (find-key (entryKey 132 name 0) rows r e) in
-      let ok : constRule (length names) (getD r 2 0) (getD r 3 0) (getD r 4 0) ≡ true = const-words-ok names r (omega arith) kind (find-ok names (entryKey 132 name 0) rows r (L .ok) e) in
+      let ok : constRule (length names) (getD r 2 0) (getD r 3 0) (getD r 4 0) ≡ true = const-words-ok names r (omega arith) kind (each-find (λ r. rowOk names r ≡ true) (entryKey 132 name 0) rows r (L .ok) e) in
       rule-row (length names) (getD r 2 0) (getD r 3 0) (getD r 4 0) (word 3 (omega arith)) (word 4 (omega arith)) (subst T (sym ok) tt)
 
   pub lent-consts : Consts (length names) rows
@@ -118,7 +76,7 @@ module _ {names : List ℕ} {rows : List Row} {count : ℕ} {buf : List ℕ} (L 
 -- ---- what folding gives, as a row of a lent table
 
 -- a CONST row of a name and of words that meet their rule is in order by itself
-const-row-ok : (names : List ℕ) (name kind low high : ℕ) → name < 16777216 → isName names name ≡ true → constOk names kind low high ≡ true → rowOk names (constRow name kind low high) ≡ true
+const-row-ok : (names : List ℕ) (name kind low high : ℕ) → name < 16777216 → isMarked names name ≡ true → constOk names kind low high ≡ true → rowOk names (constRow name kind low high) ≡ true
 unfolding rowOk kindOk wordsOk wordOk
 const-row-ok names name kind low high h q o = rw (kind-is 132 name h, pay-is 132 name h, q, o) refl
 
@@ -128,7 +86,7 @@ pub const-again : {ws ns : List ℕ} {at : ℕ} {e : Expr} {end : ℕ} {rows : L
 unfolding constOk
 const-again {ws} {ns} {at} {e} {end} {rows} W C s {v} q name n =
     let r : RowValue (length ns) v = subst (RowFold (length ns)) q (const-row {n = strings ns} W C s) in
-    const-row-ok ns name (literalKind v) (lowOf v) (highOf v) (n .fits) (n .named) (T-true _ (row-rule (length ns) v r))
+    const-row-ok ns name (literalKind v) (lowOf v) (highOf v) (n .fits) (n .named) (is-true _ (row-rule (length ns) v r))
 
 -- ---- rows stay such
 

@@ -5,7 +5,7 @@ use mathlib.Core.Path.{_≡_, refl, sym, ap, subst, _∙_}
 use mathlib.Core.Bool.{Bool, true, false, not, _&&_, _||_}
 use mathlib.Core.List.{List, [], _∷_}
 use mathlib.Core.Option.{Option, none, some}
-use lib.Dec.{eqb, lit<}
+use lib.Dec.{eqb}
 use lib.ListN.{length, getD}
 use borrow.Author.Tests.{eq-eqb, ne-eqb, not-true, not-false}
 use Rattle.words.specs.Word.{pick, payOf}
@@ -25,9 +25,11 @@ use Rattle.steps.specs.Compose.{Stays, notes-does, rows-does, nothing-does, sam
 use Rattle.steps.specs.RowSteps.{rows-each-none, rows-each-next}
 use Rattle.collect.specs.Diagnostics.{suffixDiffers, undefinedType, declaredTwice, noDimension, otherRank, dimSharedInside}
 use Rattle.collect.specs.Seen.{Seen, see}
-use Rattle.collect.specs.Collect.{given, lastOf, disagrees, isRecord, isSome, anySome, member, differs, undefined, declaredType, redeclared, declaredArray, declared, sharedAll, dimShared}
+use Rattle.lookup.specs.Builtins.{isSome}
+use Rattle.collect.specs.Collect.{given, lastOf, disagrees, isRecord, anySome, member, differs, undefined, declaredAs, redeclared, declaredArray, declared, sharedAll, dimShared}
 use Rattle.parts.specs.Parts.{NameAt}
 use Rattle.parts.specs.Names.{name-at}
+use Rattle.parts.proofs.Types.{head-some}
 use Rattle.parts.specs.Over.{items-over}
 use Rattle.parts.specs.Turns.{RowAt, Turn, turn-start, turn-row, turn-next, turn-end, list-all}
 use Rattle.dims.specs.declared.Decl.{Decl}
@@ -57,14 +59,6 @@ asking-nothing (stopped k) = refl
 
 -- ---- a type
 
-head-some : (t : TypeRef) → 0 < head t
-head-some Integer = lit< tt
-head-some Long = lit< tt
-head-some Single = lit< tt
-head-some Double = lit< tt
-head-some (FixedString n) = lit< tt
-head-some (Record x) = lit< tt
-
 abbrev undefinedIn : ℕ → ℕ → List Row → Bool
 undefinedIn h a rows = eqb h 45 && not (has rows 130 a 0)
 
@@ -87,8 +81,8 @@ module _ (bytes ends erased : List ℕ) where
       → ((rows : List Row) → Holds rows (s₁ .rows) b → t₂ ≡ undefinedIn (head ty) (arg ty) rows) → Notes (noting t₂ (undefinedType line (arg ty))) s₁ s₂ d₁ d₂
       → ((rows : List Row) → Holds rows (s₂ .rows) b → t₃ ≡ againIn is-redim scope name rows) → Notes (noting t₃ (declaredTwice line name)) s₂ s₃ d₂ d₃
       → Rows (entering (typedVarRow name scope (head ty) (arg ty))) s₃ r b b′
-      → Does (λ N D. declaredType (given (some N) (some D) bytes ends erased) scope line is-redim name (some ty)) s r b d b′ d₃
-  unfolding declaredType differs noting entering
+      → Does (λ N D. declaredAs (given (some N) (some D) bytes ends erased) scope line is-redim name (some ty)) s r b d b′ d₃
+  unfolding declaredAs differs noting entering
   typed-does scope line is-redim name ty {s} {s₁} {s₂} {s₃} {r} {b} {d} {d₁} {d₂} {d₃} fit t₁ t₂ t₃ e₁ F₁ e₂ F₂ e₃ F₃ G =
       let one = subst (λ (t : Bool). Does (noting t (suffixDiffers line name)) s s₁ b d b d₁) e₁ (notes-does F₁ b (fit .0)) in
       let two = same (λ N D. undefined (given (some N) (some D) bytes ends erased) ty (λ (r : ℕ). undefinedType line r)) (undefined-is line ty)
@@ -98,10 +92,10 @@ module _ (bytes ends erased : List ℕ) where
 
 module _ (bytes ends : List ℕ) (scope line : ℕ) (is-redim : Bool) (v : Decl) where
   pub type-none : v .head ≡ 0 → {s : Counts} {b d : List ℕ} → Fit s (length b) (length d) → DeclaresType bytes ends scope line is-redim v s s b d b d
-  unfolding declaredType
+  unfolding declaredAs
   type-none e {s} {b} {d} fit = record { fit = fit; does = λ erased x I. go erased (x .name) (x .ty) (I .head ∙ e) }
     where
-      go : (erased : List ℕ) (name : ℕ) (o : Option TypeRef) → headOf o ≡ 0 → Does (λ N D. declaredType (given (some N) (some D) bytes ends erased) scope line is-redim name o) s s b d b d
+      go : (erased : List ℕ) (name : ℕ) (o : Option TypeRef) → headOf o ≡ 0 → Does (λ N D. declaredAs (given (some N) (some D) bytes ends erased) scope line is-redim name o) s s b d b d
       go erased name none h = nothing-does fit
       go erased name (some ty) h = absurd (omega (arith, head-some ty))
 
@@ -113,11 +107,11 @@ module _ (bytes ends : List ℕ) (scope line : ℕ) (is-redim : Bool) (v : Decl)
       → DeclaresType bytes ends scope line is-redim v s r b d b′ d₃
   type-some z {s} {s₁} {s₂} {s₃} {r} {b} {d} {d₁} {d₂} {d₃} {b′} fit {t₁} {t₂} {t₃} e₁ F₁ e₂ F₂ e₃ F₃ G = record {
     fit = (G .fit, subst (λ (n : ℕ). n * noteWidth ≤ length d₃) (sym (G .kept)) (F₃ .fit));
-    does = λ erased x I. subst (λ (n : ℕ). Does (λ N D. declaredType (given (some N) (some D) bytes ends erased) scope line is-redim n (x .ty)) s r b d b′ d₃) (sym (I .name)) (go erased (x .ty) (I .head) (I .arg));
+    does = λ erased x I. subst (λ (n : ℕ). Does (λ N D. declaredAs (given (some N) (some D) bytes ends erased) scope line is-redim n (x .ty)) s r b d b′ d₃) (sym (I .name)) (go erased (x .ty) (I .head) (I .arg));
   }
     where
       go : (erased : List ℕ) (o : Option TypeRef) → headOf o ≡ v .head → argOf o ≡ v .arg
-          → Does (λ N D. declaredType (given (some N) (some D) bytes ends erased) scope line is-redim (v .name) o) s r b d b′ d₃
+          → Does (λ N D. declaredAs (given (some N) (some D) bytes ends erased) scope line is-redim (v .name) o) s r b d b′ d₃
       go erased none h a = absurd (z (sym h))
       go erased (some ty) h a =
           typed-does bytes ends erased scope line is-redim (v .name) ty fit t₁ t₂ t₃

@@ -18,7 +18,8 @@ use Rattle.tree.specs.Stands.{Stands, SomeTree}
 use Rattle.skip.specs.Shape.{SomeExpr}
 use Rattle.views.specs.View.{optional, items, expression, expressions, lower, declarator, asType, headOf, argOf}
 use Rattle.collect.specs.Seen.{Seen, see}
-use Rattle.collect.specs.Collect.{isSome, anySome}
+use Rattle.lookup.specs.Builtins.{isSome}
+use Rattle.collect.specs.Collect.{anySome}
 use Rattle.parts.specs.declared.TypeAt.{TypeAt}
 use Rattle.parts.specs.Parts.{AsTypeIs}
 use Rattle.parts.specs.Over.{rows-length, count-over, items-over, as-over}

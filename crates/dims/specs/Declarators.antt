@@ -19,7 +19,8 @@ use Rattle.steps.specs.State.{each, when, enter}
 use Rattle.steps.specs.declared.Counts.{Counts}
 use Rattle.steps.specs.Held.{Fit, Sized, Does, Rows}
 use Rattle.collect.specs.Seen.{Seen, see}
-use Rattle.collect.specs.Collect.{given, lastOf, disagrees, isRecord, isSome, anySome, member, declaredType, declaredArray, declared, dimShared}
+use Rattle.lookup.specs.Builtins.{isSome}
+use Rattle.collect.specs.Collect.{given, lastOf, disagrees, isRecord, anySome, member, declaredAs, declaredArray, declared, dimShared}
 use Rattle.collect.specs.Code.{SomeStmt, Named}
 use Rattle.dims.specs.declared.Bound.{Bound}
 use Rattle.dims.specs.declared.Ranked.{Ranked}
@@ -105,7 +106,7 @@ declares bytes ends erased scope line is-redim preserve x N D = declared (given 
 pub record DeclaresType (bytes ends : List ℕ) (scope line : ℕ) (is-redim : Bool) (v : Decl) (s r : Counts) (b d b′ d′ : List ℕ) : Type 0 where
   pub fit : Fit r (length b′) (length d′)
   pub does : (erased : List ℕ) (x : Declarator Seen) → Is v x
-      → Does (λ N D. declaredType (given (some N) (some D) bytes ends erased) scope line is-redim (x .name) (x .ty)) s r b d b′ d′
+      → Does (λ N D. declaredAs (given (some N) (some D) bytes ends erased) scope line is-redim (x .name) (x .ty)) s r b d b′ d′
 
 pub record DeclaresArray (erased : List ℕ) (scope line : ℕ) (is-redim preserve : Bool) (v : Decl) (s r : Counts) (b d b′ d′ : List ℕ) : Type 0 where
   pub fit : Fit r (length b′) (length d′)

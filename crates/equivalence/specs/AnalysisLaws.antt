@@ -8,20 +8,17 @@ use mathlib.Core.Option.{Option}
 use native.Mathlib.Omega.{arith}
 use lib.ListN.{length, drop}
 use lib.Seq.{drop-length}
-use lib.Dec.{leb, eqb}
-use borrow.Author.Tests.{leb-true, le-leb, eqb-true, eq-eqb}
-use Rattle.words.specs.Word.{pick}
+use lib.Dec.{leb}
+use borrow.Author.Tests.{leb-true, le-leb, eq-eqb}
 use Rattle.words.specs.Told.{Told, stops, gives, after, unless}
 use Rattle.strings.specs.Table.{sound, namesOf}
 use Rattle.strings.specs.Open.{entryOf}
-use Rattle.expr.specs.Got.{Got, got, wrong, deep}
 use Rattle.expr.specs.Stands.{Wrote}
 use Rattle.tree.specs.Tree.{wordsT, depthT, Right}
-use Rattle.tree.specs.Reader.{programAt}
-use Rattle.tree.proofs.Sound.{Fine, program-sound}
 use Rattle.tree.proofs.Complete.{one-tree, clear, clearR, program-complete}
 use Rattle.reader.specs.Sized.{sizedStrings, sizedTree, sizedProgram}
 use Rattle.reader.specs.Program.{Program, wholeOf, erasedFrom, programOf, acceptedOf}
+use Rattle.reader.specs.Whole.{program-whole}
 use Rattle.table.specs.Rows.{Row}
 use Rattle.steps.specs.State.{State, running, stopped}
 use Rattle.collect.specs.Collect.{given, analysed}
@@ -46,16 +43,6 @@ unfolding after
 after-gives (stops n p) k e = absurd (stops-gives e)
 after-gives (gives x) k e = (x, refl, e)
 
-whole-gives : {A : Type 0} (ws : List ℕ) (g : Got A) {p : A} → wholeOf ws g ≡ gives p → g ≡ got p (length ws)
-unfolding wholeOf
-whole-gives ws (got a m) {p} e = go (eqb m (length ws)) refl e
-  where
-    go : (b : Bool) → eqb m (length ws) ≡ b → pick b (gives a) (stops 2 m) ≡ gives p → got a m ≡ got p (length ws)
-    go true h e = let q : m ≡ length ws = eqb-true m (length ws) h in let r : a ≡ p = cc in rw (q, r) refl
-    go false h e = absurd (stops-gives e)
-whole-gives ws (wrong p) e = absurd (stops-gives e)
-whole-gives ws (deep p) e = absurd (stops-gives e)
-
 -- what is read is these words' tree
 pub record Reads (bytes ends words : List ℕ) (p : Program) : Type 0 where
   pub are : wordsT p ≡ words
@@ -66,12 +53,10 @@ all-there : (xs : List ℕ) → Wrote xs 0 xs (length xs)
 all-there xs = record { span = omega arith; inside = omega arith; is = sym (append-nil xs) ∙ ap (λ (l : List ℕ). xs ++ l) (sym (drop-length xs)) }
 
 pub reads : (bytes ends words : List ℕ) (p : Program) → programOf (namesOf bytes ends) words ≡ gives p → Reads bytes ends words p
-unfolding programOf
 reads bytes ends words p e =
-    let ns = namesOf bytes ends in
-    let f = program-sound words ns (length ns) p (length words) (whole-gives words (programAt words ns (length ns)) e) in
-    let w : words ≡ wordsT p ++ drop (length words) words = f .wrote .is in
-    record { are = sym (w ∙ ap (λ (l : List ℕ). wordsT p ++ l) (drop-length words) ∙ append-nil (wordsT p)); right = f .valid; shallow = f .deep }
+    let f = program-whole (namesOf bytes ends) words p e in
+    let w : words ≡ wordsT p ++ drop (length words) words = f .stands .wrote .is in
+    record { are = sym (w ∙ ap (λ (l : List ℕ). wordsT p ++ l) (drop-length words) ∙ append-nil (wordsT p)); right = f .stands .valid; shallow = f .shallow }
 
 -- and that tree is read from them
 pub read-back : (bytes ends : List ℕ) (p : Program) → Right (namesOf bytes ends) (length (namesOf bytes ends)) p → depthT p ≤ 100 → programOf (namesOf bytes ends) (wordsT p) ≡ gives p

@@ -101,10 +101,10 @@ module _ (string : ℕ → List ℕ) (erased : List ℕ) where
   items-k static scope line is =
       pick-k (push-k _) (then-k (each-k (λ i. item-k static scope i) is) (when-k static (each-k (λ i. itemType-k scope i) is))) (eqb scope 0)
 
-  declaredType-k : (scope line : ℕ) (is-redim : Bool) (name : ℕ) (t : Option TypeRef) → Keeps (λ r d. C.declaredType (G r d) scope line is-redim name t) (C.declaredType G₀ scope line is-redim name t)
-  unfolding C.declaredType C.differs
-  declaredType-k scope line is-redim name none = nothing-k
-  declaredType-k scope line is-redim name (some ty) =
+  declaredAs-k : (scope line : ℕ) (is-redim : Bool) (name : ℕ) (t : Option TypeRef) → Keeps (λ r d. C.declaredAs (G r d) scope line is-redim name t) (C.declaredAs G₀ scope line is-redim name t)
+  unfolding C.declaredAs C.differs
+  declaredAs-k scope line is-redim name none = nothing-k
+  declaredAs-k scope line is-redim name (some ty) =
       then-k (then-k (then-k
       (when-k (not (C.isRecord ty) && C.disagrees (C.lastOf (string name)) ty) (push-k _))
       (undefined-k ty _))
@@ -128,7 +128,7 @@ module _ (string : ℕ → List ℕ) (erased : List ℕ) where
 
   declared-k : {E : Type 0} (scope line : ℕ) (is-redim preserve : Bool) (d : Declarator E) → Keeps (λ r n. C.declared (G r n) scope line is-redim preserve d) (C.declared G₀ scope line is-redim preserve d)
   unfolding C.declared
-  declared-k scope line is-redim preserve d = then-k (declaredType-k scope line is-redim (d .name) (d .ty)) (declaredArray-k scope line is-redim preserve (d .name) (d .lowers) (d .dimensions))
+  declared-k scope line is-redim preserve d = then-k (declaredAs-k scope line is-redim (d .name) (d .ty)) (declaredArray-k scope line is-redim preserve (d .name) (d .lowers) (d .dimensions))
 
   sharedAll-k : {E : Type 0} (d : Declarator E) → Keeps (λ r n. C.sharedAll (G r n) d) (C.sharedAll G₀ d)
   unfolding C.sharedAll

@@ -2,20 +2,18 @@
 use Prim.Native.Nat.{ℕ}
 use mathlib.Core.Path.{_≡_, refl, sym, ap, _∙_, subst}
 use mathlib.Core.List.{List}
-use native.Mathlib.Omega.{arith}
 use Rattle.words.specs.Sizes.{maxDepth}
-use Rattle.words.specs.Told.{Told, stops, gives, after}
+use Rattle.words.specs.Told.{Told, gives, after}
 use Rattle.words.specs.Refusals.{refused}
 use Rattle.words.specs.declared.Refusal.{Refusal}
 use Rattle.words.specs.declared.Refusal.the-variants.{Word, Depth, Rows as RowsRefused}
-use Rattle.expr.specs.Expr.{Expr}
-use Rattle.expr.specs.Got.{Got, got, wrong, deep}
 use Rattle.expr.specs.Reader.{exprAt}
 use Rattle.expr.specs.Answer.{stepOf}
 use Rattle.expr.specs.declared.Cursor.{Cursor}
 use Rattle.expr.specs.declared.Step.{Step}
 use Rattle.expr.specs.declared.Step.the-variants.{Read, Wrong, Deep}
 use Rattle.expr.proofs.Complete.{stands}
+use Rattle.reader.specs.Answered.{answer-read, answer-wrong, answer-deep}
 use Rattle.table.specs.Rows.{Row, rowsOf}
 use Rattle.lent.specs.Lent.{checked, told as toldRows, lentRows, Lent}
 use Rattle.lent.specs.LentLaws.{checked-sound}
@@ -52,31 +50,15 @@ module _ (ns ws : List ℕ) (at : ℕ) (buf : List ℕ) where
   read-is R = ap (readUnder ns buf) (R .reads)
 
   pub was-read : {s : Step} {c : Cursor} → s ≡ stepOf (exprAt ws (strings ns) maxDepth at) → s ≡ Read c → WasRead ns ws at
-  unfolding stepOf
-  was-read {s} {c} e q = go (exprAt ws (strings ns) maxDepth at) refl (sym q ∙ e)
-    where
-      go : (g : Got Expr) → exprAt ws (strings ns) maxDepth at ≡ g → Read c ≡ stepOf g → WasRead ns ws at
-      go (got x m) p f = record { expr = x; end = m; reads = p }
-      go (wrong p) q f = let z : _≡_ {A = ℕ} 0 1 = cc in absurd (omega arith)
-      go (deep p) q f = let z : _≡_ {A = ℕ} 0 1 = cc in absurd (omega arith)
+  was-read {c = c} e q = let r = answer-read (exprAt ws (strings ns) maxDepth at) e q in record { expr = r .tree; end = c .at; reads = r .is }
 
   pub wrong-is : {s : Step} {p : ℕ} → s ≡ stepOf (exprAt ws (strings ns) maxDepth at) → s ≡ Wrong p → refused (Word p) ≡ evalOf ns ws at buf
-  unfolding stepOf evalOf readUnder refused
-  wrong-is {s} {p} e q = go (exprAt ws (strings ns) maxDepth at) (sym q ∙ e)
-    where
-      go : (g : Got Expr) → Wrong p ≡ stepOf g → stops 2 p ≡ readUnder ns buf g
-      go (got x m) f = let z : _≡_ {A = ℕ} 0 1 = cc in absurd (omega arith)
-      go (wrong x) f = let r : p ≡ x = cc in ap (stops 2) r
-      go (deep x) f = let z : _≡_ {A = ℕ} 0 1 = cc in absurd (omega arith)
+  unfolding evalOf readUnder refused
+  wrong-is e q = rw (answer-wrong (exprAt ws (strings ns) maxDepth at) e q) refl
 
   pub deep-is : {s : Step} {p : ℕ} → s ≡ stepOf (exprAt ws (strings ns) maxDepth at) → s ≡ Deep p → refused (Depth p) ≡ evalOf ns ws at buf
-  unfolding stepOf evalOf readUnder refused
-  deep-is {s} {p} e q = go (exprAt ws (strings ns) maxDepth at) (sym q ∙ e)
-    where
-      go : (g : Got Expr) → Deep p ≡ stepOf g → stops 3 p ≡ readUnder ns buf g
-      go (got x m) f = let z : _≡_ {A = ℕ} 0 1 = cc in absurd (omega arith)
-      go (wrong x) f = let z : _≡_ {A = ℕ} 0 1 = cc in absurd (omega arith)
-      go (deep x) f = let r : p ≡ x = cc in ap (stops 3) r
+  unfolding evalOf readUnder refused
+  deep-is e q = rw (answer-deep (exprAt ws (strings ns) maxDepth at) e q) refl
 
   -- ---- under the rows
 

@@ -20,7 +20,7 @@ use Rattle.views.specs.View.{View, Label, LabelName, OptionBase, Const, view}
 use Rattle.steps.specs.State.{_⨾_, asking, when, enter, push}
 use Rattle.steps.specs.declared.Counts.{Counts}
 use Rattle.steps.specs.Held.{Fit, Does, Notes, Rows, entering, pushing, noting}
-use Rattle.steps.specs.Compose.{Stays, then, asked, rows-does, notes-does, stays-then, stays-when, stays-pick, stays-enter, stays-push}
+use Rattle.steps.specs.Compose.{Stays, then, asked, rows-does, notes-does, stays-then, stays-when, stays-pick, stays-enter, stays-push, stopped-does}
 use Rattle.fold.specs.Value.{literalKind, lowOf, highOf}
 use Rattle.fold.specs.declared.Fold.{Fold}
 use Rattle.fold.specs.declared.Fold.the-variants.{Is, Overflow, NotConstant}
@@ -33,7 +33,6 @@ use Rattle.collect.specs.Seen.{Seen, see}
 use Rattle.collect.specs.Collect.{given, statement, anyArray, constOf, label, labelName, optionBase, folded, const}
 use Rattle.collect.specs.Code.{SomeStmt, CollectsAny}
 use Rattle.labels.specs.Labels.{ConstAt, sayBase}
-use Rattle.labels.specs.Laws.{stopped-does}
 
 -- ---- a statement whose first field is a plain word: its line, and the word's payload
 

@@ -1,54 +1,25 @@
 -- A state of collecting whose rows are a lent table's, and the few things that collecting does to a state, as steps that keep it so. Assumes nothing.
-use Prim.Native.Nat.{ℕ, suc, _≤_, _<_, zero-le}
-use mathlib.Core.Path.{_≡_, refl, subst}
+use Prim.Native.Nat.{ℕ, _≤_, _<_, zero-le}
+use mathlib.Core.Path.{_≡_, refl}
 use mathlib.Core.Bool.{Bool, true, false}
-use mathlib.Core.Logic.{_⊎_, inl, inr}
 use mathlib.Core.List.{List, [], _∷_, _++_}
 use mathlib.Core.Option.{Option, some}
-use native.Mathlib.Omega.{arith}
-use lib.Dec.{eqb}
 use lib.ListN.{length, getD}
-use borrow.Author.Tests.{eqb-true}
 use Rattle.words.specs.Word.{kindOf, pick}
 use Rattle.table.specs.Rows.{Row, width, key, find, insert, insertAll, remove, replace, Table, Holds}
-use Rattle.table.specs.Laws.{order₃, zone, insert-lt, insert-eq, insert-gt, remove-low, remove-in, remove-high, insert-table, remove-table}
+use Rattle.table.specs.Laws.{insert-table, remove-table}
+use Rattle.table.specs.Each.{Each, each-insert, each-remove, each-find, find-key, wide-each}
+use Rattle.table.specs.Images.{table-wide}
 use Rattle.lent.specs.Rules.{rowOk}
 use Rattle.lent.specs.Lent.{AllOk, Lent}
-use Rattle.lent.specs.Valid.{all-insert, all-remove}
 use Rattle.consteval.specs.Evaluates.{Consts}
 use Rattle.consteval.specs.RowLaws.{consts-none, consts-other, consts-remove}
 use Rattle.steps.specs.State.{State, running, stopped, Step, nothing, when, asking, each, stop, fits, change, enter, push}
 use Rattle.steps.specs.Refused.{zeroing}
 
 -- word 1 of each row has 32 bits
-unfoldable pub Narrow : List Row → Type 0
-Narrow [] = Unit {0}
-Narrow (r ∷ rs) = (getD r 1 0 < 4294967296) × Narrow rs
-
-narrow-insert : (r : Row) (rows : List Row) → getD r 1 0 < 4294967296 → Narrow rows → Narrow (insert r rows)
-unfolding Narrow insert
-narrow-insert r [] o a = (o, tt)
-narrow-insert r (x ∷ xs) o a = go (order₃ (key x) (key r)) (narrow-insert r xs o (a .1))
-  where
-    go : (key x < key r) ⊎ ((key x ≡ key r) ⊎ (key r < key x)) → Narrow (insert r xs) → Narrow (insert r (x ∷ xs))
-    go (inl q) ih = rw (insert-lt r x xs q) (a .0, ih)
-    go (inr (inl q)) ih = rw (insert-eq r x xs q) (o, a .1)
-    go (inr (inr q)) ih = rw (insert-gt r x xs q) (o, a)
-
-narrow-remove : (lo hi : ℕ) (rows : List Row) → lo ≤ hi → Narrow rows → Narrow (remove lo hi rows)
-unfolding Narrow remove
-narrow-remove lo hi [] h a = tt
-narrow-remove lo hi (x ∷ xs) h a = go (narrow-remove lo hi xs h (a .1)) (zone lo hi (key x))
-  where
-    go : Narrow (remove lo hi xs) → (key x < lo) ⊎ (((lo ≤ key x) × (key x < hi)) ⊎ (hi ≤ key x)) → Narrow (remove lo hi (x ∷ xs))
-    go ih (inl q) = rw (remove-low lo hi x xs q) (a .0, ih)
-    go ih (inr (inl q)) = rw (remove-in lo hi x xs (q .0) (q .1)) ih
-    go ih (inr (inr q)) = rw (remove-high lo hi x xs h q) (a .0, ih)
-
--- each of a list
-unfoldable pub Each : {A : Type 0} → (A → Type 0) → List A → Type 0
-Each P [] = Unit {0}
-Each P (x ∷ xs) = P x × Each P xs
+abbrev pub Narrow : List Row → Type 0
+Narrow rows = Each (λ r. getD r 1 0 < 4294967296) rows
 
 module _ (ns : List ℕ) (n : ℕ) where
   -- ---- rows: they rise, each is in order by itself, each CONST holds a value; or the run stopped with a number that leaves zeros
@@ -70,7 +41,7 @@ module _ (ns : List ℕ) (n : ℕ) where
     pub consts : (rows : List Row) → Consts n rows → Consts n (insert r rows)
 
   pub no-rows : GoodRows []
-  unfolding AllOk Narrow
+  unfolding Each
   no-rows = record { table = tt; ok = tt; narrow = tt; consts = consts-none n }
 
   -- a row that is no CONST
@@ -81,8 +52,8 @@ module _ (ns : List ℕ) (n : ℕ) where
   insert-good r rows E g =
       record {
         table = insert-table 0 r rows (g .table) (E .wide) zero-le;
-        ok = all-insert ns r rows (E .ok) (g .ok);
-        narrow = narrow-insert r rows (E .narrow) (g .narrow);
+        ok = each-insert (λ r. rowOk ns r ≡ true) r rows (E .ok) (g .ok);
+        narrow = each-insert (λ r. getD r 1 0 < 4294967296) r rows (E .narrow) (g .narrow);
         consts = E .consts rows (g .consts);
       }
 
@@ -96,8 +67,8 @@ module _ (ns : List ℕ) (n : ℕ) where
   replace-good lo hi new rows h E g =
       insert-all-good new (remove lo hi rows) E (record {
         table = remove-table 0 lo hi rows h (g .table);
-        ok = all-remove ns lo hi rows h (g .ok);
-        narrow = narrow-remove lo hi rows h (g .narrow);
+        ok = each-remove (λ r. rowOk ns r ≡ true) lo hi rows h (g .ok);
+        narrow = each-remove (λ r. getD r 1 0 < 4294967296) lo hi rows h (g .narrow);
         consts = consts-remove (g .consts) lo hi h;
       })
 
@@ -177,21 +148,14 @@ module _ (ns : List ℕ) (n : ℕ) where
     pub ok : rowOk ns r ≡ true
     pub narrow : getD r 1 0 < 4294967296
 
-  found-in : (b k : ℕ) (rows : List Row) (r : Row) → Table b rows → AllOk ns rows → Narrow rows → find k rows ≡ some r → Found k r
-  unfolding find AllOk Narrow
-  found-in b k [] r t a w e =
-      let z : _≡_ {A = ℕ} 0 1 = cc in
-      absurd (omega arith)
-  found-in b k (x ∷ xs) r t a w e = go (eqb (key x) k) refl e (found-in (suc (key x)) k xs r (t .2) (a .1) (w .1))
-    where
-      go : (q : Bool) → eqb (key x) k ≡ q → pick q (some x) (find k xs) ≡ some r → (find k xs ≡ some r → Found k r) → Found k r
-      go true q f ih =
-          let p : x ≡ r = cc in
-          subst (Found k) p (record { is = eqb-true (key x) k q; wide = t .0; ok = a .0; narrow = w .0 })
-      go false q f ih = ih f
-
   pub found : (k : ℕ) (rows : List Row) (r : Row) → GoodRows rows → find k rows ≡ some r → Found k r
-  found k rows r g e = found-in 0 k rows r (g .table) (g .ok) (g .narrow) e
+  found k rows r g e =
+      record {
+        is = find-key k rows r e;
+        wide = each-find (λ r. length r ≡ width) k rows r (wide-each width rows (table-wide 0 rows (g .table))) e;
+        ok = each-find (λ r. rowOk ns r ≡ true) k rows r (g .ok) e;
+        narrow = each-find (λ r. getD r 1 0 < 4294967296) k rows r (g .narrow) e;
+      }
 
   -- ---- what it is for
 

@@ -1,17 +1,16 @@
 -- Each definition of `collect`, in their order, keeps the rows such as a lent table may have them; so the rows that collecting gives pass the rule of a
 -- lent table, and const_eval may be asked under them. Assumes nothing.
 use Prim.Native.Nat.{ℕ, zero, suc, _+_, _*_, _%_, _≤_, _<_}
-use mathlib.Core.Path.{_≡_, refl, sym, ap, _∙_, subst}
+use mathlib.Core.Path.{_≡_, refl, sym, _∙_, subst}
 use mathlib.Core.Bool.{Bool, true, false, _&&_, _||_, not, false≢true}
-use mathlib.Core.Logic.{_⊎_, inl, inr}
 use mathlib.Core.List.{List, [], _∷_, _++_}
 use mathlib.Core.Option.{Option, none, some}
 use native.Mathlib.Omega.{arith}
-use native.Mathlib.Nat.{le-of-suc-le-suc, not-suc-le-zero}
-use lib.Dec.{T, eqb, leb, ltb}
+use lib.Dec.{eqb, leb}
+use lib.Ieee.Bits.{is-true}
 use lib.ListN.{length, drop, getD, length-append, length-drop}
 use lib.Seq.{getD-drop}
-use borrow.Author.Tests.{leb-true, leb-false, lt-ltb, ltb-true, ne-eqb, eqb-false}
+use borrow.Author.Tests.{leb-true, leb-false, ltb-true, eqb-false}
 use Rattle.words.specs.Word.{kindOf, payOf, wordOf, pick}
 use Rattle.words.specs.Told.{gives}
 use Rattle.expr.specs.Expr.{Expr, Named}
@@ -26,30 +25,27 @@ use Rattle.fold.specs.FoldLaws.{RowFold}
 use Rattle.fold.specs.declared.Fold.{Fold}
 use Rattle.fold.specs.declared.Fold.the-variants.{Is, Overflow, NotConstant}
 use Rattle.fold.specs.declared.Value.{Value}
-use Rattle.table.specs.Rows.{Row, width, keyOf, key, find, image, Holds}
+use Rattle.table.specs.Rows.{Row, width, keyOf, key, find, image}
 use Rattle.table.specs.Images.{holds-image}
-use Rattle.entries.specs.Entries.{entryKey, rowWord, has, lineRow, labelRow, typeRow, fieldRow, constRow, arrayRow, typedVarRow, procRow, paramRow, dimSharedRow, sharedRow, staticRow, staticProcRow, defFnRow, unrankedRow, optionBaseRow, bit, replaceType, replaceProc}
-use Rattle.lent.specs.Rules.{rules, rowOk, kindOk, wordsOk, wordOk, constOk, scopeOk, typeOk}
+use Rattle.entries.specs.Entries.{entryKey, rowWord, has, lineRow, labelRow, typeRow, fieldRow, arrayRow, typedVarRow, procRow, paramRow, dimSharedRow, sharedRow, staticRow, staticProcRow, defFnRow, unrankedRow, optionBaseRow, bit}
+use Rattle.lent.specs.Rules.{rules, rowOk, kindOk, wordOk, constOk}
 use Rattle.lent.specs.Lent.{Lent, checked, lentRows}
 use Rattle.lent.specs.LentLaws.{checked-complete, lent-rows}
 use Rattle.lent.specs.declared.Checked.the-variants.{Rows}
 use Rattle.lent.specs.Valid.{itemOk, line-ok, label-ok, type-ok, field-ok, const-ok, array-ok, typed-var-ok, proc-ok, param-ok, dim-shared-ok, shared-ok, static-ok, static-proc-ok, def-fn-ok, unranked-ok, option-base-ok}
-use Rattle.consteval.specs.Evaluates.{Consts}
 use Rattle.consteval.specs.EvalLaws.{Words32}
 use Rattle.consteval.specs.RowLaws.{consts-enter}
 use Rattle.subscripts.specs.Subscripts.{indexed, subscriptCount}
-use Rattle.steps.specs.State.{State, running, stopped, Step, each}
+use Rattle.steps.specs.State.{running, Step, each}
 use Rattle.lookup.specs.Builtins.{isBuiltin}
 use Rattle.collect.specs.Seen.{Seen, see}
 use Rattle.collect.specs.Collect as C
 use Rattle.collect.specs.Collect.{Given, Proc, FieldInfo, RecordInfo, withField, rejected, fieldRows, paramRows, marked, constOf}
-use Rattle.lawful.specs.Good.{Each, GoodRows, Good, Entry, Found, no-rows, other, replace-good, Keeps, push-k, change-k, enter-k, nothing-k, stop-k, then-k, pick-k, when-k, asking-k, each-k, found, good-lent}
+use Rattle.table.specs.Each.{Each}
+use Rattle.lent.specs.RuleLaws.{words-ok-at}
+use Rattle.lawful.specs.Good.{GoodRows, Good, Entry, no-rows, other, replace-good, Keeps, push-k, change-k, enter-k, nothing-k, stop-k, then-k, pick-k, when-k, asking-k, each-k, found, good-lent}
 use Rattle.lawful.specs.Uses.{Small}
 use Rattle.lawful.specs.Views.{Folds, Known, stands-known, Scope, TypeFine, OptFine, FineField, FineItem, FineParam, FineDecl, FineParams, FineView, type-or-none, own-scope, module-scope, inner-scope, view-fine}
-
-T-true : (b : Bool) → T b → b ≡ true
-T-true true t = refl
-T-true false t = absurd t
 
 -- the kind of a row's first word is another than a CONST's
 no-const : (k x : ℕ) → eqb k 132 ≡ false → x < 16777216 → kindOf (wordOf k x) ≡ 132 → ⊥
@@ -98,23 +94,9 @@ marked-ok false m h = go (eqb (m % 2) 1) refl
 
 -- ---- the word under its rule
 
-pick-yes : (b c : Bool) → pick b c false ≡ true → (b ≡ true) × (c ≡ true)
-pick-yes true c e = (refl, e)
-pick-yes false c e = absurd (false≢true e)
-
 not-first : (b : Bool) {c : Bool} → pick b false c ≡ true → c ≡ true
 not-first true e = absurd (false≢true e)
 not-first false e = e
-
--- word j under its rule
-words-ok-at : (ns rs ws : List ℕ) (j : ℕ) → wordsOk ns rs ws ≡ true → j < length ws → wordOk ns (getD rs j 0) (getD ws j 0) (getD ws (suc j) 0) (getD ws (suc (suc j)) 0) ≡ true
-unfolding wordsOk
-words-ok-at ns rs [] j e h = absurd (not-suc-le-zero h)
-words-ok-at ns rs (w ∷ ws) zero e h = pick-yes (wordOk ns (getD rs 0 0) w (getD ws 0 0) (getD ws 1 0)) _ e .0
-words-ok-at ns rs (w ∷ ws) (suc j) e h =
-    let t = words-ok-at ns (drop 1 rs) ws j (pick-yes (wordOk ns (getD rs 0 0) w (getD ws 0 0) (getD ws 1 0)) _ e .1) (le-of-suc-le-suc h) in
-    let p : 1 + j ≡ suc j = omega arith in
-    subst (λ (x : ℕ). wordOk ns x (getD ws j 0) (getD ws (suc j) 0) (getD ws (suc (suc j)) 0) ≡ true) (getD-drop 1 rs j 0 ∙ ap (λ (i : ℕ). getD rs i 0) p) t
 
 -- the mark of an item that is there
 module _ (ns : List ℕ) (r : Row) (w : length r ≡ width) (o : rowOk ns r ≡ true) where
@@ -171,7 +153,7 @@ module _ (ns : List ℕ) (n : ℕ) where
     const-e v l r =
         record {
           wide = refl;
-          ok = const-ok ns x (h .fits) (h .named) (literalKind v) (lowOf v) (highOf v) (rw l (T-true _ (row-rule n v r)));
+          ok = const-ok ns x (h .fits) (h .named) (literalKind v) (lowOf v) (highOf v) (rw l (is-true _ (row-rule n v r)));
           narrow = omega arith;
           consts = λ rows C. consts-enter C x v r;
         }
@@ -343,10 +325,10 @@ module _ (ns : List ℕ) (n : ℕ) where
     items-k static scope line is s a =
         pick-k ns n (eqb scope 0) (λ e. error-k _) (λ e. then-k ns n (each-k ns n (λ i q. item-k static scope i s q) is a) (when-k ns n static (each-k ns n (λ i q. itemType-k scope i s q) is a)))
 
-    declaredType-k : (scope line : ℕ) (is-redim : Bool) (x : ℕ) (t : Option TypeRef) → Scope ns n scope → Named ns x → OptFine ns n t → Keeps ns n (C.declaredType G scope line is-redim x t)
-    unfolding C.declaredType
-    declaredType-k scope line is-redim x none s h q = nothing-k ns n
-    declaredType-k scope line is-redim x (some t) s h q =
+    declaredAs-k : (scope line : ℕ) (is-redim : Bool) (x : ℕ) (t : Option TypeRef) → Scope ns n scope → Named ns x → OptFine ns n t → Keeps ns n (C.declaredAs G scope line is-redim x t)
+    unfolding C.declaredAs
+    declaredAs-k scope line is-redim x none s h q = nothing-k ns n
+    declaredAs-k scope line is-redim x (some t) s h q =
         then-k ns n (then-k ns n (then-k ns n
         (when-k ns n (not (C.isRecord t) && C.differs G x t) (error-k _))
         (undefined-k t _))
@@ -372,7 +354,7 @@ module _ (ns : List ℕ) (n : ℕ) where
     declared-k : (scope line : ℕ) (is-redim preserve : Bool) (d : Declarator Seen) → line < 16777216 → Scope ns n scope → FineDecl ns n d → Keeps ns n (C.declared G scope line is-redim preserve d)
     unfolding C.declared
     declared-k scope line is-redim preserve d l s a =
-        then-k ns n (declaredType-k scope line is-redim (d .name) (d .ty) s (a .name) (a .ty)) (declaredArray-k scope line is-redim preserve (d .name) (d .lowers) (d .dimensions) l s (a .name) (a .dims))
+        then-k ns n (declaredAs-k scope line is-redim (d .name) (d .ty) s (a .name) (a .ty)) (declaredArray-k scope line is-redim preserve (d .name) (d .lowers) (d .dimensions) l s (a .name) (a .dims))
 
     sharedAll-k : (d : Declarator Seen) → FineDecl ns n d → Keeps ns n (C.sharedAll G d)
     unfolding C.sharedAll

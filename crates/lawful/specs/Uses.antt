@@ -1,6 +1,6 @@
 -- How many subscripts a body gives a name is below 16,777,216, for so are the counts of lists. By induction on the tree. Assumes nothing.
-use Prim.Native.Nat.{ℕ, zero, suc, _+_, _<_}
-use mathlib.Core.Path.{_≡_, refl, sym, ap, subst}
+use Prim.Native.Nat.{ℕ, zero, suc, _<_}
+use mathlib.Core.Path.{_≡_, refl, sym, subst}
 use mathlib.Core.Bool.{Bool, true, false}
 use mathlib.Core.List.{List, [], _∷_, _++_}
 use mathlib.Core.Option.{Option, none as nothing, some}
@@ -12,10 +12,10 @@ use Rattle.expr.specs.Expr.{Expr, Exprs, Lit, Var, Elem, Unary, Binary, Call, F
 use Rattle.tree.specs.Sorts.{Sorts, _&_, nil, opt, exprs, LValue as LValueRow, many as manyOf, Kind, sorts, label, labelName, let′, print, input, lineInput, if, for, while, doLoop, goto, gosub, return, onGoto, onGosub, dim, declare, shared, static, redim, sub, function, call, midAssign, swap, const, exitLoop, exitProc, optionBase, typeDef, fieldAssign, data′, read, defType, beep, erase, raiseError, onError, resume, locate, color, randomize, restore, cls, selectCase, end′, stop, open′, close, width, field′, setField, getPut, lock}
 use Rattle.tree.specs.Tree.{strings, Shape, one, row, rows, Tree, word, value, Stmt, list, part, this, that, done, cons, none as noRows, more as addRow, count, Right, over}
 use Rattle.views.specs.View.{LValue, lvalue, optional, expression, expressions, items, rowsOf}
-use Rattle.views.specs.Uses.{Uses, own, plain, uses}
+use Rattle.views.specs.Uses.{own, plain, uses}
 use Rattle.subscripts.specs.Subscripts.{orElse, firstOf, subscripted, inExpr, inExprs, indexed, inLvalue, inStmt, subscriptCount}
 use Rattle.collect.specs.Seen.{Seen, see}
-use Rattle.lawful.specs.Good.{Each}
+use Rattle.table.specs.Each.{Each}
 
 -- none, or a number below 16,777,216
 abbrev pub Small : Option ℕ → Type 0

@@ -1,18 +1,17 @@
 -- What a right statement shows to collecting: names' numbers, small counts, types in order, constants that a row may hold. Assumes nothing.
 use Prim.Native.Nat.{ℕ, _+_, _-_, _<_, _≤_}
-use mathlib.Core.Path.{_≡_, refl, sym, ap, subst}
-use mathlib.Core.Bool.{Bool, true, false}
-use mathlib.Core.List.{List, [], _∷_, _++_}
+use mathlib.Core.Path.{_≡_, refl, sym, subst}
+use mathlib.Core.Bool.{true}
+use mathlib.Core.List.{List}
 use mathlib.Core.Option.{Option, none as absent, some}
 use native.Mathlib.Omega.{arith}
-use lib.Dec.{eqb}
-use lib.ListN.{length, getD}
+use lib.ListN.{length}
 use borrow.Author.Tests.{lt-ltb, ne-eqb}
-use Rattle.expr.specs.Expr.{Expr, Named, words}
+use Rattle.expr.specs.Expr.{Expr, Named}
 use Rattle.expr.specs.Stands.{Wrote}
 use Rattle.expr.proofs.Parts.{wrote-first, wrote-left, wrote-right}
 use Rattle.tree.specs.Sorts.{Sorts, nil, _&_, opt, body, named, name, many, TypeRef as TypeSort, Declarator as DeclaratorRow, Param as ParamRow, ScopeItem as ScopeRow, FieldDecl as FieldRow, Kind, sorts, label, labelName, let′, print, input, lineInput, if, for, while, doLoop, goto, gosub, return, onGoto, onGosub, dim, declare, shared, static, redim, sub, function, call, midAssign, swap, const, exitLoop, exitProc, optionBase, typeDef, fieldAssign, data′, read, defType, beep, erase, raiseError, onError, resume, locate, color, randomize, restore, cls, selectCase, end′, stop, open′, close, width, field′, setField, getPut, lock}
-use Rattle.tree.specs.Tree.{strings, Shape, one, row, rows, Tree, word, value, Stmt, list, part, this, that, done, cons, none, more, count, okL, wordsT, Right, over}
+use Rattle.tree.specs.Tree.{strings, Shape, one, row, rows, Tree, word, value, Stmt, list, part, this, that, done, cons, none, more, okL, wordsT, Right, over}
 use Rattle.tree.specs.Stands.{Stands}
 use Rattle.views.specs.View.{TypeRef, Integer, Long, Single, Double, FixedString, Record, head, arg, headOf, argOf, Declarator, Param, ScopeItem, FieldDecl, optional, rowsOf, items, typeRef, asType, declarator, param, scopeItem, fieldDecl, View, Label, LabelName, OptionBase, TypeDef, Const, Shared, Static, Dim, Redim, Sub, Function, Other, view, inner}
 use Rattle.subscripts.specs.Subscripts.{indexed, subscriptCount}
@@ -25,7 +24,7 @@ use Rattle.consteval.specs.ConstEval.{constEval}
 use Rattle.consteval.specs.Evaluates.{Consts}
 use Rattle.consteval.specs.EvalLaws.{Words32, const-row}
 use Rattle.collect.specs.Seen.{Seen, see}
-use Rattle.lawful.specs.Good.{Each}
+use Rattle.table.specs.Each.{Each}
 use Rattle.lawful.specs.Uses.{Small, length-rows, optional-small, subscripts-small}
 
 -- ---- definitions

@@ -8,7 +8,7 @@ use Prim.Native.Nat.{ℕ, zero, suc, _+_, _-_, _≤_, _<_}
 use native.Mathlib.Omega.{arith}
 use native.Mathlib.Nat.{not-suc-le-zero}
 use lib.Dec.{leb, ltb, eqb}
-use lib.ListN.{length, take, drop, getD, List·getD-append, List·getD-eq-default, length-drop}
+use lib.ListN.{length, take, drop, getD, List·getD-append, length-drop}
 use lib.Seq.{getD-at, getD-take, getD-drop, length-take-le}
 use borrow.Author.Tests.{eqb-true, ltb-true}
 use Rattle.words.specs.Word.{pick}
@@ -21,7 +21,8 @@ use Rattle.strings.specs.Open.{entryOf, Answers}
 use Rattle.strings.proofs.Laws.{marks-length, marks-all, names-length, sound-at, ends-in, name-empty}
 use Rattle.table.specs.Rows.{rowsOf}
 use Rattle.table.specs.Laws.{order, pick-false}
-use Rattle.lent.specs.Rules.{isName, scopeOk, typeOk}
+use Rattle.lent.specs.Rules.{isMarked, scopeOk, typeOk}
+use Rattle.lent.specs.RuleLaws.{name-below, scope-below}
 use Rattle.lent.specs.Lent.{checked, lentRows}
 use Rattle.lent.specs.declared.Checked.the-variants.{Bad, Rows}
 use Rattle.leaves.specs.Leaves.{admits, ruled, lastByte}
@@ -85,28 +86,11 @@ and-both false b e =
     let z : _≡_ {A = ℕ} 0 1 = cc in
     absurd (omega arith)
 
-pub name-below : (names : List ℕ) (x : ℕ) → isName names x ≡ true → x < length names
-name-below names x e = go (order x (length names))
-  where
-    go : (x < length names) ⊎ (length names ≤ x) → x < length names
-    go (inl h) = h
-    go (inr h) =
-        let one : getD names x 0 ≡ 1 = eqb-true (getD names x 0) 1 e in
-        absurd (omega (arith, one, List·getD-eq-default names 0 h))
-
-pub scope-below : (names : List ℕ) (w : ℕ) → scopeOk names w ≡ true → w ≤ length names
-unfolding scopeOk
-scope-below names w e = go (eqb w 0) refl e
-  where
-    go : (t : Bool) → eqb w 0 ≡ t → pick t true (isName names (w - 1)) ≡ true → w ≤ length names
-    go true q f = omega (arith, eqb-true w 0 q)
-    go false q f = omega (arith, name-below names (w - 1) f)
-
 arg-below : (names : List ℕ) (head arg : ℕ) → length names ≤ 1024 → typeOk names head arg ≡ true → arg < 16777216
 unfolding typeOk
 arg-below names head arg l e = go (eqb head 44) (eqb head 45) (leb 40 head) (leb head 43) e
   where
-    go : (s t u v : Bool) → pick s (ltb arg 16777216) (pick t (isName names arg) (pick u (pick v (eqb arg 0) false) false)) ≡ true → arg < 16777216
+    go : (s t u v : Bool) → pick s (ltb arg 16777216) (pick t (isMarked names arg) (pick u (pick v (eqb arg 0) false) false)) ≡ true → arg < 16777216
     go true t u v f = ltb-true arg 16777216 f
     go false true u v f = omega (arith, name-below names arg f)
     go false false true true f = omega (arith, eqb-true arg 0 f)
@@ -120,16 +104,16 @@ arg-below names head arg l e = go (eqb head 44) (eqb head 45) (leb 40 head) (leb
 pub small-admitted : (names : List ℕ) (q : Question) → length names ≤ 1024 → admits names q ≡ true → Small q
 unfolding admits
 small-admitted names (InProc proc name) l e =
-    let b = and-both (isName names proc) (isName names name) e in
+    let b = and-both (isMarked names proc) (isMarked names name) e in
     (omega (arith, name-below names proc (b .0)), omega (arith, name-below names name (b .1)))
 small-admitted names (InScope scope name) l e =
-    let b = and-both (scopeOk names scope) (isName names name) e in
+    let b = and-both (scopeOk names scope) (isMarked names name) e in
     (omega (arith, scope-below names scope (b .0)), omega (arith, name-below names name (b .1)))
 small-admitted names (OfType head arg) l e = arg-below names head arg l e
 
-pub scope-admitted : (names : List ℕ) (scope name : ℕ) → admits names (InScope scope name) ≡ true → isName names name ≡ true
+pub scope-admitted : (names : List ℕ) (scope name : ℕ) → admits names (InScope scope name) ≡ true → isMarked names name ≡ true
 unfolding admits
-scope-admitted names scope name e = and-both (scopeOk names scope) (isName names name) e .1
+scope-admitted names scope name e = and-both (scopeOk names scope) (isMarked names name) e .1
 
 -- ---- names of a string table
 
@@ -150,7 +134,7 @@ pub record Spelled (bytes ends : List ℕ) (x : ℕ) : Type 0 where
   pub more : startOf ends x < getD ends x 0
   pub fits : getD ends x 0 ≤ length bytes
 
-module _ (bytes ends : List ℕ) (x : ℕ) (s : sound bytes ends ≡ true) (e : isName (namesOf bytes ends) x ≡ true) where
+module _ (bytes ends : List ℕ) (x : ℕ) (s : sound bytes ends ≡ true) (e : isMarked (namesOf bytes ends) x ≡ true) where
   pub inside : x < length ends
   inside = omega (arith, name-below (namesOf bytes ends) x e, names-length bytes ends)
 

@@ -9,7 +9,7 @@ use Rattle.words.specs.Sizes.{maxStrings, maxBytes}
 use Rattle.words.specs.Told.{Told, gives, after, unless}
 use Rattle.strings.specs.Table.{stringAt, namesOf}
 use Rattle.table.specs.Rows.{Row}
-use Rattle.lent.specs.Rules.{isName, scopeOk, typeOk}
+use Rattle.lent.specs.Rules.{isMarked, scopeOk, typeOk}
 use Rattle.lent.specs.Lent.{lentRows}
 use Rattle.lookup.specs.Lookup.{TypeRef, ArrayInfo, shares, isStatic, typeWords, typedVar, typedVarIn, lookupArray, declaredType}
 use Rattle.lookup.specs.Builtins.{builtin}
@@ -24,8 +24,8 @@ sized bytes ends = leb (length ends) maxStrings && leb (length bytes) maxBytes
 
 -- 11: a procedure and a name, a scope and a name, a type that a field row could hold
 unfoldable pub admits : (names : List ℕ) → Question → Bool
-admits names (InProc proc name) = isName names proc && isName names name
-admits names (InScope scope name) = scopeOk names scope && isName names name
+admits names (InProc proc name) = isMarked names proc && isMarked names name
+admits names (InScope scope name) = scopeOk names scope && isMarked names name
 admits names (OfType head arg) = typeOk names head arg
 
 -- 6, 11, or the rows
@@ -73,4 +73,4 @@ declaredTypeAt bytes ends rows scope name = asked bytes ends rows (InScope scope
 
 -- `builtin` takes no rows
 unfoldable pub builtinAt : (bytes ends : List ℕ) (name : ℕ) → Told Arguments
-builtinAt bytes ends name = unless (isName (namesOf bytes ends) name) 11 0 (gives (argumentsOf (builtin (stringAt bytes ends name))))
+builtinAt bytes ends name = unless (isMarked (namesOf bytes ends) name) 11 0 (gives (argumentsOf (builtin (stringAt bytes ends name))))

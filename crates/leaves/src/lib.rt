@@ -11,7 +11,7 @@ ghost use mathlib.Core.Bool.{true};
 ghost use Rattle.words.specs.Told.{gives};
 ghost use Rattle.strings.specs.Open.{Answers};
 ghost use Rattle.strings.specs.Table.{sound, stringAt, namesOf};
-ghost use Rattle.lent.specs.Rules.{isName};
+ghost use Rattle.lent.specs.Rules.{isMarked};
 ghost use Rattle.lookup.specs.Builtins.{builtin as builtinOf};
 ghost use Rattle.lookup.specs.Answers.{argumentsOf};
 ghost use Rattle.leaves.specs.Leaves.{sized as sizedOf, admits as admitsOf, ruled as ruledOf, lastByte, sharesAt, isStaticAt, typeWordsAt, typedVarAt, typedVarInAt, lookupArrayAt, declaredTypeAt, builtinAt};
@@ -204,7 +204,7 @@ pub fn lookup_array(bytes: &[u8], ends: &[u32], rows: &[u32], scope: u32, name: 
 
 // The last byte of a name.
 pub fn last_byte(bytes: &[u8], ends: &[u32], name: u32) -> u8
-    requires { ⌜ (sound (now bytes) (now ends) ≡ true) × (isName (namesOf (now bytes) (now ends)) name ≡ true) ⌝ }
+    requires { ⌜ (sound (now bytes) (now ends) ≡ true) × (isMarked (namesOf (now bytes) (now ends)) name ≡ true) ⌝ }
     ensures { λ r. ⌜ r ≡ lastByte (stringAt (now (bytes .entry)) (now (ends .entry)) name) ⌝ }
 {
     let i = name as usize;
@@ -255,7 +255,7 @@ pub fn builtin(bytes: &[u8], ends: &[u32], name: u32) -> Taking
 
 // The same of a number that is a name's.
 pub fn spelled(bytes: &[u8], ends: &[u32], name: u32) -> Arguments
-    requires { ⌜ (sound (now bytes) (now ends) ≡ true) × (isName (namesOf (now bytes) (now ends)) name ≡ true) ⌝ }
+    requires { ⌜ (sound (now bytes) (now ends) ≡ true) × (isMarked (namesOf (now bytes) (now ends)) name ≡ true) ⌝ }
     ensures { λ r. ⌜ r ≡ argumentsOf (builtinOf (stringAt (now (bytes .entry)) (now (ends .entry)) name)) ⌝ }
 {
     let i = name as usize;

@@ -11,14 +11,14 @@ use Rattle.words.specs.Told.{Told, gives}
 use Rattle.words.specs.Refusals.{refused}
 use Rattle.words.specs.declared.Refusal.the-variants.{Rows as RowsRefused}
 use Rattle.table.specs.Rows.{width, Row, key, rowsOf, Holds}
+use Rattle.table.specs.Each.{Each}
 use Rattle.lent.specs.Rules.{rowOk}
 use Rattle.lent.specs.declared.Checked.{Checked}
 use Rattle.lent.specs.declared.Checked.the-variants.{Bad, Rows}
 
 -- each row is in order by itself
-unfoldable pub AllOk : (names : List ℕ) → List Row → Type 0
-AllOk names [] = Unit {0}
-AllOk names (r ∷ rs) = (rowOk names r ≡ true) × AllOk names rs
+abbrev pub AllOk : (names : List ℕ) → List Row → Type 0
+AllOk names rows = Each (λ r. rowOk names r ≡ true) rows
 
 -- the buffer is the image of these n rows, which rise and are in order by themselves
 pub record Lent (names : List ℕ) (rows : List Row) (n : ℕ) (buf : List ℕ) : Type 0 where

@@ -15,6 +15,7 @@ use Rattle.words.specs.Word.{kindOf, pick}
 use Rattle.words.specs.Told.{gives}
 use Rattle.table.specs.Rows.{width, Row, keyOf, key, Table, flatten, zeros, image, rowsOf, Filled}
 use Rattle.table.specs.Laws.{pick-true, pick-false, table-down, order}
+use Rattle.table.specs.Each.{Each}
 use Rattle.table.specs.Images.{table-wide, holds-fits, image-none}
 use Rattle.lent.specs.Rules.{kindOk, rowOk}
 use Rattle.lent.specs.Lent.{allZero, AllOk, endedAt, scan, checked, told, lentRows, Lent}
@@ -194,7 +195,7 @@ module _ (names : List ℕ) where
     words : b ≡ image width (length b) (rowsOf k b)
 
   ended-sound : (lo n m : ℕ) (b : List ℕ) → endedAt n b ≡ Rows m → Scanned lo n m b
-  unfolding endedAt rowsOf AllOk
+  unfolding endedAt rowsOf Each
   ended-sound lo n m b e = go (allZero b) refl
     where
       go : (t : Bool) → allZero b ≡ t → Scanned lo n m b
@@ -209,7 +210,7 @@ module _ (names : List ℕ) where
 
   more-sound : (lo n m : ℕ) (b : List ℕ) → width ≤ length b → rowOk names (take width b) ≡ true → lo ≤ key (take width b)
       → Scanned (suc (key (take width b))) (suc n) m (drop width b) → Scanned lo n m b
-  unfolding rowsOf AllOk
+  unfolding rowsOf Each
   more-sound lo n m b fit o h S =
       let ld : length (drop width b) ≡ length b - width = length-drop width b in
       let le : length (drop width b) + width ≡ length b = omega arith in
@@ -269,13 +270,13 @@ module _ (names : List ℕ) where
       go (inr h) = absurd (ok-head r o (omega arith))
 
   table-one : (rows : List Row) → Table 0 rows → AllOk names rows → Table 1 rows
-  unfolding AllOk
+  unfolding Each
   table-one [] t o = tt
   table-one (r ∷ rs) t o = (t .0, ok-key r (o .0), t .2)
 
   scan-complete : (f lo n : ℕ) (b : List ℕ) (rows : List Row) → f * width ≤ length b → length b < f * width + width → Table lo rows → AllOk names rows → b ≡ image width (length b) rows
       → scan names f lo n b ≡ Rows (n + length rows)
-  unfolding AllOk endedAt scan
+  unfolding Each endedAt scan
   scan-complete f lo n b [] fit cap t o e =
       let z : b ≡ zeros (length b) = e ∙ image-none width (length b) in
       let h : getD b 0 0 ≡ 0 = ap (λ (l : List ℕ). getD l 0 0) z ∙ head-zeros (length b) in

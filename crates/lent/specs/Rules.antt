@@ -82,15 +82,16 @@ rules =
 
 -- ---- the tests
 
-abbrev pub isName : List ℕ → ℕ → Bool
-isName names x = eqb (getD names x 0) 1
+-- the marks say that string x is a name
+abbrev pub isMarked : List ℕ → ℕ → Bool
+isMarked names x = eqb (getD names x 0) 1
 
 unfoldable pub scopeOk : List ℕ → ℕ → Bool
-scopeOk names w = pick (eqb w 0) true (isName names (w - 1))
+scopeOk names w = pick (eqb w 0) true (isMarked names (w - 1))
 
 -- a `TypeRef` head kind and its argument: 44 has a length, 45 a name, the others none
 unfoldable pub typeOk : List ℕ → (head arg : ℕ) → Bool
-typeOk names head arg = pick (eqb head 44) (ltb arg 16777216) (pick (eqb head 45) (isName names arg) (pick (leb 40 head) (pick (leb head 43) (eqb arg 0) false) false))
+typeOk names head arg = pick (eqb head 44) (ltb arg 16777216) (pick (eqb head 45) (isMarked names arg) (pick (leb 40 head) (pick (leb head 43) (eqb arg 0) false) false))
 
 -- a literal's kind and its value: the rule of a folded value's words
 unfoldable pub constOk : List ℕ → (kind low high : ℕ) → Bool
@@ -106,7 +107,7 @@ wordOk names rule w next after =
     pick (eqb rule flag) (ltb w 2) (
     pick (eqb rule mark) (ltb w 4) (
     pick (eqb rule item) (pick (eqb w 0) false (ltb w 4)) (
-    pick (eqb rule name) (isName names w) (
+    pick (eqb rule name) (isMarked names w) (
     pick (eqb rule type) (typeOk names w next) (
     pick (eqb rule type?) (pick (eqb w 0) (eqb next 0) (typeOk names w next)) (
     pick (eqb rule const) (constOk names w next after) true))))))))))

@@ -1,20 +1,14 @@
--- Rows built from right parts are in order by themselves, and stay so when rows go in and out: a table that is only entered so is a lent table. By
--- computation of the rules, kind by kind, and by induction on the rows. Assumes nothing.
-use mathlib.Core.Path.{_≡_, refl, sym, ap, _∙_}
+-- Rows built from right parts are in order by themselves: by computation of the rules, kind by kind. Assumes nothing.
+use mathlib.Core.Path.{_≡_, refl}
 use mathlib.Core.Bool.{Bool, true, false}
-use mathlib.Core.Logic.{_⊎_, inl, inr}
-use mathlib.Core.List.{List, [], _∷_}
-use Prim.Native.Nat.{ℕ, _+_, _*_, _≤_, _<_}
+use mathlib.Core.List.{List}
+use Prim.Native.Nat.{ℕ, _+_, _*_, _<_}
 use native.Mathlib.Omega.{arith}
-use lib.Dec.{leb, ltb, eqb}
-use lib.ListN.{length}
+use lib.Dec.{ltb, eqb}
 use borrow.Author.Tests.{lt-ltb}
 use Rattle.words.specs.Word.{kindOf, payOf, wordOf, pick}
-use Rattle.table.specs.Rows.{Row, key, insert, insertAll, remove, replace}
-use Rattle.table.specs.Laws.{order₃, zone, insert-lt, insert-eq, insert-gt, remove-low, remove-in, remove-high}
 use Rattle.entries.specs.Entries.{bit, lineRow, labelRow, typeRow, fieldRow, constRow, arrayRow, typedVarRow, procRow, paramRow, dimSharedRow, sharedRow, staticRow, staticProcRow, defFnRow, unrankedRow, optionBaseRow}
-use Rattle.lent.specs.Rules.{isName, scopeOk, typeOk, constOk, wordOk, wordsOk, kindOk, rowOk}
-use Rattle.lent.specs.Lent.{AllOk}
+use Rattle.lent.specs.Rules.{isMarked, scopeOk, typeOk, constOk, wordOk, wordsOk, kindOk, rowOk}
 
 -- ---- parts
 
@@ -46,7 +40,7 @@ module _ (names : List ℕ) where
       let p : payOf (wordOf 128 number) ≡ number = omega arith in
       rw (k, p, lt-ltb number 16777216 h, s)
 
-  module _ (name : ℕ) (h : name < 16777216) (n : isName names name ≡ true) where
+  module _ (name : ℕ) (h : name < 16777216) (n : isMarked names name ≡ true) where
     pub label-ok : (scope : ℕ) → scopeOk names scope ≡ true → rowOk names (labelRow name scope) ≡ true
     unfolding rowOk kindOk wordsOk wordOk
     label-ok scope s =
@@ -61,7 +55,7 @@ module _ (names : List ℕ) where
         let p : payOf (wordOf 130 name) ≡ name = omega arith in
         rw (k, p, n, lt-ltb words 65536 w, lt-ltb line 16777216 l)
 
-    pub field-ok : (ordinal field word head arg : ℕ) → ordinal < 16777216 → isName names field ≡ true → word < 65536 → typeOk names head arg ≡ true → rowOk names (fieldRow name ordinal field word head arg) ≡ true
+    pub field-ok : (ordinal field word head arg : ℕ) → ordinal < 16777216 → isMarked names field ≡ true → word < 65536 → typeOk names head arg ≡ true → rowOk names (fieldRow name ordinal field word head arg) ≡ true
     unfolding rowOk kindOk wordsOk wordOk
     field-ok ordinal field word head arg o f w t =
         let k : kindOf (wordOf 131 name) ≡ 131 = omega arith in
@@ -96,7 +90,7 @@ module _ (names : List ℕ) where
         let p : payOf (wordOf 135 name) ≡ name = omega arith in
         rw (k, p, n, bit-flag function, lt-ltb line 16777216 l, t)
 
-    pub param-ok : (ordinal param : ℕ) (byval array : Bool) (head arg : ℕ) → ordinal < 16777216 → isName names param ≡ true → typeOrNone names head arg ≡ true
+    pub param-ok : (ordinal param : ℕ) (byval array : Bool) (head arg : ℕ) → ordinal < 16777216 → isMarked names param ≡ true → typeOrNone names head arg ≡ true
         → rowOk names (paramRow name ordinal param byval array head arg) ≡ true
     unfolding rowOk kindOk wordsOk wordOk
     param-ok ordinal param byval array head arg o f t =
@@ -149,34 +143,3 @@ module _ (names : List ℕ) where
   pub option-base-ok : (value : ℕ) → value < 16777216 → rowOk names (optionBaseRow value) ≡ true
   unfolding rowOk kindOk wordsOk wordOk
   option-base-ok value v = rw (lt-ltb value 16777216 v)
-
-  -- ---- tables
-
-  pub all-insert : (r : Row) (rows : List Row) → rowOk names r ≡ true → AllOk names rows → AllOk names (insert r rows)
-  unfolding AllOk insert
-  all-insert r [] o a = (o, tt)
-  all-insert r (x ∷ xs) o a = go (order₃ (key x) (key r)) (all-insert r xs o (a .1))
-    where
-      go : (key x < key r) ⊎ ((key x ≡ key r) ⊎ (key r < key x)) → AllOk names (insert r xs) → AllOk names (insert r (x ∷ xs))
-      go (inl q) ih = rw (insert-lt r x xs q) (a .0, ih)
-      go (inr (inl q)) ih = rw (insert-eq r x xs q) (o, a .1)
-      go (inr (inr q)) ih = rw (insert-gt r x xs q) (o, a)
-
-  pub all-insert-all : (new rows : List Row) → AllOk names new → AllOk names rows → AllOk names (insertAll new rows)
-  unfolding AllOk insertAll
-  all-insert-all [] rows n a = a
-  all-insert-all (r ∷ rs) rows n a = all-insert-all rs (insert r rows) (n .1) (all-insert r rows (n .0) a)
-
-  pub all-remove : (lo hi : ℕ) (rows : List Row) → lo ≤ hi → AllOk names rows → AllOk names (remove lo hi rows)
-  unfolding AllOk remove
-  all-remove lo hi [] h a = tt
-  all-remove lo hi (x ∷ xs) h a = go (all-remove lo hi xs h (a .1)) (zone lo hi (key x))
-    where
-      go : AllOk names (remove lo hi xs) → (key x < lo) ⊎ (((lo ≤ key x) × (key x < hi)) ⊎ (hi ≤ key x)) → AllOk names (remove lo hi (x ∷ xs))
-      go ih (inl q) = rw (remove-low lo hi x xs q) (a .0, ih)
-      go ih (inr (inl q)) = rw (remove-in lo hi x xs (q .0) (q .1)) ih
-      go ih (inr (inr q)) = rw (remove-high lo hi x xs h q) (a .0, ih)
-
-  pub all-replace : (lo hi : ℕ) (new rows : List Row) → lo ≤ hi → AllOk names new → AllOk names rows → AllOk names (replace lo hi new rows)
-  unfolding replace
-  all-replace lo hi new rows h n a = all-insert-all new (remove lo hi rows) n (all-remove lo hi rows h a)

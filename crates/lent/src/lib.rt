@@ -8,7 +8,7 @@ ghost use Prim.Native.Nat.{_*_, _≤_, _<_};
 ghost use lib.ListN.{length, drop, getD};
 ghost use Rattle.table.specs.Rows.{width};
 ghost use Rattle.fold.specs.Value.{wholeRule, floatRule};
-ghost use Rattle.lent.specs.Rules.{rules, isName, scopeOk, typeOk, constOk, wordOk, wordsOk, rowOk};
+ghost use Rattle.lent.specs.Rules.{rules, isMarked, scopeOk, typeOk, constOk, wordOk, wordsOk, rowOk};
 ghost use Rattle.lent.specs.Lent.{allZero, endedAt, checked};
 
 // What each word of a row may be, for each kind from 128 on, word 0 without its kind: 0 unused, 1 scope, 2 small, 3 half, 4 flag, 5 mark, 6 item, 7 name,
@@ -34,7 +34,7 @@ const RULES: [[u8; 6]; 16] = [
 
 // Whether x is the number of a name.
 pub fn is_name(names: &[u8], x: u32) -> bool
-    ensures { λ r. ⌜ r ≡ isName (now (names .entry)) x ⌝ }
+    ensures { λ r. ⌜ r ≡ isMarked (now (names .entry)) x ⌝ }
 {
     let i = x as usize;
     if i < names.len() {

@@ -59,7 +59,7 @@ module _ {ws : List ℕ} {at : ℕ} where
   type-long h = record { is = λ ns n v end s. let p = here v s in (p .head-is, p .long h .1, p .long h .2); small = omega arith }
 
 -- an AS clause is the word 0, or a type, whose head is never 0
-head-some : (t : TypeRef) → 0 < head t
+pub head-some : (t : TypeRef) → 0 < head t
 head-some Integer = lit< tt
 head-some Long = lit< tt
 head-some Single = lit< tt

@@ -1,9 +1,9 @@
 -- What the words of a parameter and of a procedure say. Assumes nothing.
-use Prim.Native.Nat.{ℕ, zero, suc, _+_, _<_, _≤_}
+use Prim.Native.Nat.{ℕ, _+_, _<_, _≤_}
 use native.Mathlib.Omega.{arith}
 use mathlib.Core.Path.{_≡_, refl, sym, ap, ap₂, subst, _∙_}
-use mathlib.Core.Bool.{Bool, true, false, false≢true}
-use mathlib.Core.List.{List, [], _∷_, _++_, append-nil}
+use mathlib.Core.Bool.{Bool, true, false}
+use mathlib.Core.List.{List, _++_, append-nil}
 use mathlib.Core.Option.{Option, none as absent}
 use lib.Dec.{eqb}
 use lib.ListN.{length, getD}
@@ -23,6 +23,7 @@ use Rattle.tree.specs.Stands.{Stands, SomeTree}
 use Rattle.tree.specs.Reader.{fieldAt, stmtAt}
 use Rattle.tree.proofs.Complete.{completes, one-tree, clear, clearR}
 use Rattle.views.specs.View.{TypeRef, Param, headOf, argOf, optional, asType, isSet, param, items, rowsOf, view}
+use Rattle.lent.specs.RuleLaws.{name-below as marked-below}
 use Rattle.parts.specs.Parts.{AsTypeIs}
 use Rattle.parts.specs.Over.{set-over, as-over, param-rows-over}
 use Rattle.parts.specs.declared.TypeAt.{TypeAt}
@@ -412,11 +413,6 @@ module _ {ws ns : List ℕ} {n at : ℕ} (S : StmtAt ns n function ws at) where
               }
 
 -- ---- a name's number
-
-marked-below : (ns : List ℕ) (x : ℕ) → eqb (getD ns x 0) 1 ≡ true → x < length ns
-marked-below [] x e = absurd (false≢true e)
-marked-below (m ∷ ns) zero e = omega arith
-marked-below (m ∷ ns) (suc x) e = omega (arith, marked-below ns x e)
 
 pub name-below : {bytes ends ns : List ℕ} → Named bytes ends ns → length ends ≤ 1024 → (x : ℕ) → eqb (getD ns x 0) 1 ≡ true → x < 1024
 name-below {bytes} {ends} {ns} N h x e = omega (arith, marked-below ns x e, ap length (N .names), names-length bytes ends)

@@ -1,31 +1,27 @@
 -- What the code's answers mean, case by case. Assumes nothing.
-use Prim.Native.Nat.{ℕ, zero, suc, _+_, _≤_, _<_}
+use Prim.Native.Nat.{ℕ, _+_, _≤_, _<_}
 use mathlib.Core.Path.{_≡_, refl, sym, ap, _∙_}
-use mathlib.Core.Bool.{Bool, true, false, _&&_, false≢true}
-use mathlib.Core.List.{List, [], _∷_, _++_}
+use mathlib.Core.Bool.{Bool, true, false, _&&_}
+use mathlib.Core.List.{List}
 use native.Mathlib.Omega.{arith}
 use native.Mathlib.Numerals.{add-one}
-use lib.ListN.{length, getD, take, drop, drop-of-length-le, List·getD-eq-default}
+use lib.ListN.{length, getD, take, drop, drop-of-length-le}
 use lib.Seq.{drop-cons, length-take-le}
 use lib.Dec.{leb, eqb}
-use borrow.Author.Tests.{le-leb, lt-leb, eq-eqb, ne-eqb, leb-true, eqb-true}
+use borrow.Author.Tests.{le-leb, lt-leb, eq-eqb, ne-eqb, leb-true}
 use Rattle.words.specs.Word.{pick}
 use Rattle.words.specs.Sizes.{maxStrings}
 use Rattle.words.specs.Told.{Told, stops, gives, after, unless}
-use Rattle.words.specs.Refusals.{refused}
-use Rattle.words.specs.declared.Refusal.the-variants.{Word, Depth, Erased}
-use Rattle.strings.specs.Table.{Names, namesOf}
+use Rattle.strings.proofs.Laws.{and-true, and-false, and-left, and-right}
+use Rattle.strings.specs.Table.{Names}
 use Rattle.expr.specs.Got.{Got, got, wrong, deep}
 use Rattle.expr.specs.Answer.{stepOf}
 use Rattle.expr.specs.declared.Step.{Step}
 use Rattle.expr.specs.declared.Step.the-variants.{Read, Wrong, Deep}
 use Rattle.tree.specs.Reader.{programAt}
 use Rattle.reader.specs.Sized.{sizedStrings, sizedTree, sizedProgram}
-use Rattle.reader.specs.Reading.{nodeOf, nodeOfStep, told, movedOf}
-use Rattle.reader.specs.Program.{wholeOf, erasedFrom, programOf, acceptedOf, verdict, endOf, told as toldProgram}
-use Rattle.reader.specs.declared.Node.{Node}
-use Rattle.reader.specs.declared.Accepted.{Accepted}
-use Rattle.reader.specs.declared.Accepted.the-variants.{Fine, Refused}
+use Rattle.reader.specs.Reading.{nodeOf, nodeOfStep}
+use Rattle.reader.specs.Program.{wholeOf, erasedFrom, programOf, acceptedOf, verdict, endOf}
 
 pub node-is : {A : Type 0} (ws : List ℕ) (at : ℕ) (g : Got A) {s : Step} → s ≡ stepOf g → nodeOfStep ws at s ≡ nodeOf ws at g
 unfolding nodeOfStep nodeOf stepOf
@@ -34,20 +30,6 @@ node-is ws at (wrong p) e = rw e refl
 node-is ws at (deep p) e = rw e refl
 
 -- ---- sizes
-
-and-false : (a b : Bool) → a ≡ false → (a && b) ≡ false
-and-false a b e = rw e refl
-
-and-true : (a b : Bool) → a ≡ true → (a && b) ≡ b
-and-true a b e = rw e refl
-
-and-left : (a b : Bool) → (a && b) ≡ true → a ≡ true
-and-left true b e = refl
-and-left false b e = e
-
-and-right : (a b : Bool) → (a && b) ≡ true → b ≡ true
-and-right true b e = e
-and-right false b e = absurd (false≢true e)
 
 module _ (bytes ends ws : List ℕ) where
   pub bytes-over : 16384 < length bytes → sizedTree bytes ends ws ≡ false

@@ -1,23 +1,22 @@
 -- The steps of an entry: what was read, the rules of rows, scope and room, the run on the part of the words that was read, and what that
 -- comes to. Assumes nothing.
-use Prim.Native.Nat.{ℕ, zero, suc, _+_, _-_, _*_, _≤_, _<_}
+use Prim.Native.Nat.{ℕ, zero, suc, _-_, _≤_, _<_}
 use native.Mathlib.Omega.{arith}
 use mathlib.Core.Path.{_≡_, refl, sym, ap, subst, _∙_}
 use mathlib.Core.Bool.{Bool, true, false, _&&_}
 use mathlib.Core.List.{List, [], _∷_, _++_, append-nil}
-use lib.Dec.{leb, eqb}
 use lib.ListN.{length, take, drop, getD, set}
 use lib.Seq.{sets, take-append-seam, drop-length}
 use borrow.Author.Tests.{le-leb, lt-leb, eq-eqb, ne-eqb}
-use Rattle.words.specs.Word.{wordOf, payOf, pick}
+use Rattle.words.specs.Word.{wordOf, payOf}
 use Rattle.words.specs.Sizes.{maxStrings, maxDepth}
-use Rattle.words.specs.Told.{Told, stops, gives, after, unless}
+use Rattle.words.specs.Told.{Told, gives, after, unless}
 use Rattle.words.specs.Refusals.{refused}
 use Rattle.words.specs.declared.Refusal.{Refusal}
 use Rattle.words.specs.declared.Refusal.the-variants.{Word, Depth, Rows as NoRows, Lookup, Output}
-use Rattle.strings.specs.Open.{Answers, entryOf}
-use Rattle.expr.specs.Expr.{Strings, Expr, Exprs, many, words, wordsAll}
-use Rattle.expr.specs.Got.{Got, got, wrong, deep}
+use Rattle.strings.specs.Open.{Answers}
+use Rattle.expr.specs.Expr.{Strings, Exprs, many, words, wordsAll}
+use Rattle.expr.specs.Got.{Got}
 use Rattle.expr.specs.Reader.{exprAt, listAt}
 use Rattle.expr.specs.Answer.{stepOf}
 use Rattle.expr.specs.Stands.{Wrote, Stands, StandsAll}
@@ -30,20 +29,22 @@ use Rattle.tree.specs.Tree.{strings, one, wordsT}
 use Rattle.tree.specs.Reader.{programAt}
 use Rattle.tree.proofs.Sound.{program-sound}
 use Rattle.reader.specs.Program.{wholeOf, programOf}
-use Rattle.table.specs.Rows.{Row, rowsOf, Holds}
+use Rattle.table.specs.Rows.{rowsOf, Holds}
 use Rattle.table.specs.Images.{holds-fits}
-use Rattle.lent.specs.Rules.{isName, scopeOk}
+use Rattle.lent.specs.Rules.{isMarked, scopeOk}
 use Rattle.lent.specs.Lent.{checked, lentRows}
 use Rattle.lent.specs.LentLaws.{checked-sound}
 use Rattle.lent.specs.declared.Checked.the-variants.{Bad, Rows}
-use Rattle.leaves.proofs.Laws.{and-both, name-below, scope-below}
-use Rattle.resolve.specs.Tables.{Tables, places, nowhere}
+use Rattle.lent.specs.RuleLaws.{name-below, scope-below}
+use Rattle.leaves.proofs.Laws.{and-both}
+use Rattle.resolve.specs.Tables.{Tables, places}
 use Rattle.resolve.specs.FromRows.{tablesOf}
 use Rattle.resolve.specs.Resolve.{Program, resolveExpr, resolveArgs, resolveArrayAccesses}
-use Rattle.resolver.specs.Post.{Room, Ready, ReadyAll, Put, Resolved, ResolvedArgs}
+use Rattle.resolver.specs.Post.{Room, Ready, ReadyAll, Resolved, ResolvedArgs}
 use Rattle.accesses.specs.Post.{ReadyTree, ResolvedTree}
-use Rattle.resolution.specs.Entries.{Taken, Written, takenOf, ruling, rewritten, resolveExprAt, resolveArgsAt, resolveAll, told, counted, written, Tells, Rewrites}
-use Rattle.resolution.specs.Inner.{Passed, Read}
+use Rattle.resolution.specs.Entries.{Written, takenOf, ruling, rewritten, resolveExprAt, resolveArgsAt, resolveAll, told, counted, written, Tells, Rewrites}
+use Rattle.reader.specs.Answered.{ReadTo, answer-read, answer-wrong, answer-deep}
+use Rattle.resolution.specs.Inner.{Passed}
 use Rattle.resolution.specs.declared.Resolution.the-variants.{Wrote as Did, Refused}
 use Rattle.resolution.specs.declared.Resolution.{Resolution}
 
@@ -76,43 +77,6 @@ passed-as {names} {rows} {size} {room} {n} e = subst (λ (x : Bool). Passed name
 
 -- ---- what was read
 
--- where a step ended
-unfoldable upTo : Step → ℕ
-upTo (Passed-by c) = c .at
-upTo (Wrong p) = p
-upTo (Deep p) = p
-
--- a reading that the code's answer tells
-pub read-is : {A : Type 0} (g : Got A) {s : Step} {m : ℕ} → s ≡ stepOf g → s ≡ Passed-by (record { at = m }) → Read g m
-unfolding stepOf upTo
-read-is (got a k) {m = m} e q = let z : k ≡ m = ap upTo (sym e ∙ q) in record { tree = a; is = ap (got a) z }
-read-is (wrong p) e q =
-    let z : _≡_ {A = ℕ} 0 1 = cc in
-    absurd (omega arith)
-read-is (deep p) e q =
-    let z : _≡_ {A = ℕ} 0 1 = cc in
-    absurd (omega arith)
-
-wrong-is : {A : Type 0} (g : Got A) {s : Step} {p : ℕ} → s ≡ stepOf g → s ≡ Wrong p → g ≡ wrong p
-unfolding stepOf
-wrong-is (got a k) e q =
-    let z : _≡_ {A = ℕ} 0 1 = cc in
-    absurd (omega arith)
-wrong-is (wrong p) e q = ap wrong (cc)
-wrong-is (deep p) e q =
-    let z : _≡_ {A = ℕ} 0 1 = cc in
-    absurd (omega arith)
-
-deep-is : {A : Type 0} (g : Got A) {s : Step} {p : ℕ} → s ≡ stepOf g → s ≡ Deep p → g ≡ deep p
-unfolding stepOf
-deep-is (got a k) e q =
-    let z : _≡_ {A = ℕ} 0 1 = cc in
-    absurd (omega arith)
-deep-is (wrong p) e q =
-    let z : _≡_ {A = ℕ} 0 1 = cc in
-    absurd (omega arith)
-deep-is (deep p) e q = ap deep (cc)
-
 -- a refusal leaves the output as it came
 pub stopped : (f : Refusal) (out : List ℕ) {u : Told Written} → u ≡ refused f → Tells (Refused f) out out u
 unfolding told counted written refused
@@ -128,13 +92,13 @@ module _ {A : Type 0} (names rows : List ℕ) (right : Bool) (at room : ℕ) (f 
 
   pub at-wrong : {s : Step} {p : ℕ} → s ≡ stepOf g → s ≡ Wrong p → all ≡ refused (Word p)
   unfolding takenOf after refused
-  at-wrong e q = rw (wrong-is g e q)
+  at-wrong e q = rw (answer-wrong g e q)
 
   pub at-deep : {s : Step} {p : ℕ} → s ≡ stepOf g → s ≡ Deep p → all ≡ refused (Depth p)
   unfolding takenOf after refused
-  at-deep e q = rw (deep-is g e q)
+  at-deep e q = rw (answer-deep g e q)
 
-  module _ {end : ℕ} (r : Read g end) where
+  module _ {end : ℕ} (r : ReadTo g end) where
     pub at-shut : (s : Refusal) → ruling names rows right (end - at) room ≡ refused s → all ≡ refused s
     unfolding takenOf rewritten after refused
     at-shut s q = rw (r .is, q)
@@ -171,7 +135,7 @@ scope-fits names scope few e = omega (arith, scope-below names scope e)
 
 -- ---- an expression
 
-module _ (names ws rows : List ℕ) (room scope at end : ℕ) (few : length names ≤ maxStrings) (r : Read (exprAt ws (strings names (length names)) maxDepth at) end) where
+module _ (names ws rows : List ℕ) (room scope at end : ℕ) (few : length names ≤ maxStrings) (r : ReadTo (exprAt ws (strings names (length names)) maxDepth at) end) where
   stands : Stands ws (strings names (length names)) at (r .tree) end
   stands = let S = sound ws (strings names (length names)) maxDepth at (r .tree) end (r .is) in record { wrote = S .wrote; valid = S .valid }
 
@@ -196,7 +160,7 @@ module _ (names ws rows : List ℕ) (room scope at end : ℕ) (few : length name
 
 -- ---- a list of arguments
 
-module _ (names ws rows : List ℕ) (room scope name at end : ℕ) (few : length names ≤ maxStrings) (r : Read (listAt ws (strings names (length names)) (λ x. exprAt ws (strings names (length names)) maxDepth x) at) end) where
+module _ (names ws rows : List ℕ) (room scope name at end : ℕ) (few : length names ≤ maxStrings) (r : ReadTo (listAt ws (strings names (length names)) (λ x. exprAt ws (strings names (length names)) maxDepth x) at) end) where
   abbrev S : Strings
   S = strings names (length names)
 
@@ -223,11 +187,11 @@ module _ (names ws rows : List ℕ) (room scope name at end : ℕ) (few : length
   head-is = wrote-first (listed .wrote) .is
 
   abbrev right : Bool
-  right = scopeOk names scope && isName names name
+  right = scopeOk names scope && isMarked names name
 
   ready-there : {n : ℕ} → Passed names rows right (end - at) room n → ReadyAll (take (end - at) (drop at ws)) rows n scope 1 1 room (payOf (getD ws at 0))
   ready-there p =
-      let b = and-both (scopeOk names scope) (isName names name) (p .admitted) in
+      let b = and-both (scopeOk names scope) (isMarked names name) (p .admitted) in
       record { strings = S; trees = es; end = end - at; stands = listed .there; counted = sym (ap payOf head-is ∙ pay-is 1 (many es) (listed .small)); room = room-for (take (end - at) (drop at ws)) p (take-short (end - at) (drop at ws)) (scope-fits names scope few (b .0)) 1 }
 
   -- one word is written already, and the output is as long as it was
@@ -239,7 +203,7 @@ module _ (names ws rows : List ℕ) (room scope name at end : ℕ) (few : length
 
   pub name-fits : {n : ℕ} → Passed names rows right (end - at) room n → name < 16777216
   name-fits p =
-      let b = and-both (scopeOk names scope) (isName names name) (p .admitted) in
+      let b = and-both (scopeOk names scope) (isMarked names name) (p .admitted) in
       omega (arith, name-below names name (b .1))
 
   pub args-shut : (s : Refusal) → ruling names rows right (end - at) room ≡ refused s → resolveArgsAt names ws rows room scope name at ≡ refused s
@@ -257,7 +221,7 @@ module _ (names ws rows : List ℕ) (room scope name at end : ℕ) (few : length
 
 -- ---- a whole tree
 
-module _ (names ws rows : List ℕ) (room : ℕ) (r : Read (programAt ws names (length names)) (length ws)) where
+module _ (names ws rows : List ℕ) (room : ℕ) (r : ReadTo (programAt ws names (length names)) (length ws)) where
   whole-is : programOf names ws ≡ gives (r .tree)
   unfolding programOf wholeOf
   whole-is = rw (r .is, eq-eqb (length ws) (length ws) refl)
@@ -306,23 +270,23 @@ module _ (names ws rows : List ℕ) (room : ℕ) where
 
   pub args-wrong : (scope name at : ℕ) {s : Step} {p : ℕ} → s ≡ stepOf (listed-at at) → s ≡ Wrong p → resolveArgsAt names ws rows room scope name at ≡ refused (Word p)
   unfolding resolveArgsAt
-  args-wrong scope name at e q = at-wrong names rows (scopeOk names scope && isName names name) at room (λ T es. wordOf 1 (many es) ∷ wordsAll (resolveArgs T scope (places T name) es)) (listed-at at) e q
+  args-wrong scope name at e q = at-wrong names rows (scopeOk names scope && isMarked names name) at room (λ T es. wordOf 1 (many es) ∷ wordsAll (resolveArgs T scope (places T name) es)) (listed-at at) e q
 
   pub args-deep : (scope name at : ℕ) {s : Step} {p : ℕ} → s ≡ stepOf (listed-at at) → s ≡ Deep p → resolveArgsAt names ws rows room scope name at ≡ refused (Depth p)
   unfolding resolveArgsAt
-  args-deep scope name at e q = at-deep names rows (scopeOk names scope && isName names name) at room (λ T es. wordOf 1 (many es) ∷ wordsAll (resolveArgs T scope (places T name) es)) (listed-at at) e q
+  args-deep scope name at e q = at-deep names rows (scopeOk names scope && isMarked names name) at room (λ T es. wordOf 1 (many es) ∷ wordsAll (resolveArgs T scope (places T name) es)) (listed-at at) e q
 
   pub all-over : {s : Step} {m : ℕ} → s ≡ stepOf (programAt ws names (length names)) → s ≡ Passed-by (record { at = m }) → (m ≡ length ws → ⊥) → resolveAll names ws rows room ≡ refused (Word m)
   unfolding resolveAll programOf wholeOf after refused
-  all-over {m = m} e q f = let r = read-is (programAt ws names (length names)) e q in rw (r .is, ne-eqb m (length ws) f)
+  all-over {m = m} e q f = let r = answer-read (programAt ws names (length names)) e q in rw (r .is, ne-eqb m (length ws) f)
 
   pub all-wrong : {s : Step} {p : ℕ} → s ≡ stepOf (programAt ws names (length names)) → s ≡ Wrong p → resolveAll names ws rows room ≡ refused (Word p)
   unfolding resolveAll programOf wholeOf after refused
-  all-wrong e q = rw (wrong-is (programAt ws names (length names)) e q)
+  all-wrong e q = rw (answer-wrong (programAt ws names (length names)) e q)
 
   pub all-deep : {s : Step} {p : ℕ} → s ≡ stepOf (programAt ws names (length names)) → s ≡ Deep p → resolveAll names ws rows room ≡ refused (Depth p)
   unfolding resolveAll programOf wholeOf after refused
-  all-deep e q = rw (deep-is (programAt ws names (length names)) e q)
+  all-deep e q = rw (answer-deep (programAt ws names (length names)) e q)
 
 -- ---- 5 and 1 before
 

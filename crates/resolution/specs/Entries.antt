@@ -18,7 +18,7 @@ use Rattle.expr.specs.Reader.{exprAt, listAt}
 use Rattle.tree.specs.Tree.{strings, wordsT}
 use Rattle.reader.specs.Program.{programOf}
 use Rattle.table.specs.Rows.{Row}
-use Rattle.lent.specs.Rules.{isName, scopeOk}
+use Rattle.lent.specs.Rules.{isMarked, scopeOk}
 use Rattle.lent.specs.Lent.{lentRows}
 use Rattle.resolve.specs.Tables.{Tables, places}
 use Rattle.resolve.specs.FromRows.{tablesOf}
@@ -65,7 +65,7 @@ module _ (names ws rows : List ℕ) (room : ℕ) where
   unfolding takenOf rewritten
   resolveArgsAt scope name at =
       after (takenOf (listAt ws (strings names (length names)) expressionAt at))
-      (rewritten names rows (scopeOk names scope && isName names name) at room (λ T es. wordOf 1 (many es) ∷ wordsAll (resolveArgs T scope (places T name) es)))
+      (rewritten names rows (scopeOk names scope && isMarked names name) at room (λ T es. wordOf 1 (many es) ∷ wordsAll (resolveArgs T scope (places T name) es)))
 
   -- `resolve_array_accesses`: the whole tree, in the module's scope
   unfoldable pub resolveAll : Told Written

@@ -1,22 +1,17 @@
 -- What the contracts behind the checks of sizes and strings cite. These are definitions.
-use Prim.Native.Nat.{ℕ, _-_, _≤_}
+use Prim.Native.Nat.{ℕ, _≤_}
 use mathlib.Core.Bool.{Bool, true}
 use mathlib.Core.Path.{_≡_}
 use mathlib.Core.List.{List}
-use lib.ListN.{length}
-use Rattle.words.specs.Sizes.{maxDepth}
-use Rattle.words.specs.Told.{Told, gives}
+use Rattle.words.specs.Told.{Told}
 use Rattle.words.specs.Refusals.{refused}
-use Rattle.expr.specs.Expr.{Expr, Exprs}
-use Rattle.expr.specs.Got.{Got, got}
 use Rattle.lent.specs.Lent.{checked}
 use Rattle.lent.specs.declared.Checked.the-variants.{Rows}
-use Rattle.resolution.specs.Entries.{Taken, Written, Tells, ruling, resolveExprAt, resolveArgsAt, resolveAll}
+use Rattle.resolution.specs.Entries.{Written, ruling, resolveExprAt, resolveArgsAt, resolveAll}
 use Rattle.resolution.specs.declared.Opened.{Opened}
 use Rattle.resolution.specs.declared.Opened.the-variants.{Shut, Table}
 use Rattle.resolution.specs.declared.Ask.{Ask}
 use Rattle.resolution.specs.declared.Ask.the-variants.{Expression, Arguments, Program}
-use Rattle.resolution.specs.declared.Resolution.{Resolution}
 
 -- the rows that passed, and what passed with them
 pub record Passed (names rows : List ℕ) (right : Bool) (size room n : ℕ) : Type 0 where
@@ -27,11 +22,6 @@ pub record Passed (names rows : List ℕ) (right : Bool) (size room n : ℕ) : T
 abbrev pub Ruled : (names rows : List ℕ) (right : Bool) (size room : ℕ) → Opened → Type 0
 Ruled names rows right size room (Shut f) = ruling names rows right size room ≡ refused f
 Ruled names rows right size room (Table n) = Passed names rows right size room n
-
--- something was read from a place to an end
-pub record Read {A : Type 0} (g : Got A) (end : ℕ) : Type 0 where
-  pub tree : A
-  pub is : g ≡ got tree end
 
 -- what is asked, behind the checks
 unfoldable pub asked : (names ws rows : List ℕ) (room : ℕ) → Ask → Told Written

@@ -13,10 +13,11 @@ ghost use Rattle.strings.specs.Table.{namesOf};
 ghost use Rattle.expr.specs.Reader.{exprAt, listAt};
 ghost use Rattle.tree.specs.Tree.{strings as stringsOf};
 ghost use Rattle.tree.specs.Reader.{programAt};
-ghost use Rattle.lent.specs.Rules.{scopeOk, isName};
+ghost use Rattle.lent.specs.Rules.{scopeOk, isMarked};
 ghost use Rattle.reader.specs.Sized.{sizedTree};
 ghost use Rattle.resolution.specs.Entries.{Rewrites, Tells, resolveExprAt, resolveArgsAt, resolveAll};
-ghost use Rattle.resolution.specs.Inner.{Ruled, Read, asked};
+ghost use Rattle.reader.specs.Answered.{ReadTo};
+ghost use Rattle.resolution.specs.Inner.{Ruled, asked};
 
 // The reading place past what was read, and how many words were written.
 pub struct Reached {
@@ -55,7 +56,7 @@ fn ruled(rows: &[u32], names: &[u8], right: bool, size: usize, room: usize) -> O
 
 // Whether a scope and a name are right.
 fn admits(names: &[u8], scope: u32, name: u32) -> bool
-    ensures { λ r. ⌜ r ≡ (scopeOk (now (names .entry)) scope && isName (now (names .entry)) name) ⌝ }
+    ensures { λ r. ⌜ r ≡ (scopeOk (now (names .entry)) scope && isMarked (now (names .entry)) name) ⌝ }
 {
     if lent::scope_ok(names, scope) {
         lent::is_name(names, name)
@@ -74,7 +75,7 @@ fn expression(
     end: usize,
     out: &mut [u32],
 ) -> Resolution
-    requires { ⌜ Read (exprAt (now words) (stringsOf (now names) (length (now names))) maxDepth at) end × (length (now names) ≤ maxStrings) ⌝ }
+    requires { ⌜ ReadTo (exprAt (now words) (stringsOf (now names) (length (now names))) maxDepth at) end × (length (now names) ≤ maxStrings) ⌝ }
     ensures { λ r. ⌜ Tells r (now (out .entry)) (now (out .exit)) (resolveExprAt (now (names .entry)) (now (words .entry)) (now (rows .entry)) (length (now (out .entry))) scope at) ⌝ }
 {
     match ruled(
@@ -104,7 +105,7 @@ fn arguments(
     end: usize,
     out: &mut [u32],
 ) -> Resolution
-    requires { ⌜ Read (listAt (now words) (stringsOf (now names) (length (now names))) (λ (x : ℕ). exprAt (now words) (stringsOf (now names) (length (now names))) maxDepth x) at) end × (length (now names) ≤ maxStrings) ⌝ }
+    requires { ⌜ ReadTo (listAt (now words) (stringsOf (now names) (length (now names))) (λ (x : ℕ). exprAt (now words) (stringsOf (now names) (length (now names))) maxDepth x) at) end × (length (now names) ≤ maxStrings) ⌝ }
     ensures { λ r. ⌜ Tells r (now (out .entry)) (now (out .exit)) (resolveArgsAt (now (names .entry)) (now (words .entry)) (now (rows .entry)) (length (now (out .entry))) scope name at) ⌝ }
 {
     match ruled(rows, names, admits(names, scope, name), end - at, out.len()) {
@@ -131,7 +132,7 @@ fn arguments(
 
 // The whole tree, which ends with the words.
 fn program(words: &[u32], names: &[u8], rows: &[u32], out: &mut [u32]) -> Resolution
-    requires { ⌜ Read (programAt (now words) (now names) (length (now names))) (length (now words)) × (length (now names) ≤ maxStrings) ⌝ }
+    requires { ⌜ ReadTo (programAt (now words) (now names) (length (now names))) (length (now words)) × (length (now names) ≤ maxStrings) ⌝ }
     ensures { λ r. ⌜ Tells r (now (out .entry)) (now (out .exit)) (resolveAll (now (names .entry)) (now (words .entry)) (now (rows .entry)) (length (now (out .entry)))) ⌝ }
 {
     match ruled(rows, names, true, words.len(), out.len()) {

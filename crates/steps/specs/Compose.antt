@@ -113,6 +113,14 @@ pub stays-push : (D : ℕ) (note : Row) → Stays (push (some D) note)
 unfolding push
 stays-push D note k = refl
 
+-- such a step needs no code there
+pub stopped-does : {f : Sized} {s : Counts} {b d : List ℕ} → ((N D : ℕ) → Stays (f N D)) → (s .stop ≡ 0 → ⊥) → Fit s (length b) (length d) → Does f s s b d b d
+stopped-does {f} {s} {b} {d} stays h fit = record { fit = fit; after = by }
+  where
+    by : (N D : ℕ) (st : State) → Held N D st s b d → Held N D (f N D st) s b d
+    by N D (running rows notes) H = absurd (h (H .inside .0))
+    by N D (stopped k) H = subst (λ (st : State). Held N D st s b d) (sym (stays N D k)) H
+
 -- ---- with a value that the rows decide: the code asked for it before
 
 pub asked : {A : Type 0} (x : A) (f : List Row → A) (g : A → Sized) {s r : Counts} {b d b′ d′ : List ℕ} → ((a : A) (N D : ℕ) → Stays (g a N D))

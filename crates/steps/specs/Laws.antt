@@ -8,13 +8,12 @@ use native.Mathlib.Omega.{arith}
 use lib.Dec.{leb, eqb}
 use lib.ListN.{length, length-append}
 use borrow.Author.Tests.{le-leb, leb-true, eqb-true, ne-eqb}
-use Rattle.words.specs.Word.{pick}
 use Rattle.words.specs.declared.Refusal.the-variants.{TypeWords}
 use Rattle.table.specs.Rows.{Row, width, noteWidth, Table, insert, remove, zeros, image, Filled, Holds}
 use Rattle.table.specs.Laws.{pick-true, remove-len}
 use Rattle.table.specs.Images.{holds-fits, holds-image}
 use Rattle.table.specs.Answers.{Fits, More, Inserted, Removed, Entered, Pushed}
-use Rattle.table.specs.Buffers.{removed-holds, pushed-filled, more-done, more-full}
+use Rattle.table.specs.Buffers.{picked-done, picked-full, removed-holds, pushed-filled, more-done, more-full}
 use Rattle.table.specs.Answers as Answers
 use Rattle.table.specs.declared.Put.{Put}
 use Rattle.table.specs.declared.Put.the-variants.{Full, Done}
@@ -28,19 +27,6 @@ going : {A : Type 0} (k : ℕ) → 0 ≡ k → 0 < k → A
 going k e h = absurd (omega arith)
 
 -- ---- rows changed
-
--- the answer of a change that fits, of one that doesn't
-put-done : (t : Bool) (m n : ℕ) → Done m ≡ pick t (Done n) Full → (t ≡ true) × (m ≡ n)
-put-done true m n e = (refl, cc)
-put-done false m n e =
-    let z : _≡_ {A = ℕ} 0 1 = cc in
-    absurd (omega arith)
-
-put-full : (t : Bool) (n : ℕ) → Full ≡ pick t (Done n) Full → t ≡ false
-put-full true n e =
-    let z : _≡_ {A = ℕ} 0 1 = cc in
-    absurd (omega arith)
-put-full false n e = refl
 
 -- one row put in is a change of the rows
 pub inserted-entered : {row : Row} {rows : List Row} {n : ℕ} {r : Put} {buf : List ℕ} → Inserted row rows n r buf → Entered (insert row rows) n r buf
@@ -65,11 +51,11 @@ module _ (s : Counts) (b : List ℕ) (f : List Row → List Row) where
         → Held N D st s b d → Held N D (change (some N) f st) (rowsPut s r) b′ d
     unfolding change
     put-in Full d N D (running rows notes) E H =
-        let no : fits width (some N) (f rows) ≡ false = sym (fits-is N (f rows) (H .rows-long)) ∙ put-full _ _ (E rows (H .inside .1) .answer) in
+        let no : fits width (some N) (f rows) ≡ false = sym (fits-is N (f rows) (H .rows-long)) ∙ picked-full _ _ (E rows (H .inside .1) .answer) in
         rw no (record { rows-long = len ∙ H .rows-long; notes-long = H .notes-long; inside = (refl, omega arith) })
     put-in (Done m) d N D (running rows notes) E H =
         let e = E rows (H .inside .1) in
-        let p : (Fits (length b) (f rows) ≡ true) × (m ≡ length (f rows)) = put-done _ _ _ (e .answer) in
+        let p : (Fits (length b) (f rows) ≡ true) × (m ≡ length (f rows)) = picked-done _ _ _ (e .answer) in
         let yes : fits width (some N) (f rows) ≡ true = sym (fits-is N (f rows) (H .rows-long)) ∙ p .0 in
         let holds : Holds (f rows) (length (f rows)) (image width (length b) (f rows)) = holds-image (length b) (f rows) (keeps rows (H .inside .1 .table)) (leb-true _ _ (p .0)) in
         rw yes (record { rows-long = len ∙ H .rows-long; notes-long = H .notes-long; inside = (refl, rw (p .1, e .after (p .0)) holds, H .inside .2) })

@@ -5,6 +5,7 @@ use mathlib.Core.List.{List, [], _∷_}
 use lib.ListN.{length}
 use lib.Dec.{leb, eqb}
 
+-- from a to z, both included
 unfoldable pub between : ℕ → ℕ → ℕ → Bool
 between a z b = leb a b && leb b z
 

@@ -273,22 +273,23 @@ done≢full m e =
     let z : _≡_ {A = ℕ} 0 1 = cc in
     absurd (omega arith)
 
-picked-done : (t : Bool) (m k : ℕ) → Done m ≡ pick t (Done k) Full → t ≡ true
-picked-done true m k e = refl
+-- the answer of a change that fits, of one that doesn't
+pub picked-done : (t : Bool) (m k : ℕ) → Done m ≡ pick t (Done k) Full → (t ≡ true) × (m ≡ k)
+picked-done true m k e = (refl, cc)
 picked-done false m k e = done≢full m e
 
-picked-full : (t : Bool) (k : ℕ) → Full ≡ pick t (Done k) Full → t ≡ false
+pub picked-full : (t : Bool) (k : ℕ) → Full ≡ pick t (Done k) Full → t ≡ false
 picked-full true k e = done≢full k (sym e)
 picked-full false k e = refl
 
 pub room-done : (n : ℕ) (row : Row) (rows : List Row) (m : ℕ) (after : List ℕ) → Inserted row rows n (Done m) after → Room n rows row ≡ true
-room-done n row rows m after I = picked-done (Room n rows row) m (length (insert row rows)) (I .answer)
+room-done n row rows m after I = picked-done (Room n rows row) m (length (insert row rows)) (I .answer) .0
 
 pub room-full : (n : ℕ) (row : Row) (rows : List Row) (after : List ℕ) → Inserted row rows n Full after → Room n rows row ≡ false
 room-full n row rows after I = picked-full (Room n rows row) (length (insert row rows)) (I .answer)
 
 pub more-done : (n : ℕ) (row : Row) (rows : List Row) (m : ℕ) (after : List ℕ) → Pushed row rows n (Done m) after → More n rows ≡ true
-more-done n row rows m after P = picked-done (More n rows) m (length rows + 1) (P .answer)
+more-done n row rows m after P = picked-done (More n rows) m (length rows + 1) (P .answer) .0
 
 pub more-full : (n : ℕ) (row : Row) (rows : List Row) (after : List ℕ) → Pushed row rows n Full after → More n rows ≡ false
 more-full n row rows after P = picked-full (More n rows) (length rows + 1) (P .answer)

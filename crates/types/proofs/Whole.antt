@@ -1,14 +1,12 @@
 -- A TYPE from its parts: the two passes are the definition's fields, and with the two diagnostics before them the statement. Assumes nothing.
-use Prim.Native.Nat.{ℕ, _+_, _≤_, _<_}
+use Prim.Native.Nat.{ℕ, _+_, _<_}
 use mathlib.Core.Path.{_≡_, refl, sym, ap, _∙_, subst}
-use mathlib.Core.Bool.{Bool, not}
-use mathlib.Core.Logic.{_⊎_, inl, inr}
+use mathlib.Core.Bool.{Bool, true, not}
 use mathlib.Core.List.{List, [], append-nil}
 use mathlib.Core.Option.{some}
 use native.Mathlib.Omega.{arith}
 use lib.Dec.{eqb}
-use lib.ListN.{length, getD, List·getD-eq-default}
-use borrow.Author.Tests.{eqb-true}
+use lib.ListN.{length, getD}
 use Rattle.words.specs.Word.{payOf}
 use Rattle.expr.specs.Expr.{Expr}
 use Rattle.expr.proofs.Parts.{wrote-first, pay-is}
@@ -18,7 +16,7 @@ use Rattle.tree.specs.Stands.{Stands}
 use Rattle.views.specs.View.{FieldDecl, rowsOf, items, fieldDecl, TypeDef, view}
 use Rattle.parts.specs.Over.{field-rows-over}
 use Rattle.table.specs.Rows.{Row, find, remove, Holds}
-use Rattle.table.specs.Laws.{order}
+use Rattle.lent.specs.RuleLaws.{name-below}
 use Rattle.entries.specs.Entries.{entryKey, has, rowWord, typeRow}
 use Rattle.steps.specs.State.{State, running, stopped, when, asking, push}
 use Rattle.steps.specs.declared.Counts.{Counts}
@@ -88,7 +86,7 @@ pub record TypeParts (ws ns : List ℕ) (n at line : ℕ) (r : Tree Expr (oneRow
   pub name-is : payOf (getD ws (at + 1) 0) ≡ name
   pub count-is : payOf (getD ws (at + 2) 0) ≡ count decls
   pub there : Stands ws ns n (at + 3) decls end
-  pub named : getD ns name 0 ≡ 1
+  pub named : eqb (getD ns name 0) 1 ≡ true
   pub view-is : view typeKind (over see r) ≡ TypeDef name (rowsOf fieldDecl decls)
 
 pub type-parts : {ws ns : List ℕ} {n at line end : ℕ} (r : Tree Expr (oneRow (sorts typeKind))) → Stands ws ns n at (Stmt typeKind line r) end → TypeParts ws ns n at line r end
@@ -111,7 +109,7 @@ type-parts {ws} {ns} {n} {at} {line} {end} (cons (word x) (cons (list rs) done))
       name-is = ap payOf (g .is) ∙ pay-is 2 x (s .valid .1 .0 .1);
       count-is = ap payOf c ∙ pay-is 1 (count rs) (s .valid .1 .1 .0 .0);
       there = record { wrote = p; valid = s .valid .1 .1 .0 .1 };
-      named = eqb-true (getD ns x 0) 1 (s .valid .1 .0 .0);
+      named = s .valid .1 .0 .0;
       view-is = ap (TypeDef x) (field-rows-over see rs);
     }
 
@@ -129,19 +127,10 @@ module _ {ws : List ℕ} {at : ℕ} where
 
   -- a name's number is below the number of the marks
   pub type-name : SomeType ws at → payOf (getD ws (at + 1) 0) + 1 < 16777216
-  type-name T = omega (arith, T .few, below (T .any .names) (p .name) (p .named), p .name-is)
+  type-name T = omega (arith, T .few, name-below (T .any .names) (p .name) (p .named), p .name-is)
     where
       p : TypeParts ws (T .any .names) (T .any .strings) at (T .any .stmt .line) (T .any .stmt .fields) (T .any .stmt .end)
       p = type-there T
-
-      below : (ns : List ℕ) (x : ℕ) → getD ns x 0 ≡ 1 → x < length ns
-      below ns x e = go (order x (length ns))
-        where
-          go : (x < length ns) ⊎ (length ns ≤ x) → x < length ns
-          go (inl h) = h
-          go (inr h) =
-              let z : _≡_ {A = ℕ} 0 1 = sym (List·getD-eq-default ns 0 h) ∙ e in
-              absurd (omega arith)
 
 -- the two diagnostics, and then the fields
 module _ (ws : List ℕ) (at scope : ℕ) {s t₁ t₂ r : Counts} {b d d₁ d₂ b′ d′ : List ℕ} (twice inner : Bool) (prev : ℕ) (fit : Fit s (length b) (length d))

@@ -4,7 +4,6 @@ use mathlib.Core.Path.{_≡_, refl, sym, ap, _∙_}
 use mathlib.Core.Bool.{Bool, true, false}
 use mathlib.Core.List.{List}
 use mathlib.Core.Option.{Option}
-use native.Mathlib.Omega.{arith}
 use lib.Dec.{eqb}
 use lib.ListN.{length}
 use borrow.Author.Tests.{eq-eqb, ne-eqb}
@@ -13,7 +12,7 @@ use Rattle.words.specs.Told.{Told, stops, gives, after, unless}
 use Rattle.words.specs.Refusals.{refused}
 use Rattle.words.specs.declared.Refusal.the-variants.{Word, Depth, Lookup}
 use Rattle.expr.specs.Expr.{Expr}
-use Rattle.expr.specs.Got.{Got, got, wrong, deep}
+use Rattle.expr.specs.Got.{Got}
 use Rattle.expr.specs.Answer.{stepOf}
 use Rattle.expr.specs.declared.Cursor.{Cursor}
 use Rattle.expr.specs.declared.Step.{Step}
@@ -23,8 +22,9 @@ use Rattle.tree.specs.Tree.{one, Tree}
 use Rattle.tree.specs.Stands.{Stands, SomeTree}
 use Rattle.tree.specs.Reader.{programAt}
 use Rattle.tree.proofs.Sound.{program-sound}
+use Rattle.reader.specs.Answered.{answer-read, answer-wrong, answer-deep}
 use Rattle.reader.specs.Program.{Program, programOf, wholeOf}
-use Rattle.lent.specs.Rules.{isName}
+use Rattle.lent.specs.Rules.{isMarked}
 use Rattle.subscripts.specs.Subscripts.{inExpr, subscriptCount}
 use Rattle.subscripts.specs.Code.{useOf}
 use Rattle.subscripts.specs.declared.Use.{Use}
@@ -52,7 +52,7 @@ module _ {ns ws : List ℕ} {at : ℕ} (R : WasRead ns ws at) where
 
   -- what is told after reading
   rest : ℕ → Program → Told (Option ℕ)
-  rest name p = unless (isName ns name) 11 0 (gives (subscriptCount (λ name (e : Expr). inExpr name e) name p))
+  rest name p = unless (isMarked ns name) 11 0 (gives (subscriptCount (λ name (e : Expr). inExpr name e) name p))
 
   read-is : (name : ℕ) → countOf ns ws name ≡ after (pick (eqb at (length ws)) (gives (R .body)) (stops 2 at)) (rest name)
   unfolding countOf programOf wholeOf rest
@@ -66,11 +66,11 @@ module _ {ns ws : List ℕ} {at : ℕ} (R : WasRead ns ws at) where
   unfolding after
   whole-is name q = read-is name ∙ ap (λ (b : Bool). after (pick b (gives (R .body)) (stops 2 at)) (rest name)) (eq-eqb at (length ws) q)
 
-  pub no-name-is : (name : ℕ) → at ≡ length ws → isName ns name ≡ false → refused Lookup ≡ countOf ns ws name
+  pub no-name-is : (name : ℕ) → at ≡ length ws → isMarked ns name ≡ false → refused Lookup ≡ countOf ns ws name
   unfolding refused rest unless
   no-name-is name q z = sym (whole-is name q ∙ ap (λ (b : Bool). unless b 11 0 (gives (subscriptCount (λ name (e : Expr). inExpr name e) name (R .body)))) z)
 
-  pub counted-is : (name : ℕ) {t : Told (Option ℕ)} {o : Option ℕ} → at ≡ length ws → isName ns name ≡ true → ((ks : List ℕ) (k : ℕ) (v : Tree Expr (one body)) (end : ℕ) → Stands ws ks k 0 v end → o ≡ subscriptCount (λ name (e : Expr). inExpr name e) name v) → t ≡ gives o → t ≡ countOf ns ws name
+  pub counted-is : (name : ℕ) {t : Told (Option ℕ)} {o : Option ℕ} → at ≡ length ws → isMarked ns name ≡ true → ((ks : List ℕ) (k : ℕ) (v : Tree Expr (one body)) (end : ℕ) → Stands ws ks k 0 v end → o ≡ subscriptCount (λ name (e : Expr). inExpr name e) name v) → t ≡ gives o → t ≡ countOf ns ws name
   unfolding rest unless
   counted-is name q z f e = e ∙ ap gives (f ns (length ns) (R .body) at stands) ∙ sym (whole-is name q ∙ ap (λ (b : Bool). unless b 11 0 (gives (subscriptCount (λ name (e : Expr). inExpr name e) name (R .body)))) z)
 
@@ -78,30 +78,12 @@ module _ {ns ws : List ℕ} {at : ℕ} (R : WasRead ns ws at) where
 
 module _ (ns ws : List ℕ) (name : ℕ) where
   pub was-read : {s : Step} {c : Cursor} → s ≡ stepOf (programAt ws ns (length ns)) → s ≡ Read c → WasRead ns ws (c .at)
-  unfolding stepOf
-  was-read {s} {c} e q = go (programAt ws ns (length ns)) refl (sym q ∙ e)
-    where
-      go : (g : Got Program) → programAt ws ns (length ns) ≡ g → Read c ≡ stepOf g → WasRead ns ws (c .at)
-      go (got x m) p f =
-          let d : c ≡ record { at = m } = cc in
-          record { body = x; reads = rw (ap (λ (k : Cursor). k .at) d) p }
-      go (wrong p) q f = let z : _≡_ {A = ℕ} 0 1 = cc in absurd (omega arith)
-      go (deep p) q f = let z : _≡_ {A = ℕ} 0 1 = cc in absurd (omega arith)
+  was-read e q = let r = answer-read (programAt ws ns (length ns)) e q in record { body = r .tree; reads = r .is }
 
   pub wrong-is : {s : Step} {p : ℕ} → s ≡ stepOf (programAt ws ns (length ns)) → s ≡ Wrong p → refused (Word p) ≡ countOf ns ws name
-  unfolding stepOf countOf programOf wholeOf refused after
-  wrong-is {s} {p} e q = go (programAt ws ns (length ns)) refl (sym q ∙ e)
-    where
-      go : (g : Got Program) → programAt ws ns (length ns) ≡ g → Wrong p ≡ stepOf g → stops 2 p ≡ countOf ns ws name
-      go (got x m) h f = let z : _≡_ {A = ℕ} 0 1 = cc in absurd (omega arith)
-      go (wrong x) h f = let r : p ≡ x = cc in rw (h, r) refl
-      go (deep x) h f = let z : _≡_ {A = ℕ} 0 1 = cc in absurd (omega arith)
+  unfolding countOf programOf wholeOf refused after
+  wrong-is e q = rw (answer-wrong (programAt ws ns (length ns)) e q) refl
 
   pub deep-is : {s : Step} {p : ℕ} → s ≡ stepOf (programAt ws ns (length ns)) → s ≡ Deep p → refused (Depth p) ≡ countOf ns ws name
-  unfolding stepOf countOf programOf wholeOf refused after
-  deep-is {s} {p} e q = go (programAt ws ns (length ns)) refl (sym q ∙ e)
-    where
-      go : (g : Got Program) → programAt ws ns (length ns) ≡ g → Deep p ≡ stepOf g → stops 3 p ≡ countOf ns ws name
-      go (got x m) h f = let z : _≡_ {A = ℕ} 0 1 = cc in absurd (omega arith)
-      go (wrong x) h f = let z : _≡_ {A = ℕ} 0 1 = cc in absurd (omega arith)
-      go (deep x) h f = let r : p ≡ x = cc in rw (h, r) refl
+  unfolding countOf programOf wholeOf refused after
+  deep-is e q = rw (answer-deep (programAt ws ns (length ns)) e q) refl

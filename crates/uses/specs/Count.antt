@@ -10,14 +10,14 @@ use Rattle.expr.specs.Expr.{Expr}
 use Rattle.expr.specs.Got.{got}
 use Rattle.tree.specs.Reader.{programAt}
 use Rattle.reader.specs.Program.{Program, programOf}
-use Rattle.lent.specs.Rules.{isName}
+use Rattle.lent.specs.Rules.{isMarked}
 use Rattle.subscripts.specs.Subscripts.{inExpr, subscriptCount}
 use Rattle.uses.specs.declared.Answer.{Answer}
 use Rattle.uses.specs.declared.Answer.the-variants.{Counted, NoUse, Refused}
 
 -- ns: for each string 1 where it is a name. Numbers 2 or 3, then 11; the words are the body's and no more.
 unfoldable pub countOf : (ns ws : List ℕ) (name : ℕ) → Told (Option ℕ)
-countOf ns ws name = after (programOf ns ws) (λ (p : Program). unless (isName ns name) 11 0 (gives (subscriptCount (λ name (e : Expr). inExpr name e) name p)))
+countOf ns ws name = after (programOf ns ws) (λ (p : Program). unless (isMarked ns name) 11 0 (gives (subscriptCount (λ name (e : Expr). inExpr name e) name p)))
 
 -- document 01's number and values for each case of the answer
 unfoldable pub told : Answer → Told (Option ℕ)

@@ -10,7 +10,7 @@ use Rattle.words.specs.Told.{gives, after, unless}
 use Rattle.words.specs.Refusals.{refused}
 use Rattle.strings.specs.Open.{Answers}
 use Rattle.strings.specs.Table.{stringAt, namesOf}
-use Rattle.lent.specs.Rules.{isName}
+use Rattle.lent.specs.Rules.{isMarked}
 use Rattle.lookup.specs.Builtins.{builtin}
 use Rattle.lookup.specs.Answers.{argumentsOf}
 use Rattle.leaves.specs.Leaves.{sized, builtinAt}
@@ -38,10 +38,10 @@ from c = c .before .before .before .before .before
 shut : (c : tie.After-f) → Answers (sized (from c .args .bytes .now) (from c .args .ends .now)) (from c .args .bytes .now) (from c .args .ends .now) (refused (c .f .given .0 .0)) (gives (tt {0}))
 shut c = subst (λ (g : Gate). Answers (sized (from c .args .bytes .now) (from c .args .ends .now)) (from c .args .bytes .now) (from c .args .ends .now) (tellGate g) (gives (tt {0}))) (c .f .given .1) (c .before .before .passes .ensures .0)
 
-named : (c : tie.After-is-name) → isName (namesOf (start (c .before .before .before) .args .bytes .now) (start (c .before .before .before) .args .ends .now)) (start (c .before .before .before) .args .name) ≡ c .is-name .result
+named : (c : tie.After-is-name) → isMarked (namesOf (start (c .before .before .before) .args .bytes .now) (start (c .before .before .before) .args .ends .now)) (start (c .before .before .before) .args .name) ≡ c .is-name .result
 named c =
     let s = start (c .before .before .before) in
-    ap (λ (l : List ℕ). isName l (s .args .name)) (sym (c .before .before .names-of .ensures .first)) ∙ sym (c .is-name .ensures)
+    ap (λ (l : List ℕ). isMarked l (s .args .name)) (sym (c .before .before .names-of .ensures .first)) ∙ sym (c .is-name .ensures)
 
 passes-requires : tie.Need-passes-requires
 passes-requires c κs = search needs

@@ -1,6 +1,7 @@
 -- Numbers 2 and 3, or a list that was read. Assumes nothing.
 use lib.ListN.{length}
-use Rattle.resolution.proofs.Laws.{stopped, read-is, args-wrong, args-deep}
+use Rattle.reader.specs.Answered.{answer-read}
+use Rattle.resolution.proofs.Laws.{stopped, args-wrong, args-deep}
 use borrow.Author.Needs.{needs}
 use Rattle.resolution.proofs.arguments_at.Statement.{statement}
 use Rattle.resolution.proofs.arguments_at.Tie as tie
@@ -15,7 +16,7 @@ enum-known-s : tie.Need-enum-known-s
 enum-known-s c = search needs
 
 arguments-requires : tie.Need-arguments-requires
-arguments-requires c κs = (read-is _ (c .before .before .before .before .list .ensures) (c .before .before .s .given .1), c .before .before .before .before .before .before .before .before .before .pre)
+arguments-requires c κs = (answer-read _ (c .before .before .before .before .list .ensures) (c .before .before .s .given .1), c .before .before .before .before .before .before .before .before .before .pre)
 
 enum-known-s-2 : tie.Need-enum-known-s-2
 enum-known-s-2 c = search needs

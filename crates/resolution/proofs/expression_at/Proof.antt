@@ -1,6 +1,7 @@
 -- Numbers 2 and 3, or an expression that was read. Assumes nothing.
 use lib.ListN.{length}
-use Rattle.resolution.proofs.Laws.{stopped, read-is, expr-wrong, expr-deep}
+use Rattle.reader.specs.Answered.{answer-read}
+use Rattle.resolution.proofs.Laws.{stopped, expr-wrong, expr-deep}
 use borrow.Author.Needs.{needs}
 use Rattle.resolution.proofs.expression_at.Statement.{statement}
 use Rattle.resolution.proofs.expression_at.Tie as tie
@@ -15,7 +16,7 @@ enum-known-s : tie.Need-enum-known-s
 enum-known-s c = search needs
 
 expression-requires : tie.Need-expression-requires
-expression-requires c κs = (read-is _ (c .before .before .before .before .expr .ensures) (c .before .before .s .given .1), c .before .before .before .before .before .before .before .before .before .pre)
+expression-requires c κs = (answer-read _ (c .before .before .before .before .expr .ensures) (c .before .before .s .given .1), c .before .before .before .before .before .before .before .before .before .pre)
 
 enum-known-s-2 : tie.Need-enum-known-s-2
 enum-known-s-2 c = search needs

@@ -2,8 +2,8 @@
 use mathlib.Core.Path.{subst}
 use lib.ListN.{length}
 use Rattle.tree.specs.Reader.{programAt}
-use Rattle.resolution.specs.Inner.{Read}
-use Rattle.resolution.proofs.Laws.{stopped, read-is, all-over, all-wrong, all-deep}
+use Rattle.reader.specs.Answered.{ReadTo, answer-read}
+use Rattle.resolution.proofs.Laws.{stopped, all-over, all-wrong, all-deep}
 use borrow.Author.Needs.{needs}
 use Rattle.resolution.proofs.program_at.Statement.{statement}
 use Rattle.resolution.proofs.program_at.Tie as tie
@@ -21,7 +21,7 @@ returns : tie.Need-returns
 returns c = stopped _ _ (all-over (c .before .before .before .before .before .before .before .before .before .args .names .now) (c .before .before .before .before .before .before .before .before .before .args .words .now) (c .before .before .before .before .before .before .before .before .before .args .rows .now) (length (c .before .before .before .before .before .before .before .before .before .args .out .now)) (c .before .before .before .before .program .ensures) (c .before .before .s .given .1) (c .if1 .taken))
 
 program-requires-2 : tie.Need-program-requires-2
-program-requires-2 c κs = (subst (λ k. Read (programAt (c .before .before .before .before .before .before .before .before .before .before .args .words .now) (c .before .before .before .before .before .before .before .before .before .before .args .names .now) (length (c .before .before .before .before .before .before .before .before .before .before .args .names .now))) k) (c .before .if1 .left) (read-is _ (c .before .before .before .before .before .program .ensures) (c .before .before .before .s .given .1)), c .before .before .before .before .before .before .before .before .before .before .pre)
+program-requires-2 c κs = (subst (λ k. ReadTo (programAt (c .before .before .before .before .before .before .before .before .before .before .args .words .now) (c .before .before .before .before .before .before .before .before .before .before .args .names .now) (length (c .before .before .before .before .before .before .before .before .before .before .args .names .now))) k) (c .before .if1 .left) (answer-read _ (c .before .before .before .before .before .program .ensures) (c .before .before .before .s .given .1)), c .before .before .before .before .before .before .before .before .before .before .pre)
 
 enum-known-s-2 : tie.Need-enum-known-s-2
 enum-known-s-2 c = search needs

@@ -1,6 +1,6 @@
 -- Where an expression's children stand, its shape by the kind of its head, and what is left of them at each turn of stepping over it. Assumes nothing.
 use Prim.Native.Nat.{ℕ, _+_, _-_, _<_, _≤_}
-use mathlib.Core.Path.{_≡_, refl, sym, ap, _∙_}
+use mathlib.Core.Path.{_≡_, refl, sym, ap, subst, _∙_}
 use mathlib.Core.Logic.{_⊎_, inl, inr, ⊎-elim}
 use mathlib.Core.Bool.{Bool, true, false}
 use mathlib.Core.List.{List, [], _∷_}
@@ -18,7 +18,7 @@ use Rattle.skip.specs.declared.Shape.{Shape}
 
 -- ---- where the children stand
 
-literal-long : (l : Literal) → length (wordsL l) ≡ literalWords (kindL l)
+pub literal-long : (l : Literal) → length (wordsL l) ≡ literalWords (kindL l)
 unfolding wordsL literalWords kindL
 literal-long (Integer a) = refl
 literal-long (Long a) = refl
@@ -110,6 +110,10 @@ inside {ws} {n} {at} {e} {end} s = inside-of ws n e at end (s .wrote) (s .valid)
 -- r is the shape of what stands there
 abbrev pub ShapedAt : List ℕ → ℕ → Shape → Type 0
 ShapedAt ws at r = (n : Strings) (e : Expr) (end : ℕ) → Stands ws n at e end → Shaped e r
+
+-- an answer that is this shape
+pub told : {ws : List ℕ} {at : ℕ} {r s : Shape} → r ≡ s → ShapedAt ws at s → ShapedAt ws at r
+told {ws} {at} q S = subst (λ (x : Shape). ShapedAt ws at x) (sym q) S
 
 module _ {ws : List ℕ} {at : ℕ} where
   pub shape-16 : kindOf (getD ws at 0) ≡ 16 → {f : ℕ} → f ≡ literalWords (kindOf (getD ws (at + 1) 0)) → ShapedAt ws at (record { front = 1 + f; children = 0; back = 0 })

@@ -23,48 +23,30 @@ fn literal(kind: u32) -> usize
     }
 }
 
+// So many words, then so many children, then so many words.
+fn sizes(front: usize, children: u32, back: usize) -> Shape
+    ensures { λ r. ⌜ r ≡ record { front = front; children = children; back = back } ⌝ }
+{
+    Shape {
+        front,
+        children,
+        back,
+    }
+}
+
 // The shape of the expression there.
 pub fn shape_at(words: &[u32], at: usize) -> Shape
     requires { ⌜ SomeExpr (now words) at ⌝ }
     ensures { λ r. ⌜ ((n : Strings) (e : Expr) (end : ℕ) → Stands (now (words .entry)) n at e end → Shaped e r) ⌝ }
 {
-    let k = words[at] / 16777216;
-    match k {
-        16 => Shape {
-            front: 1 + literal(words[at + 1] / 16777216),
-            children: 0,
-            back: 0,
-        },
-        17 => Shape {
-            front: 2,
-            children: 0,
-            back: 0,
-        },
-        18 | 21 => Shape {
-            front: 3,
-            children: words[at + 2] % 16777216,
-            back: 0,
-        },
-        19 => Shape {
-            front: 2,
-            children: 1,
-            back: 0,
-        },
-        20 => Shape {
-            front: 2,
-            children: 2,
-            back: 0,
-        },
-        22 => Shape {
-            front: 1,
-            children: 1,
-            back: 1,
-        },
-        _ => Shape {
-            front: 1,
-            children: 1,
-            back: 0,
-        },
+    match words[at] / 16777216 {
+        16 => sizes(1 + literal(words[at + 1] / 16777216), 0, 0),
+        17 => sizes(2, 0, 0),
+        18 | 21 => sizes(3, words[at + 2] % 16777216, 0),
+        19 => sizes(2, 1, 0),
+        20 => sizes(2, 2, 0),
+        22 => sizes(1, 1, 1),
+        _ => sizes(1, 1, 0),
     }
 }
 

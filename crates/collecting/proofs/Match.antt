@@ -30,7 +30,7 @@ module _ {ws ns bytes ends : List ℕ} {scope at : ℕ} {s : Counts} {b d : List
   there : StmtAt ns (length ends) (kindAt j) ws at
   there = at-kind j q (R .tree)
 
-  any-there : SomeStmt (kindAt j) ws at
+  abbrev any-there : SomeStmt (kindAt j) ws at
   any-there = record { names = ns; strings = length ends; stmt = there }
 
   declared-there : ReadyStmt (kindAt j) bytes ends ws at

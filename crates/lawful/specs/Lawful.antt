@@ -37,7 +37,7 @@ use Rattle.consteval.specs.EvalLaws.{Words32}
 use Rattle.consteval.specs.RowLaws.{consts-enter}
 use Rattle.subscripts.specs.Subscripts.{indexed, subscriptCount}
 use Rattle.steps.specs.State.{running, Step, each}
-use Rattle.lookup.specs.Builtins.{isBuiltin}
+use Rattle.lookup.specs.Builtins.{isSome, isBuiltin}
 use Rattle.collect.specs.Seen.{Seen, see}
 use Rattle.collect.specs.Collect as C
 use Rattle.collect.specs.Collect.{Given, Proc, FieldInfo, RecordInfo, withField, rejected, fieldRows, paramRows, marked, constOf}
@@ -358,7 +358,7 @@ module _ (ns : List ℕ) (n : ℕ) where
 
     sharedAll-k : (d : Declarator Seen) → FineDecl ns n d → Keeps ns n (C.sharedAll G d)
     unfolding C.sharedAll
-    sharedAll-k d a = entry-k _ (dim-shared-e (d .name) (a .name) (C.isSome (d .dimensions)))
+    sharedAll-k d a = entry-k _ (dim-shared-e (d .name) (a .name) (isSome (d .dimensions)))
 
     dimShared-k : (scope line : ℕ) (ds : List (Declarator Seen)) → Each (FineDecl ns n) ds → Keeps ns n (C.dimShared G scope line ds)
     unfolding C.dimShared

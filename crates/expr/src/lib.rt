@@ -2,7 +2,7 @@
 ghost use mathlib.Core.Path.{_≡_};
 ghost use Rattle.expr.specs.Reader.{rawAt, testAt, leafAt, nameAt, headAt, floatAt, literalAt, listAt, exprAt};
 ghost use Rattle.expr.specs.Expr.{finite, Literal, Single, Strings};
-ghost use Rattle.expr.specs.Answer.{stepOf};
+ghost use Rattle.expr.specs.Answer.{stepOf, then};
 
 pub struct Cursor {
     pub at: usize,
@@ -191,25 +191,35 @@ impl Cursor {
                 };
                 d.expr(words, names, n, left - 1)
             }
-            20 => {
-                let t = c.leaf(words, 9, 18);
-                let Step::Read(d) = t else {
-                    return t;
-                };
-                let u = d.expr(words, names, n, left - 1);
-                let Step::Read(e) = u else {
-                    return u;
-                };
-                e.expr(words, names, n, left - 1)
-            }
-            22 => {
-                let t = c.expr(words, names, n, left - 1);
-                let Step::Read(d) = t else {
-                    return t;
-                };
-                d.name(words, names)
-            }
+            20 => c.binary(words, names, n, left - 1),
+            22 => c.field(words, names, n, left - 1),
             _ => c.expr(words, names, n, left - 1),
         }
+    }
+
+    // an operator and its two sides, each with `left` levels left
+    fn binary(self, words: &[u32], names: &[u8], n: u32, left: usize) -> Step
+        ensures { λ r. ⌜ r ≡ then (stepOf (leafAt (now (words .entry)) 9 18 (self .at))) (λ m. then (stepOf (exprAt (now (words .entry)) (record { count = n; names = now (names .entry) }) left m)) (λ m′. stepOf (exprAt (now (words .entry)) (record { count = n; names = now (names .entry) }) left m′))) ⌝ }
+    {
+        let t = self.leaf(words, 9, 18);
+        let Step::Read(c) = t else {
+            return t;
+        };
+        let u = c.expr(words, names, n, left);
+        let Step::Read(d) = u else {
+            return u;
+        };
+        d.expr(words, names, n, left)
+    }
+
+    // an expression with `left` levels left, and the name of a field of it
+    fn field(self, words: &[u32], names: &[u8], n: u32, left: usize) -> Step
+        ensures { λ r. ⌜ r ≡ then (stepOf (exprAt (now (words .entry)) (record { count = n; names = now (names .entry) }) left (self .at))) (λ m. stepOf (nameAt (now (words .entry)) (now (names .entry)) m)) ⌝ }
+    {
+        let t = self.expr(words, names, n, left);
+        let Step::Read(c) = t else {
+            return t;
+        };
+        c.name(words, names)
     }
 }

@@ -12,14 +12,17 @@ use Rattle.expr.specs.Expr.{Strings, Expr, Call, Exprs, many, words, wordsAll, 
 use Rattle.expr.specs.Stands.{Wrote, Stands, StandsAll}
 use Rattle.expr.proofs.Parts.{pay-is}
 use Rattle.expr.proofs.Nodes.{kind-of}
+use Rattle.skip.specs.Shape.{SomeExpr, children, Shaped}
+use Rattle.skip.specs.declared.Shape.{Shape}
+use Rattle.skip.proofs.Laws.{ShapedAt, front-some}
 use Rattle.table.specs.Rows.{Row, Holds}
 use Rattle.resolve.specs.Tables.{Tables, Places, places, nowhere, element}
 use Rattle.resolve.specs.FromRows.{tablesOf}
 use Rattle.resolve.specs.Resolve.{resolveExpr, resolveArgs}
 use Rattle.resolve.specs.Keeps.{shorter-args}
-use Rattle.resolver.specs.Node.{front, kids, back, Shaped, pairOf, bare}
-use Rattle.resolver.specs.Post.{Room, Some, Ready, ReadyAll, Put, Resolved, ResolvedArgs, Paired, ShapedAt}
-use Rattle.resolver.proofs.Nodes.{node, front-some, inside, moves, in-call, in-pair, long-3, least-21}
+use Rattle.resolver.specs.Node.{front, back, pairOf, bare}
+use Rattle.resolver.specs.Post.{Room, Some, Ready, ReadyAll, Put, Resolved, ResolvedArgs, Paired}
+use Rattle.resolver.proofs.Nodes.{node, inside, before, after, moves, in-call, in-pair}
 use Rattle.resolver.proofs.Writing.{sets-append, stands-bare, call-words, pair-words, node-words}
 use Rattle.resolver.proofs.Pairs.{unpaired}
 use Rattle.resolver.proofs.Lists.{Part, Walked, part-start, part-next, part-step, part-end}
@@ -122,8 +125,9 @@ ready-call r q z =
     }
 
 pub call-room : {ws buf : List ℕ} {count scope at to size : ℕ} → Ready ws buf count scope at to size → kindOf (getD ws at 0) ≡ 21 → (at + 3 ≤ length ws) × (to + 3 ≤ size)
-call-room r q =
-    let l = long-3 21 q least-21 (r .some .stands) in
+call-room {ws} {at = at} r q =
+    let s = in-call q (r .some .stands) .there in
+    let l : at + 3 ≤ length ws = omega (arith, s .wrote .span, s .wrote .inside) in
     (l, omega (arith, r .room .behind, r .room .fits))
 
 pub call-done : {ws buf out mid last : List ℕ} {count scope at to a t h : ℕ} → kindOf (getD ws at 0) ≡ 21 → ((rows : List Row) → Holds rows count buf → h ≡ wordOf (pick (element (tablesOf rows) scope (payOf (getD ws (at + 1) 0))) 18 21) 0) → mid ≡ sets out to (h ∷ getD ws (at + 1) 0 ∷ getD ws (at + 2) 0 ∷ []) → ResolvedArgs (payOf (getD ws (at + 1) 0)) (payOf (getD ws (at + 2) 0)) ws buf mid last count scope (at + 3) (to + 3) a t → Resolved ws buf out last count scope at to a t
@@ -150,74 +154,83 @@ call-done {ws} {buf} {out} {mid} {last} {count} {scope} {at} {to} {a} {t} {h} q 
 
 -- ---- any other node
 
-module _ {ws buf : List ℕ} {count scope at to size h k z : ℕ} (r : Ready ws buf count scope at to size) (g : ShapedAt ws at h k z) where
-  pub shape : Shaped (r .some .tree) h k z
-  shape = g .gives (r .some .strings) (r .some .tree) (r .some .end) (r .some .stands)
+-- some expression, as the code that skips has it
+pub some-expr : {ws : List ℕ} {at : ℕ} → Some ws at → SomeExpr ws at
+some-expr s = record { strings = s .strings; expr = s .tree; end = s .end; stands = s .stands }
+
+module _ {ws buf : List ℕ} {count scope at to size : ℕ} {f : Shape} (r : Ready ws buf count scope at to size) (g : ShapedAt ws at f) where
+  pub shape : Shaped (r .some .tree) f
+  shape = g (r .some .strings) (r .some .tree) (r .some .end) (r .some .stands)
 
   -- a node's children stand past it
-  pub beyond : 0 < h
-  beyond = omega (arith, shape .before, front-some (r .some .tree))
+  pub beyond : 0 < f .front
+  beyond = front-some (some-expr (r .some)) g
 
-  pub front-room : (at + h ≤ length ws) × (to + h ≤ size)
+  pub front-room : (at + f .front ≤ length ws) × (to + f .front ≤ size)
   front-room =
       let l = simp length-append at (ap length (node (r .some .tree))) in
-      let x : at + h ≤ length ws = omega (arith, shape .before, r .some .stands .wrote .span, r .some .stands .wrote .inside) in
+      let x : at + f .front ≤ length ws = omega (arith, before shape, r .some .stands .wrote .span, r .some .stands .wrote .inside) in
       (x, omega (arith, r .room .behind, r .room .fits))
 
-  unfoldable pub ready-kids : {size′ : ℕ} → size′ ≡ size → ReadyAll ws buf count scope (at + h) (to + h) size′ k
-  ready-kids q =
+  unfoldable pub ready-kids : {size′ a t : ℕ} → size′ ≡ size → a ≡ at + f .front → t ≡ to + f .front → ReadyAll ws buf count scope a t size′ (f .children)
+  ready-kids q x y =
       let I = inside (r .some .stands) in
       let i = I .there in
       record {
         strings = r .some .strings;
-        trees = kids (r .some .tree);
+        trees = children (r .some .tree);
         end = I .mid;
-        stands = rw (shape .before) i;
-        counted = sym (shape .within);
+        stands = rw (x, before shape) i;
+        counted = sym (shape .children-is);
         room = record { rows = r .room .rows; holds = r .room .holds; held = r .room .held; scoped = r .room .scoped; behind = omega (arith, r .room .behind); fits = omega (arith, r .room .fits) };
       }
 
-  pub back-room : {one now : List ℕ} {size′ a t i : ℕ} → size′ ≡ size → Walked (λ T. nowhere) k ws buf one count scope (at + h) (to + h) a t i now → k ≤ i → (a + z ≤ length ws) × (t + z ≤ size′)
+  pub back-room : {one now : List ℕ} {size′ a₀ t₀ a t i : ℕ} → size′ ≡ size → a₀ ≡ at + f .front → t₀ ≡ to + f .front → Walked (λ T. nowhere) (f .children) ws buf one count scope a₀ t₀ a t i now → f .children ≤ i → (a + f .back ≤ length ws) × (t + f .back ≤ size′)
   unfolding ready-kids
-  back-room {one} {now} {size′} {a} {t} {i} q w e =
-      let K = ready-kids q in
+  back-room {one} {now} {size′} {a₀} {t₀} {a} {t} {i} q x y w e =
+      let K = ready-kids q x y in
       let d = ended K w e in
       let I = inside (r .some .stands) in
       let b = I .behind in
-      let x : a + z ≤ length ws = omega (arith, d, shape .behind, b .span, b .inside) in
-      (x, omega (arith, d, K .room .fits))
+      let z : a + f .back ≤ length ws = omega (arith, d, after shape, b .span, b .inside) in
+      (z, omega (arith, d, K .room .fits))
 
 front-words : {ws : List ℕ} {n : Strings} {at : ℕ} {e : Expr} {end h : ℕ} → Stands ws n at e end → h ≡ length (front e) → take h (drop at ws) ≡ front e
 front-words {ws} {n} {at} {e} {end} {h} s q =
-    ap (λ (l : List ℕ). take h l) (s .wrote .is ∙ ap (λ (l : List ℕ). l ++ drop end ws) (node e) ∙ append-assoc (front e) (wordsAll (kids e) ++ back e) (drop end ws))
-    ∙ ap (λ (i : ℕ). take i (front e ++ ((wordsAll (kids e) ++ back e) ++ drop end ws))) q
-    ∙ take-append-seam (front e) ((wordsAll (kids e) ++ back e) ++ drop end ws)
+    ap (λ (l : List ℕ). take h l) (s .wrote .is ∙ ap (λ (l : List ℕ). l ++ drop end ws) (node e) ∙ append-assoc (front e) (wordsAll (children e) ++ back e) (drop end ws))
+    ∙ ap (λ (i : ℕ). take i (front e ++ ((wordsAll (children e) ++ back e) ++ drop end ws))) q
+    ∙ take-append-seam (front e) ((wordsAll (children e) ++ back e) ++ drop end ws)
 
 back-words : {ws : List ℕ} {at : ℕ} {xs : List ℕ} {end z : ℕ} → Wrote ws at xs end → z ≡ length xs → take z (drop at ws) ≡ xs
 back-words {ws} {at} {xs} {end} {z} w q = ap (λ (l : List ℕ). take z l) (w .is) ∙ ap (λ (i : ℕ). take i (xs ++ drop end ws)) q ∙ take-append-seam xs (drop end ws)
 
-pub node-done : {ws buf out one now last : List ℕ} {count scope at to h k z a t i : ℕ} → (kindOf (getD ws at 0) ≡ 21 → ⊥) → (kindOf (getD ws at 0) ≡ 23 → ⊥) → ShapedAt ws at h k z → one ≡ sets out to (take h (drop at ws)) → Walked (λ T. nowhere) k ws buf one count scope (at + h) (to + h) a t i now → k ≤ i → last ≡ sets now t (take z (drop a ws)) → Resolved ws buf out last count scope at to (a + z) (t + z)
-node-done {ws} {buf} {out} {one} {now} {last} {count} {scope} {at} {to} {h} {k} {z} {a} {t} {i} nc np g b w e c = record { gives = λ rows H n x end s. go rows H n x end s }
+-- what `copied` tells: the words from a place on are written, and both places are past them
+abbrev pub Copied : (ws out last : List ℕ) (at to n at′ to′ : ℕ) → Type 0
+Copied ws out last at to n at′ to′ = (at′ ≡ at + n) × (to′ ≡ to + n) × (last ≡ sets out to (take n (drop at ws)))
+
+pub node-done : {ws buf out one now last : List ℕ} {count scope at to a₀ t₀ a t a′ t′ i : ℕ} {f : Shape} → (kindOf (getD ws at 0) ≡ 21 → ⊥) → (kindOf (getD ws at 0) ≡ 23 → ⊥) → ShapedAt ws at f → Copied ws out one at to (f .front) a₀ t₀ → Walked (λ T. nowhere) (f .children) ws buf one count scope a₀ t₀ a t i now → f .children ≤ i → Copied ws now last a t (f .back) a′ t′ → Resolved ws buf out last count scope at to a′ t′
+node-done {ws} {buf} {out} {one} {now} {last} {count} {scope} {at} {to} {a₀} {t₀} {a} {t} {a′} {t′} {i} {f} nc np g b w e c = record { gives = λ rows H n x end s. go rows H n x end s }
   where
-    go : (rows : List Row) → Holds rows count buf → (n : Strings) (x : Expr) (end : ℕ) → Stands ws n at x end → Put (words (resolveExpr (tablesOf rows) scope x)) out last to (a + z) (t + z) end
+    go : (rows : List Row) → Holds rows count buf → (n : Strings) (x : Expr) (end : ℕ) → Stands ws n at x end → Put (words (resolveExpr (tablesOf rows) scope x)) out last to a′ t′ end
     go rows H n x end s =
         let T : Tables = tablesOf rows in
-        let S = g .gives n x end s in
+        let S = g n x end s in
         let I = inside s in
         let j = I .there in
-        let d = part-end (w .gives rows H n (kids x) (I .mid) (rw (S .before) j) (sym (S .within))) (omega (arith, S .within)) in
-        let mid : List ℕ = wordsAll (resolveArgs T scope nowhere (kids x)) in
+        let d = part-end (w .gives rows H n (children x) (I .mid) (rw (b .0, before S) j) (sym (S .children-is))) (omega (arith, S .children-is)) in
+        let mid : List ℕ = wordsAll (resolveArgs T scope nowhere (children x)) in
         let bk : Wrote ws a (back x) end = rw (d .past) (I .behind) in
         let whole : words (resolveExpr T scope x) ≡ front x ++ (mid ++ back x) = node-words T scope x (λ y. nc (kind-of s ∙ y)) (λ y. np (kind-of s ∙ y)) in
+        let p : t₀ ≡ to + length (front x) = b .1 ∙ ap (λ (h : ℕ). to + h) (before S) in
         record {
-          past = omega (arith, bk .span, S .behind);
-          upto = rw whole (simp length-append (omega (arith, d .upto, S .before, S .behind)));
-          now = rw whole (c
-              ∙ ap (λ (l : List ℕ). sets now t l) (back-words bk (S .behind))
+          past = omega (arith, c .0, bk .span, after S);
+          upto = rw whole (simp length-append (omega (arith, c .1, d .upto, p, after S)));
+          now = rw whole (c .2
+              ∙ ap (λ (l : List ℕ). sets now t l) (back-words bk (after S))
               ∙ ap (λ (l : List ℕ). sets l t (back x)) (d .now)
-              ∙ ap (λ (p : ℕ). sets (sets one (to + h) mid) p (back x)) (d .upto)
-              ∙ sym (sets-append mid (back x) one (to + h))
-              ∙ ap (λ (l : List ℕ). sets l (to + h) (mid ++ back x)) (b ∙ ap (λ (l : List ℕ). sets out to l) (front-words s (S .before)))
-              ∙ ap (λ (p : ℕ). sets (sets out to (front x)) (to + p) (mid ++ back x)) (S .before)
+              ∙ ap (λ (q : ℕ). sets (sets one t₀ mid) q (back x)) (d .upto)
+              ∙ sym (sets-append mid (back x) one t₀)
+              ∙ ap (λ (l : List ℕ). sets l t₀ (mid ++ back x)) (b .2 ∙ ap (λ (l : List ℕ). sets out to l) (front-words s (before S)))
+              ∙ ap (λ (q : ℕ). sets (sets out to (front x)) q (mid ++ back x)) p
               ∙ sym (sets-append (front x) (mid ++ back x) out to));
         }

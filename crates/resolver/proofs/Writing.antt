@@ -12,10 +12,11 @@ use Rattle.words.specs.Word.{wordOf, kindOf, payOf, pick}
 use Rattle.expr.specs.Expr.{Strings, Expr, Lit, Var, Elem, Unary, Binary, Call, Field, Paren, Exprs, none, more, many, words, wordsAll, wordsL, Valid, Valids, kindE}
 use Rattle.expr.specs.Stands.{Wrote, Stands, StandsAll}
 use Rattle.expr.proofs.Parts.{wrote-first}
+use Rattle.skip.specs.Shape.{children}
 use Rattle.resolve.specs.Tables.{Tables, Places, nowhere, places, after, element}
 use Rattle.resolve.specs.Resolve.{passed, called, resolveExpr, resolveArgs}
 use Rattle.resolve.specs.Flags.{passed-false}
-use Rattle.resolver.specs.Node.{front, kids, back, pairOf, bare}
+use Rattle.resolver.specs.Node.{front, back, pairOf, bare}
 
 -- ---- stores
 
@@ -85,8 +86,8 @@ unfolding resolveExpr
 pair-words T σ e = refl
 
 -- neither a call nor a pair: the children resolved, the words around them as they are
-pub node-words : (T : Tables) (σ : ℕ) (e : Expr) → (kindE e ≡ 21 → ⊥) → (kindE e ≡ 23 → ⊥) → words (resolveExpr T σ e) ≡ front e ++ (wordsAll (resolveArgs T σ nowhere (kids e)) ++ back e)
-unfolding resolveExpr resolveArgs words wordsAll front kids back nowhere after kindE
+pub node-words : (T : Tables) (σ : ℕ) (e : Expr) → (kindE e ≡ 21 → ⊥) → (kindE e ≡ 23 → ⊥) → words (resolveExpr T σ e) ≡ front e ++ (wordsAll (resolveArgs T σ nowhere (children e)) ++ back e)
+unfolding resolveExpr resolveArgs words wordsAll front children back nowhere after kindE
 node-words T σ (Lit l) c p = sym (append-nil (wordOf 16 0 ∷ wordsL l))
 node-words T σ (Var x) c p = refl
 node-words T σ (Elem x es) c p = ap₂ (λ (n : ℕ) (l : List ℕ). wordOf 18 0 ∷ wordOf 2 x ∷ wordOf 1 n ∷ l) (many-args T σ nowhere es) (sym (append-nil (wordsAll (resolveArgs T σ nowhere es))))

@@ -1,12 +1,10 @@
--- An expression as a node: the words before its children, its children, the words after them; and a whole argument as the pair that it
--- keeps and what is resolved after it. These are definitions.
+-- An expression as a node: the words before its children and those after them; and a whole argument as the pair that it keeps and what is
+-- resolved after it. These are definitions.
 use Prim.Native.Nat.{ℕ}
-use mathlib.Core.Path.{_≡_}
 use mathlib.Core.Bool.{Bool}
 use mathlib.Core.List.{List, [], _∷_}
-use lib.ListN.{length}
 use Rattle.words.specs.Word.{wordOf, pick}
-use Rattle.expr.specs.Expr.{Expr, Lit, Var, Elem, Unary, Binary, Call, Field, Paren, Exprs, none, more, many, wordsL}
+use Rattle.expr.specs.Expr.{Expr, Lit, Var, Elem, Unary, Binary, Call, Field, Paren, many, wordsL}
 
 unfoldable pub front : Expr → List ℕ
 unfolding wordsL many
@@ -19,16 +17,6 @@ front (Call x es) = wordOf 21 0 ∷ wordOf 2 x ∷ wordOf 1 (many es) ∷ []
 front (Field e x) = wordOf 22 0 ∷ []
 front (Paren e) = wordOf 23 0 ∷ []
 
-unfoldable pub kids : Expr → Exprs
-kids (Lit l) = none
-kids (Var x) = none
-kids (Elem x es) = es
-kids (Unary o e) = more e none
-kids (Binary o l r) = more l (more r none)
-kids (Call x es) = es
-kids (Field e x) = more e none
-kids (Paren e) = more e none
-
 unfoldable pub back : Expr → List ℕ
 back (Lit l) = []
 back (Var x) = []
@@ -38,12 +26,6 @@ back (Binary o l r) = []
 back (Call x es) = []
 back (Field e x) = wordOf 2 x ∷ []
 back (Paren e) = []
-
--- the three numbers that the code goes by
-pub record Shaped (e : Expr) (h k z : ℕ) : Type 0 where
-  pub before : h ≡ length (front e)
-  pub within : k ≡ many (kids e)
-  pub behind : z ≡ length (back e)
 
 -- the pair that an argument keeps, by reference or not
 unfoldable pub pairOf : Bool → Expr → List ℕ

@@ -10,7 +10,7 @@ use Rattle.table.specs.Rows.{Row, width, Holds}
 use Rattle.resolve.specs.Tables.{Tables, places}
 use Rattle.resolve.specs.FromRows.{tablesOf}
 use Rattle.resolve.specs.Resolve.{resolveExpr, resolveArgs}
-use Rattle.resolver.specs.Node.{pairOf, Shaped}
+use Rattle.resolver.specs.Node.{pairOf}
 use mathlib.Core.Bool.{Bool}
 
 -- the buffer holds rows, and the output has room: it is as long as the tree, writing is not past reading, and resolving lengthens nothing
@@ -59,6 +59,3 @@ pub record ResolvedArgs (f k : ℕ) (ws buf out last : List ℕ) (count scope at
 -- the pair of the argument there is written where k says `by_ref`, and h is how many words that is
 pub record Paired (k : Tables → Bool) (ws buf out last : List ℕ) (count at to h : ℕ) : Type 0 where
   pub gives : (rows : List Row) → Holds rows count buf → (n : Strings) (e : Expr) (end : ℕ) → Stands ws n at e end → (h ≡ length (pairOf (k (tablesOf rows)) e)) × (last ≡ sets out to (pairOf (k (tablesOf rows)) e))
-
-pub record ShapedAt (ws : List ℕ) (at h k z : ℕ) : Type 0 where
-  pub gives : (n : Strings) (e : Expr) (end : ℕ) → Stands ws n at e end → Shaped e h k z

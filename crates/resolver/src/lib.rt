@@ -8,7 +8,7 @@ ghost use Rattle.words.specs.Word.{wordOf, kindOf, pick};
 ghost use Rattle.table.specs.Rows.{Row, width, Holds};
 ghost use Rattle.resolve.specs.Tables.{Tables, places, element};
 ghost use Rattle.resolve.specs.FromRows.{tablesOf};
-ghost use Rattle.resolver.specs.Post.{Room, Some, Ready, ReadyAll, Resolved, ResolvedArgs, Paired, ShapedAt};
+ghost use Rattle.resolver.specs.Post.{Room, Some, Ready, ReadyAll, Resolved, ResolvedArgs, Paired};
 
 // A reading place and a writing place.
 pub struct Spot {
@@ -28,71 +28,15 @@ pub fn copy(words: &[u32], out: &mut [u32], at: usize, to: usize, n: usize)
     }
 }
 
-// How many words of a node stand before its children, how many children it has, and how many words stand after them.
-pub struct Shape {
-    front: usize,
-    kids: u32,
-    back: usize,
-}
-
-// The shape of the node at `at`.
-fn shape_at(words: &[u32], at: usize) -> Shape
-    requires { ⌜ Some (now words) at ⌝ }
-    ensures { λ r. ⌜ ShapedAt (now (words .entry)) at (r .front) (r .kids) (r .back) ⌝ }
+// Copies n words, and tells the places past them.
+fn copied(words: &[u32], out: &mut [u32], at: usize, to: usize, n: usize) -> Spot
+    requires { ⌜ (at + n ≤ length (now words)) × (to + n ≤ length (now out)) ⌝ }
+    ensures { λ r. ⌜ (r .at ≡ at + n) × (r .to ≡ to + n) × (now (out .exit) ≡ sets (now (out .entry)) to (take n (drop at (now (words .entry))))) ⌝ }
 {
-    match words[at] / 16777216 {
-        16 => match words[at + 1] / 16777216 {
-            26 => Shape {
-                front: 4,
-                kids: 0,
-                back: 0,
-            },
-            27 => Shape {
-                front: 4,
-                kids: 0,
-                back: 0,
-            },
-            _ => Shape {
-                front: 3,
-                kids: 0,
-                back: 0,
-            },
-        },
-        17 => Shape {
-            front: 2,
-            kids: 0,
-            back: 0,
-        },
-        18 => Shape {
-            front: 3,
-            kids: words[at + 2] % 16777216,
-            back: 0,
-        },
-        19 => Shape {
-            front: 2,
-            kids: 1,
-            back: 0,
-        },
-        20 => Shape {
-            front: 2,
-            kids: 2,
-            back: 0,
-        },
-        21 => Shape {
-            front: 3,
-            kids: words[at + 2] % 16777216,
-            back: 0,
-        },
-        22 => Shape {
-            front: 1,
-            kids: 1,
-            back: 1,
-        },
-        _ => Shape {
-            front: 1,
-            kids: 1,
-            back: 0,
-        },
+    copy(words, out, at, to, n);
+    Spot {
+        at: at + n,
+        to: to + n,
     }
 }
 
@@ -164,13 +108,12 @@ pub fn resolve_expr(
         begin(words, out, at, to, head(rows, count, scope, f));
         return resolve_args(words, rows, count, scope, out, at + 3, to + 3, f, n);
     }
-    let s = shape_at(words, at);
-    let h = s.front;
-    let n = s.kids;
+    let s = skip::shape_at(words, at);
+    let n = s.children;
     let z = s.back;
-    copy(words, out, at, to, h);
-    let mut a = at + h;
-    let mut t = to + h;
+    let front = copied(words, out, at, to, s.front);
+    let mut a = front.at;
+    let mut t = front.to;
     let mut i = 0;
     while i < n {
         let m = resolve_expr(words, rows, count, scope, out, a, t);
@@ -178,11 +121,7 @@ pub fn resolve_expr(
         t = m.to;
         i += 1;
     }
-    copy(words, out, a, t, z);
-    Spot {
-        at: a + z,
-        to: t + z,
-    }
+    copied(words, out, a, t, z)
 }
 
 // Resolves the n arguments of a call of f, one in parentheses keeping one pair where its parameter is by reference.

@@ -1,6 +1,6 @@
 -- The cycle of `resolve_args` and `resolve_expr`: each cites the laws of `Calls`. The measure is twice the words left from the reading place,
 -- and one more for a list of arguments, whose first member stands where the list does. Assumes nothing.
-use Rattle.resolver.proofs.Calls.{list-start, here, ready-next, ended, list-step, ready-plain, plain-step, args-done, ready-pair, pair-done, ready-call, call-room, call-done, beyond, front-room, ready-kids, back-room, node-done}
+use Rattle.resolver.proofs.Calls.{list-start, here, ready-next, ended, list-step, ready-plain, plain-step, args-done, ready-pair, pair-done, ready-call, call-room, call-done, some-expr, beyond, front-room, ready-kids, back-room, node-done}
 use Rattle.resolver.proofs.Nodes.{moves}
 use Prim.Native.Nat.{ℕ, _+_, _-_, _*_, _<_}
 use mathlib.Core.Path.{_≡_, refl, sym, ap, _∙_}
@@ -18,10 +18,10 @@ use Rattle.resolver.proofs.resolve_expr.Reads as resolve-expr
 use Rattle.resolver.proofs.resolve_expr.Kinds as resolve-expr-kinds
 use Rattle.resolver.proofs.+resolve_args+resolve_expr.Lts-resolve_expr as resolve-expr-lts
 use Rattle.resolver.proofs.begin.Reads as begin-reads
-use Rattle.resolver.proofs.copy.Reads as copy-reads
+use Rattle.resolver.proofs.copied.Reads as copied-reads
 use Rattle.resolver.proofs.head.Reads as head-reads
 use Rattle.resolver.proofs.pair.Reads as pair-reads
-use Rattle.resolver.proofs.shape_at.Reads as shape-at-reads
+use Rattle.skip.proofs.shape_at.Reads as shape-at-reads
 use Rattle.resolver.proofs.+resolve_args+resolve_expr.{statement}
 use Rattle.resolver.proofs.+resolve_args+resolve_expr.Tie.{close}
 
@@ -56,7 +56,7 @@ resolve-expr-below t =
     resolve-expr.Pre
 
 abbrev K-resolve-expr : ℕ → resolve-expr-lts.Claims
-K-resolve-expr t = (resolve-expr-below t, resolve-expr.Post, head-reads.Asked, head-reads.Learnt, begin-reads.Asked, begin-reads.Learnt, resolve-args-below t, resolve-args.Post, shape-at-reads.Asked, shape-at-reads.Learnt, copy-reads.Asked, copy-reads.Learnt)
+K-resolve-expr t = (resolve-expr-below t, resolve-expr.Post, head-reads.Asked, head-reads.Learnt, begin-reads.Asked, begin-reads.Learnt, resolve-args-below t, resolve-args.Post, shape-at-reads.Asked, shape-at-reads.Learnt, copied-reads.Asked, copied-reads.Learnt)
 
 abbrev K-resolve-args : ℕ → resolve-args-lts.Claims
 K-resolve-args t = (pair-reads.Asked, pair-reads.Learnt, resolve-expr-below t, resolve-expr.Post)
@@ -98,10 +98,10 @@ resolve-args-returns : (t : ℕ) → resolve-args-lts.Need-returns (K-resolve-ar
 resolve-args-returns t c = args-done (c .before .loop .inv .1) (c .loop-test .left)
 
 abbrev resolve-expr-Inv-loop : resolve-expr-lts.InvT-loop
-resolve-expr-Inv-loop words rows count scope out₀ at to kind h n z a₀ t₀ i₀ out a t i = (length out ≡ length out₀) × Walked (λ T. nowhere) n words rows out₀ count scope a₀ t₀ a t i out
+resolve-expr-Inv-loop words rows count scope out₀ at to kind n z a₀ t₀ i₀ out a t i = (length out ≡ length out₀) × Walked (λ T. nowhere) n words rows out₀ count scope a₀ t₀ a t i out
 
 abbrev resolve-expr-μ-loop : resolve-expr-lts.MeasureT-loop
-resolve-expr-μ-loop words rows count scope out₀ at to kind h n z a₀ t₀ i₀ out a t i = n - i
+resolve-expr-μ-loop words rows count scope out₀ at to kind n z a₀ t₀ i₀ out a t i = n - i
 
 resolve-expr-mul-kind : (t : ℕ) → resolve-expr-lts.Need-mul-kind (K-resolve-expr t) (resolve-expr-at t) resolve-expr.Post resolve-expr-Inv-loop resolve-expr-μ-loop
 resolve-expr-mul-kind t c = omega (arith, moves (c .before .before .before .pre .1 .some .stands))
@@ -161,22 +161,16 @@ resolve-expr-returns-2 : (t : ℕ) → resolve-expr-lts.Need-returns-2 (K-resolv
 resolve-expr-returns-2 t c = call-done (c .before .before .before .before .before .before .before .before .before .before .before .if2 .taken) (λ rs H. c .before .before .before .before .before .before .before .head .ensures rs H) (c .before .before .before .before .before .before .begin .ensures) (c .before .before .resolve-args .ensures)
 
 resolve-expr-shape-at-requires : (t : ℕ) → resolve-expr-lts.Need-shape-at-requires (K-resolve-expr t) (resolve-expr-at t) resolve-expr.Post resolve-expr-Inv-loop resolve-expr-μ-loop
-resolve-expr-shape-at-requires t c κs = c .before .before .before .before .before .before .pre .1 .some
+resolve-expr-shape-at-requires t c κs = some-expr (c .before .before .before .before .before .before .pre .1 .some)
 
-resolve-expr-copy-requires : (t : ℕ) → resolve-expr-lts.Need-copy-requires (K-resolve-expr t) (resolve-expr-at t) resolve-expr.Post resolve-expr-Inv-loop resolve-expr-μ-loop
-resolve-expr-copy-requires t c κs = front-room (c .before .before .before .before .before .before .before .before .pre .1) (c .before .shape-at .ensures)
-
-resolve-expr-add-a : (t : ℕ) → resolve-expr-lts.Need-add-a (K-resolve-expr t) (resolve-expr-at t) resolve-expr.Post resolve-expr-Inv-loop resolve-expr-μ-loop
-resolve-expr-add-a t c = omega (arith, front-room (c .before .before .before .before .before .before .before .before .before .before .before .pre .1) (c .before .before .before .before .shape-at .ensures))
-
-resolve-expr-add-t : (t : ℕ) → resolve-expr-lts.Need-add-t (K-resolve-expr t) (resolve-expr-at t) resolve-expr.Post resolve-expr-Inv-loop resolve-expr-μ-loop
-resolve-expr-add-t t c = omega (arith, front-room (c .before .before .before .before .before .before .before .before .before .before .before .pre .1) (c .before .before .before .before .shape-at .ensures), c .before .before .before .before .before .before .before .before .before .before .before .pre .1 .room .behind)
+resolve-expr-copied-requires : (t : ℕ) → resolve-expr-lts.Need-copied-requires (K-resolve-expr t) (resolve-expr-at t) resolve-expr.Post resolve-expr-Inv-loop resolve-expr-μ-loop
+resolve-expr-copied-requires t c κs = front-room (c .before .before .before .before .before .before .before .before .pre .1) (c .before .shape-at .ensures)
 
 resolve-expr-loop-holds : (t : ℕ) → resolve-expr-lts.Need-loop-holds (K-resolve-expr t) (resolve-expr-at t) resolve-expr.Post resolve-expr-Inv-loop resolve-expr-μ-loop
 resolve-expr-loop-holds t c = (refl, list-start (λ T. nowhere) _ _ _ _ _ _ _ _)
 
 resolve-expr-resolve-expr-requires-2 : (t : ℕ) → resolve-expr-lts.Need-resolve-expr-requires-2 (K-resolve-expr t) (resolve-expr-at t) resolve-expr.Post resolve-expr-Inv-loop resolve-expr-μ-loop
-resolve-expr-resolve-expr-requires-2 t c κs = (omega (arith, c .before .before .before .before .before .before .before .before .before .before .before .before .before .before .pre .0, here (ready-kids (c .before .before .before .before .before .before .before .before .before .before .before .before .before .before .pre .1) (c .before .before .before .before .before .before .before .shape-at .ensures) refl) (c .before .before .loop .inv .1) (c .before .loop-test .taken) .from, here (ready-kids (c .before .before .before .before .before .before .before .before .before .before .before .before .before .before .pre .1) (c .before .before .before .before .before .before .before .shape-at .ensures) refl) (c .before .before .loop .inv .1) (c .before .loop-test .taken) .inside, beyond (c .before .before .before .before .before .before .before .before .before .before .before .before .before .before .pre .1) (c .before .before .before .before .before .before .before .shape-at .ensures)), ready-plain (ready-kids (c .before .before .before .before .before .before .before .before .before .before .before .before .before .before .pre .1) (c .before .before .before .before .before .before .before .shape-at .ensures) refl) (c .before .before .loop .inv .1) (c .before .loop-test .taken) (c .before .before .loop .inv .0 ∙ c .before .before .before .before .before .copy .kept .1 .0))
+resolve-expr-resolve-expr-requires-2 t c κs = (omega (arith, c .before .before .before .before .before .before .before .before .before .before .before .before .before .before .pre .0, here (ready-kids (c .before .before .before .before .before .before .before .before .before .before .before .before .before .before .pre .1) (c .before .before .before .before .before .before .before .shape-at .ensures) refl (c .before .before .before .before .before .copied .ensures .0) (c .before .before .before .before .before .copied .ensures .1)) (c .before .before .loop .inv .1) (c .before .loop-test .taken) .from, here (ready-kids (c .before .before .before .before .before .before .before .before .before .before .before .before .before .before .pre .1) (c .before .before .before .before .before .before .before .shape-at .ensures) refl (c .before .before .before .before .before .copied .ensures .0) (c .before .before .before .before .before .copied .ensures .1)) (c .before .before .loop .inv .1) (c .before .loop-test .taken) .inside, beyond (c .before .before .before .before .before .before .before .before .before .before .before .before .before .before .pre .1) (c .before .before .before .before .before .before .before .shape-at .ensures), c .before .before .before .before .before .copied .ensures .0), ready-plain (ready-kids (c .before .before .before .before .before .before .before .before .before .before .before .before .before .before .pre .1) (c .before .before .before .before .before .before .before .shape-at .ensures) refl (c .before .before .before .before .before .copied .ensures .0) (c .before .before .before .before .before .copied .ensures .1)) (c .before .before .loop .inv .1) (c .before .loop-test .taken) (c .before .before .loop .inv .0 ∙ c .before .before .before .before .before .copied .kept .1 .0))
 
 resolve-expr-add-i : (t : ℕ) → resolve-expr-lts.Need-add-i (K-resolve-expr t) (resolve-expr-at t) resolve-expr.Post resolve-expr-Inv-loop resolve-expr-μ-loop
 resolve-expr-add-i t c = omega (arith, c .before .before .before .before .loop-test .taken)
@@ -187,20 +181,14 @@ resolve-expr-loop-less t c = omega (arith, c .before .before .before .before .lo
 resolve-expr-loop-again : (t : ℕ) → resolve-expr-lts.Need-loop-again (K-resolve-expr t) (resolve-expr-at t) resolve-expr.Post resolve-expr-Inv-loop resolve-expr-μ-loop
 resolve-expr-loop-again t c = (c .before .before .resolve-expr2 .kept .1 .1 .1 .1 .0 ∙ c .before .before .before .before .before .loop .inv .0, plain-step (c .before .before .before .before .before .loop .inv .1) (c .before .before .before .before .loop-test .taken) (c .before .before .resolve-expr2 .ensures))
 
-resolve-expr-copy-requires-2 : (t : ℕ) → resolve-expr-lts.Need-copy-requires-2 (K-resolve-expr t) (resolve-expr-at t) resolve-expr.Post resolve-expr-Inv-loop resolve-expr-μ-loop
-resolve-expr-copy-requires-2 t c κs = back-room (c .before .before .before .before .before .before .before .before .before .before .before .before .before .before .pre .1) (c .before .before .before .before .before .before .before .shape-at .ensures) (c .before .before .loop .inv .0 ∙ c .before .before .before .before .before .copy .kept .1 .0) (c .before .before .loop .inv .1) (c .before .loop-test .left)
-
-resolve-expr-add-t19 : (t : ℕ) → resolve-expr-lts.Need-add-t19 (K-resolve-expr t) (resolve-expr-at t) resolve-expr.Post resolve-expr-Inv-loop resolve-expr-μ-loop
-resolve-expr-add-t19 t c = omega (arith, back-room (c .before .before .before .before .before .before .before .before .before .before .before .before .before .before .before .before .before .pre .1) (c .before .before .before .before .before .before .before .before .before .before .shape-at .ensures) (c .before .before .before .before .before .loop .inv .0 ∙ c .before .before .before .before .before .before .before .before .copy .kept .1 .0) (c .before .before .before .before .before .loop .inv .1) (c .before .before .before .before .loop-test .left))
-
-resolve-expr-add-t44 : (t : ℕ) → resolve-expr-lts.Need-add-t44 (K-resolve-expr t) (resolve-expr-at t) resolve-expr.Post resolve-expr-Inv-loop resolve-expr-μ-loop
-resolve-expr-add-t44 t c = omega (arith, back-room (c .before .before .before .before .before .before .before .before .before .before .before .before .before .before .before .before .before .pre .1) (c .before .before .before .before .before .before .before .before .before .before .shape-at .ensures) (c .before .before .before .before .before .loop .inv .0 ∙ c .before .before .before .before .before .before .before .before .copy .kept .1 .0) (c .before .before .before .before .before .loop .inv .1) (c .before .before .before .before .loop-test .left))
+resolve-expr-copied-requires-2 : (t : ℕ) → resolve-expr-lts.Need-copied-requires-2 (K-resolve-expr t) (resolve-expr-at t) resolve-expr.Post resolve-expr-Inv-loop resolve-expr-μ-loop
+resolve-expr-copied-requires-2 t c κs = back-room (c .before .before .before .before .before .before .before .before .before .before .before .before .before .before .pre .1) (c .before .before .before .before .before .before .before .shape-at .ensures) (c .before .before .loop .inv .0 ∙ c .before .before .before .before .before .copied .kept .1 .0) (c .before .before .before .before .before .copied .ensures .0) (c .before .before .before .before .before .copied .ensures .1) (c .before .before .loop .inv .1) (c .before .loop-test .left)
 
 resolve-expr-same-length-3 : (t : ℕ) → resolve-expr-lts.Need-same-length-3 (K-resolve-expr t) (resolve-expr-at t) resolve-expr.Post resolve-expr-Inv-loop resolve-expr-μ-loop
-resolve-expr-same-length-3 t c = c .before .before .copy2 .kept .1 .0 ∙ c .before .before .before .before .before .loop .inv .0 ∙ c .before .before .before .before .before .before .before .before .copy .kept .1 .0
+resolve-expr-same-length-3 t c = c .before .before .copied2 .kept .1 .0 ∙ c .before .before .before .before .before .loop .inv .0 ∙ c .before .before .before .before .before .before .before .before .copied .kept .1 .0
 
 resolve-expr-returns-3 : (t : ℕ) → resolve-expr-lts.Need-returns-3 (K-resolve-expr t) (resolve-expr-at t) resolve-expr.Post resolve-expr-Inv-loop resolve-expr-μ-loop
-resolve-expr-returns-3 t c = node-done (c .before .before .before .before .before .before .before .before .before .before .before .if2 .left) (c .before .before .before .before .before .before .before .before .before .before .before .before .if1 .left) (c .before .before .before .before .before .before .before .before .before .before .shape-at .ensures) (c .before .before .before .before .before .before .before .before .copy .ensures) (c .before .before .before .before .before .loop .inv .1) (c .before .before .before .before .loop-test .left) (c .before .before .copy2 .ensures)
+resolve-expr-returns-3 t c = node-done (c .before .before .before .before .before .before .before .before .before .before .before .if2 .left) (c .before .before .before .before .before .before .before .before .before .before .before .before .if1 .left) (c .before .before .before .before .before .before .before .before .before .before .shape-at .ensures) (c .before .before .before .before .before .before .before .before .copied .ensures) (c .before .before .before .before .before .loop .inv .1) (c .before .before .before .before .loop-test .left) (c .before .before .copied2 .ensures)
 
 pub +resolve-args+resolve-expr-spec : {M : Type 1} → statement M
 +resolve-args+resolve-expr-spec = close μ-resolve-args μ-resolve-expr (λ t. resolve-args-lts.spec (K-resolve-args t)
@@ -243,16 +231,12 @@ pub +resolve-args+resolve-expr-spec : {M : Type 1} → statement M
     (resolve-expr-same-length-2 t)
     (resolve-expr-returns-2 t)
     (resolve-expr-shape-at-requires t)
-    (resolve-expr-copy-requires t)
-    (resolve-expr-add-a t)
-    (resolve-expr-add-t t)
+    (resolve-expr-copied-requires t)
     (resolve-expr-loop-holds t)
     (resolve-expr-resolve-expr-requires-2 t)
     (resolve-expr-add-i t)
     (resolve-expr-loop-less t)
     (resolve-expr-loop-again t)
-    (resolve-expr-copy-requires-2 t)
-    (resolve-expr-add-t19 t)
-    (resolve-expr-add-t44 t)
+    (resolve-expr-copied-requires-2 t)
     (resolve-expr-same-length-3 t)
     (resolve-expr-returns-3 t)

@@ -1,1 +1,2 @@
+-- What the walk that resolves statements promises.
 pub mod Post

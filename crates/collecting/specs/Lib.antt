@@ -1,2 +1,3 @@
+-- What the walk of collecting promises, and what it begins with.
 pub mod Walk
 pub mod Start

@@ -1,2 +1,3 @@
+-- Examples by computing, document 01's worked one among them.
 pub mod Examples
 pub mod Worked

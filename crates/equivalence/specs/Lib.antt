@@ -1,3 +1,4 @@
+-- `Step`, `Chain` and `Analysis` are the terms of demand 3 and `Demand3` is its statement; the others are laws.
 pub mod Chain
 pub mod Step
 pub mod StepLaws

@@ -28,7 +28,7 @@ use Rattle.analyse.specs.declared.Given.{Given}
 use Rattle.analyse.specs.declared.Answer.{Answer}
 use Rattle.analyse.specs.declared.Answer.the-variants.{Refused, Done}
 use Rattle.listing.specs.Listing.{textOf, listed, analysed, listing}
-use Rattle.listing.specs.Shown.{shownText, answerText, limit, tooShort}
+use Rattle.listing.specs.Shown.{shownText, answerText, programText, limit, tooShort}
 
 -- ---- an answer's text
 
@@ -66,28 +66,28 @@ not-short r q e rows-full = absurd (let z : _≡_ {A = Bool} true false = sym (l
 not-short r q e notes-full = absurd (let z : _≡_ {A = Bool} true false = sym (limit-short r 8 0 refl e) ∙ q in let w : _≡_ {A = ℕ} 0 1 = cc in omega arith)
 
 -- with room for the tree, the answer's text is that of the analysis in so much room, whatever the place of 1
-module _ {bytes ends erased words notes rows out notes′ rows′ out′ : List ℕ} {r : Answer} (a : Analyses bytes ends erased words r notes rows out notes′ rows′ out′) {k : ℕ} (e : length out ≡ k) (h : length words ≤ k) where
+module _ {bytes ends erased words notes rows out notes′ rows′ out′ : List ℕ} {r : Answer} (a : Analyses bytes ends erased words r notes rows out notes′ rows′ out′) (h : length words ≤ length out) where
   abbrev lent : Told Analysis
   lent = analysis (some (length rows)) (some (length notes)) (a .at) bytes ends erased words
 
   tells : Tells r notes rows out notes′ rows′ out′ lent
-  tells = rw (roomy (length rows) (length notes) (length out) (a .at) bytes ends erased words (rw e h)) at (a .is)
+  tells = rw (roomy (length rows) (length notes) (length out) (a .at) bytes ends erased words h) at (a .is)
 
   text-lent : answerText bytes ends r notes′ rows′ out′ ≡ textOf bytes ends lent
   unfolding answerText
   text-lent = ap (shownText bytes ends) (read-off r lent tells) ∙ shown-text bytes ends lent
 
   -- in the room that is promised
-  pub text-full : length rows ≡ 12288 → length notes ≡ 12288 → answerText bytes ends r notes′ rows′ out′ ≡ textOf bytes ends (analysis (some 12288) (some 12288) 0 bytes ends erased words)
-  unfolding analysis entryOf
+  pub text-full : length rows ≡ 12288 → length notes ≡ 12288 → answerText bytes ends r notes′ rows′ out′ ≡ programText bytes ends erased words
+  unfolding programText analysis entryOf
   text-full h₁ h₂ = text-lent ∙ rw (h₁, h₂) (placeless bytes ends (sizedProgram bytes ends words erased) (sound bytes ends) (a .at) _)
 
   -- in less, where it was not too short
-  pub text-few : tooShort r ≡ false → length rows ≡ 384 → length notes ≡ 384 → answerText bytes ends r notes′ rows′ out′ ≡ textOf bytes ends (analysis (some 12288) (some 12288) 0 bytes ends erased words)
-  unfolding analysis entryOf
-  text-few q h₁ h₂ =
+  pub text-first : tooShort r ≡ false → length rows ≤ 12288 → length notes ≤ 12288 → answerText bytes ends r notes′ rows′ out′ ≡ programText bytes ends erased words
+  unfolding programText analysis entryOf
+  text-first q h₁ h₂ =
       text-lent
-      ∙ ap (textOf bytes ends) (not-short r q (tells .answer) (longer-limits bytes ends erased words (length rows) (length notes) 12288 12288 (a .at) (omega (arith, h₁)) (omega (arith, h₂))))
+      ∙ ap (textOf bytes ends) (not-short r q (tells .answer) (longer-limits bytes ends erased words (length rows) (length notes) 12288 12288 (a .at) h₁ h₂))
       ∙ placeless bytes ends (sizedProgram bytes ends words erased) (sound bytes ends) (a .at) _
 
 pub counts-within : {bytes ends erased words notes rows out notes′ rows′ out′ : List ℕ} {r : Answer} → Analyses bytes ends erased words r notes rows out notes′ rows′ out′ → Within r notes′ rows′ out′
@@ -130,8 +130,8 @@ no-image l e p = rw e p
 
 pub image-text : {b c : List ℕ} {i j s w x k : ℕ} (l : List ℕ) → Shaped l s w x k → (bytes ends words erased : List ℕ)
     → bytes ≡ take k (drop (12 + 4 * s + 4 * w + 4 * x) l) → ends ≡ wordsAt l 12 s → words ≡ wordsAt l (12 + 4 * s) w → erased ≡ wordsAt l (12 + 4 * s + 4 * w) x
-    → Wrote (textOf bytes ends (analysis (some 12288) (some 12288) 0 bytes ends erased words)) b c i j → Wrote (listing l) b c i j
-unfolding listing listed analysed parts treeFrom erasedFrom bytesFrom
+    → Wrote (programText bytes ends erased words) b c i j → Wrote (listing l) b c i j
+unfolding programText listing listed analysed parts treeFrom erasedFrom bytesFrom
 image-text l h bytes ends words erased e₁ e₂ e₃ e₄ p =
     let f₁ : bytes ≡ parts l .bytes = e₁ ∙ rw (h .strings-are, h .words-are, h .erased-are, h .bytes-are) in
     let f₂ : ends ≡ parts l .ends = e₂ ∙ rw (h .strings-are) in

@@ -1,14 +1,19 @@
--- What the inner contracts cite: the text of an answer and of what stands in the buffers behind it. These are definitions.
-use Prim.Native.Nat.{ℕ}
+-- What the inner contracts cite: the text of an answer and of what stands in the buffers behind it, the text of a program, and which answers ask for more room.
+-- These are definitions.
+use Prim.Native.Nat.{ℕ, _*_}
 use mathlib.Core.Bool.{Bool, false, _||_}
 use mathlib.Core.List.{List}
+use mathlib.Core.Option.{some}
 use lib.Dec.{eqb}
 use Rattle.words.specs.Told.{Told, stops, gives}
 use Rattle.words.specs.Refusals.{numberOf}
+use Rattle.table.specs.Rows.{width, noteWidth}
 use Rattle.page.specs.Page.{page, refusal}
+use Rattle.equivalence.specs.Analysis.{analysis}
 use Rattle.analyse.specs.ReadOff.{Shown, readOff}
 use Rattle.analyse.specs.declared.Answer.{Answer}
 use Rattle.analyse.specs.declared.Answer.the-variants.{Refused, Done}
+use Rattle.listing.specs.Listing.{textOf}
 
 unfoldable pub shownText : (bytes ends : List ℕ) → Told Shown → List ℕ
 shownText bytes ends (stops n p) = refusal n
@@ -16,6 +21,10 @@ shownText bytes ends (gives s) = page bytes ends (s .diagnostics) (s .rows) (s .
 
 unfoldable pub answerText : (bytes ends : List ℕ) → Answer → (notes rows words : List ℕ) → List ℕ
 answerText bytes ends a notes rows words = shownText bytes ends (readOff a notes rows words)
+
+-- the text of a program's parts, with the rows and diagnostics that are promised
+unfoldable pub programText : (bytes ends erased words : List ℕ) → List ℕ
+programText bytes ends erased words = textOf bytes ends (analysis (some (2048 * width)) (some (2048 * noteWidth)) 0 bytes ends erased words)
 
 -- the numbers of too little room for rows and for diagnostics
 unfoldable pub limit : ℕ → Bool

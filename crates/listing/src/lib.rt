@@ -11,16 +11,14 @@ use page::put_refusal;
 use text::finish;
 use words::number;
 ghost use mathlib.Core.Path.{_≡_};
-ghost use mathlib.Core.Option.{some};
 ghost use Prim.Native.Nat.{_*_, _≤_};
 ghost use lib.ListN.{length};
 ghost use Rattle.text.specs.Wrote.{Wrote, size, laid};
 ghost use Rattle.table.specs.Rows.{width, noteWidth};
 ghost use Rattle.image.specs.Laws.{Shaped};
-ghost use Rattle.equivalence.specs.Analysis.{analysis};
 ghost use Rattle.analyse.specs.ReadOff.{Within};
-ghost use Rattle.listing.specs.Listing.{textOf, listing as listingOf};
-ghost use Rattle.listing.specs.Shown.{answerText, limit, tooShort};
+ghost use Rattle.listing.specs.Listing.{listing as listingOf};
+ghost use Rattle.listing.specs.Shown.{answerText, programText, limit, tooShort};
 
 // The text of an answer and of what stands in the buffers.
 fn put_answer(
@@ -73,60 +71,49 @@ fn too_short(a: Answer) -> bool
 }
 
 // The text of what the passes give, with the room that is promised.
-fn put_full(out: &mut [u8], bytes: &[u8], ends: &[u32], words: &[u32], erased: &[u32]) -> usize
-    requires { ⌜ length (now words) ≤ 8192 ⌝ }
-    ensures { λ r. ⌜ Wrote (textOf (now (bytes .entry)) (now (ends .entry)) (analysis (some (2048 * width)) (some (2048 * noteWidth)) 0 (now (bytes .entry)) (now (ends .entry)) (now (erased .entry)) (now (words .entry)))) (now (out .entry)) (now (out .exit)) 0 r ⌝ }
+fn put_full(
+    out: &mut [u8],
+    bytes: &[u8],
+    ends: &[u32],
+    words: &[u32],
+    erased: &[u32],
+    resolved: &mut [u32],
+) -> usize
+    requires { ⌜ length (now words) ≤ length (now resolved) ⌝ }
+    ensures { λ r. ⌜ Wrote (programText (now (bytes .entry)) (now (ends .entry)) (now (erased .entry)) (now (words .entry))) (now (out .entry)) (now (out .exit)) 0 r ⌝ }
 {
     let mut notes = [0u32; 12288];
     let mut rows = [0u32; 12288];
-    let mut resolved = [0u32; 8192];
-    let a = analyse(
-        bytes,
-        ends,
-        words,
-        erased,
-        &mut notes,
-        &mut rows,
-        &mut resolved,
-    );
-    put_answer(out, bytes, ends, &notes, &rows, &resolved, a)
+    let a = analyse(bytes, ends, words, erased, &mut notes, &mut rows, resolved);
+    put_answer(out, bytes, ends, &notes, &rows, resolved, a)
 }
 
-// The same for few words: with 64 rows and 64 diagnostics, and where they are too few once more with all. To clear all costs more than a small program does.
-fn put_few(out: &mut [u8], bytes: &[u8], ends: &[u32], words: &[u32], erased: &[u32]) -> usize
-    requires { ⌜ length (now words) ≤ 1024 ⌝ }
-    ensures { λ r. ⌜ Wrote (textOf (now (bytes .entry)) (now (ends .entry)) (analysis (some (2048 * width)) (some (2048 * noteWidth)) 0 (now (bytes .entry)) (now (ends .entry)) (now (erased .entry)) (now (words .entry)))) (now (out .entry)) (now (out .exit)) 0 r ⌝ }
+// The same, by a first run in shorter buffers: to clear all the room costs more than a small program does. Where they are too short the run begins again
+// with all of it, and at once where many names or words make many rows likely.
+fn put_first(
+    out: &mut [u8],
+    bytes: &[u8],
+    ends: &[u32],
+    words: &[u32],
+    erased: &[u32],
+    notes: &mut [u32],
+    rows: &mut [u32],
+    resolved: &mut [u32],
+) -> usize
+    requires { ⌜ (length (now words) ≤ length (now resolved)) × (length (now rows) ≤ 2048 * width) × (length (now notes) ≤ 2048 * noteWidth) ⌝ }
+    ensures { λ r. ⌜ Wrote (programText (now (bytes .entry)) (now (ends .entry)) (now (erased .entry)) (now (words .entry))) (now (out .entry)) (now (out .exit)) 0 r ⌝ }
 {
-    let mut notes = [0u32; 384];
-    let mut rows = [0u32; 384];
-    let mut resolved = [0u32; 1024];
-    let a = analyse(
-        bytes,
-        ends,
-        words,
-        erased,
-        &mut notes,
-        &mut rows,
-        &mut resolved,
-    );
-    if too_short(a) {
-        return put_full(out, bytes, ends, words, erased);
-    }
-    put_answer(out, bytes, ends, &notes, &rows, &resolved, a)
-}
-
-// Many names mean many rows: then the short buffers aren't tried.
-fn put_analysed(out: &mut [u8], bytes: &[u8], ends: &[u32], words: &[u32], erased: &[u32]) -> usize
-    requires { ⌜ length (now words) ≤ 8192 ⌝ }
-    ensures { λ r. ⌜ Wrote (textOf (now (bytes .entry)) (now (ends .entry)) (analysis (some (2048 * width)) (some (2048 * noteWidth)) 0 (now (bytes .entry)) (now (ends .entry)) (now (erased .entry)) (now (words .entry)))) (now (out .entry)) (now (out .exit)) 0 r ⌝ }
-{
-    if 1024 < words.len() {
-        return put_full(out, bytes, ends, words, erased);
-    }
     if 64 < ends.len() {
-        return put_full(out, bytes, ends, words, erased);
+        return put_full(out, bytes, ends, words, erased, resolved);
     }
-    put_few(out, bytes, ends, words, erased)
+    if 2048 < words.len() {
+        return put_full(out, bytes, ends, words, erased, resolved);
+    }
+    let a = analyse(bytes, ends, words, erased, notes, rows, resolved);
+    if too_short(a) {
+        return put_full(out, bytes, ends, words, erased, resolved);
+    }
+    put_answer(out, bytes, ends, notes, rows, resolved, a)
 }
 
 // An image's words read into lent buffers; its string bytes stay where they are.
@@ -137,8 +124,11 @@ fn put_read(
     ends: &mut [u32],
     words: &mut [u32],
     erased: &mut [u32],
+    notes: &mut [u32],
+    rows: &mut [u32],
+    resolved: &mut [u32],
 ) -> usize
-    requires { ⌜ Shaped (now image) (s .strings) (s .words) (s .erased) (s .bytes) × (s .strings ≤ length (now ends)) × (s .words ≤ length (now words)) × (s .erased ≤ length (now erased)) ⌝ }
+    requires { ⌜ Shaped (now image) (s .strings) (s .words) (s .erased) (s .bytes) × (s .strings ≤ length (now ends)) × (s .words ≤ length (now words)) × (s .erased ≤ length (now erased)) × (length (now rows) ≤ 2048 * width) × (length (now notes) ≤ 2048 * noteWidth) × (s .words ≤ length (now resolved)) ⌝ }
     ensures { λ r. ⌜ Wrote (listingOf (now (image .entry))) (now (out .entry)) (now (out .exit)) 0 r ⌝ }
 {
     let tree_from = 12 + 4 * s.strings;
@@ -148,25 +138,67 @@ fn put_read(
     read_words(image, 12, s.strings, ends);
     read_words(image, tree_from, s.words, words);
     read_words(image, erased_from, s.erased, erased);
-    put_analysed(
+    put_first(
         out,
         &image[from..to],
         &ends[..s.strings],
         &words[..s.words],
         &erased[..s.erased],
+        notes,
+        rows,
+        resolved,
     )
 }
 
+// In 7,680 bytes of buffers; 64 rows and 64 diagnostics in the first run.
 fn put_small(out: &mut [u8], image: &[u8], s: Shape) -> usize
-    requires { ⌜ Shaped (now image) (s .strings) (s .words) (s .erased) (s .bytes) × (s .strings ≤ 64) × (s .words ≤ 1024) × (s .erased ≤ 64) ⌝ }
+    requires { ⌜ Shaped (now image) (s .strings) (s .words) (s .erased) (s .bytes) × (s .strings ≤ 64) × (s .words ≤ 512) × (s .erased ≤ 64) ⌝ }
     ensures { λ r. ⌜ Wrote (listingOf (now (image .entry))) (now (out .entry)) (now (out .exit)) 0 r ⌝ }
 {
     let mut ends = [0u32; 64];
-    let mut words = [0u32; 1024];
+    let mut words = [0u32; 512];
     let mut erased = [0u32; 64];
-    put_read(out, image, s, &mut ends, &mut words, &mut erased)
+    let mut notes = [0u32; 384];
+    let mut rows = [0u32; 384];
+    let mut resolved = [0u32; 512];
+    put_read(
+        out,
+        image,
+        s,
+        &mut ends,
+        &mut words,
+        &mut erased,
+        &mut notes,
+        &mut rows,
+        &mut resolved,
+    )
 }
 
+// In 29,184 bytes of buffers; 256 rows and 256 diagnostics.
+fn put_middle(out: &mut [u8], image: &[u8], s: Shape) -> usize
+    requires { ⌜ Shaped (now image) (s .strings) (s .words) (s .erased) (s .bytes) × (s .strings ≤ 64) × (s .words ≤ 2048) × (s .erased ≤ 64) ⌝ }
+    ensures { λ r. ⌜ Wrote (listingOf (now (image .entry))) (now (out .entry)) (now (out .exit)) 0 r ⌝ }
+{
+    let mut ends = [0u32; 64];
+    let mut words = [0u32; 2048];
+    let mut erased = [0u32; 64];
+    let mut notes = [0u32; 1536];
+    let mut rows = [0u32; 1536];
+    let mut resolved = [0u32; 2048];
+    put_read(
+        out,
+        image,
+        s,
+        &mut ends,
+        &mut words,
+        &mut erased,
+        &mut notes,
+        &mut rows,
+        &mut resolved,
+    )
+}
+
+// In 86,016 bytes of buffers, for every image.
 fn put_large(out: &mut [u8], image: &[u8], s: Shape) -> usize
     requires { ⌜ Shaped (now image) (s .strings) (s .words) (s .erased) (s .bytes) ⌝ }
     ensures { λ r. ⌜ Wrote (listingOf (now (image .entry))) (now (out .entry)) (now (out .exit)) 0 r ⌝ }
@@ -174,21 +206,38 @@ fn put_large(out: &mut [u8], image: &[u8], s: Shape) -> usize
     let mut ends = [0u32; 1024];
     let mut words = [0u32; 8192];
     let mut erased = [0u32; 1024];
-    put_read(out, image, s, &mut ends, &mut words, &mut erased)
+    let mut notes = [0u32; 1536];
+    let mut rows = [0u32; 1536];
+    let mut resolved = [0u32; 8192];
+    put_read(
+        out,
+        image,
+        s,
+        &mut ends,
+        &mut words,
+        &mut erased,
+        &mut notes,
+        &mut rows,
+        &mut resolved,
+    )
 }
 
+// By the sizes, the buffers.
 fn put_image(out: &mut [u8], image: &[u8], s: Shape) -> usize
     requires { ⌜ Shaped (now image) (s .strings) (s .words) (s .erased) (s .bytes) ⌝ }
     ensures { λ r. ⌜ Wrote (listingOf (now (image .entry))) (now (out .entry)) (now (out .exit)) 0 r ⌝ }
 {
-    if 1024 < s.words {
-        return put_large(out, image, s);
-    }
     if 64 < s.strings {
         return put_large(out, image, s);
     }
     if 64 < s.erased {
         return put_large(out, image, s);
+    }
+    if 2048 < s.words {
+        return put_large(out, image, s);
+    }
+    if 512 < s.words {
+        return put_middle(out, image, s);
     }
     put_small(out, image, s)
 }

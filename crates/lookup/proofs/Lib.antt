@@ -1,1 +1,2 @@
+-- The table of builtin functions and the names in it.
 mod Names

@@ -1,2 +1,3 @@
+-- The templates as one table, and messages worked out.
 pub mod Laws
 pub mod Examples

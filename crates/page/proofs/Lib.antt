@@ -1,2 +1,3 @@
+-- The laws of lines and pages that the proofs cite, and pages worked out.
 pub mod Laws
 pub mod Examples

@@ -1,3 +1,4 @@
+-- The laws of resolving an expression: nodes, what is written, pairs, lists, calls.
 pub mod Nodes
 pub mod Writing
 pub mod Pairs

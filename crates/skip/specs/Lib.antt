@@ -1,1 +1,2 @@
+-- What the shape of an expression's head promises.
 pub mod Shape

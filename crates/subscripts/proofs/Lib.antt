@@ -1,3 +1,4 @@
+-- The count of subscripts, expression by expression and target by target, and the walk over statements.
 pub mod Expressions
 pub mod Lists
 pub mod Targets

@@ -12,9 +12,6 @@ slice-aggregate-analyse c = search needs
 slice-aggregate-analyse-2 : tie.Need-slice-aggregate-analyse-2
 slice-aggregate-analyse-2 c = search needs
 
-slice-aggregate-analyse-3 : tie.Need-slice-aggregate-analyse-3
-slice-aggregate-analyse-3 c = search needs
-
 analyse-requires : tie.Need-analyse-requires
 analyse-requires c κs = search needs
 
@@ -24,17 +21,17 @@ slice-aggregate-put-answer c = search needs
 slice-aggregate-put-answer-2 : tie.Need-slice-aggregate-put-answer-2
 slice-aggregate-put-answer-2 c = search needs
 
-slice-aggregate-put-answer-3 : tie.Need-slice-aggregate-put-answer-3
-slice-aggregate-put-answer-3 c = search needs
-
 put-answer-requires : tie.Need-put-answer-requires
-put-answer-requires c κs = counts-within (c .before .before .before .before .before .before .before .analyse .ensures)
+put-answer-requires c κs = counts-within (c .before .before .before .before .before .before .before .before .analyse .ensures)
 
 same-length : tie.Need-same-length
 same-length c = search needs
 
+same-length-2 : tie.Need-same-length-2
+same-length-2 c = search needs
+
 returns : tie.Need-returns
-returns c = same (text-full (c .before .before .before .before .before .before .before .before .before .before .analyse .ensures) refl (c .before .before .before .before .before .before .before .before .before .before .before .before .before .before .before .before .before .before .before .pre) refl refl) (c .before .before .put-answer .ensures)
+returns c = same (text-full (c .before .before .before .before .before .before .before .before .before .before .before .analyse .ensures) (c .before .before .before .before .before .before .before .before .before .before .before .before .before .before .before .before .before .before .before .before .before .pre) refl refl) (c .before .before .put-answer .ensures)
 
 pub put-full-spec : {M : Type 1} → statement M
 put-full-spec =
@@ -42,11 +39,10 @@ put-full-spec =
     (tie.spec
     slice-aggregate-analyse
     slice-aggregate-analyse-2
-    slice-aggregate-analyse-3
     analyse-requires
     slice-aggregate-put-answer
     slice-aggregate-put-answer-2
-    slice-aggregate-put-answer-3
     put-answer-requires
     same-length
+    same-length-2
     returns)

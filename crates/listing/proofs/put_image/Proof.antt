@@ -30,14 +30,23 @@ same-length-3 c = search needs
 returns-3 : tie.Need-returns-3
 returns-3 c = c .before .before .put-large3 .ensures
 
-put-small-requires : tie.Need-put-small-requires
-put-small-requires c κs = (c .before .before .before .before .before .before .before .before .before .pre, c .before .before .before .if2 .left, c .before .before .before .before .before .if1 .left, c .before .if3 .left)
+put-middle-requires : tie.Need-put-middle-requires
+put-middle-requires c κs = (c .before .before .before .before .before .before .before .before .before .before .before .pre, c .before .before .before .before .before .before .before .if1 .left, c .before .before .before .if3 .left, c .before .before .before .before .before .if2 .left)
 
 same-length-4 : tie.Need-same-length-4
 same-length-4 c = search needs
 
 returns-4 : tie.Need-returns-4
-returns-4 c = c .before .before .put-small .ensures
+returns-4 c = c .before .before .put-middle .ensures
+
+put-small-requires : tie.Need-put-small-requires
+put-small-requires c κs = (c .before .before .before .before .before .before .before .before .before .before .before .pre, c .before .before .before .before .before .before .before .if1 .left, c .before .if4 .left, c .before .before .before .before .before .if2 .left)
+
+same-length-5 : tie.Need-same-length-5
+same-length-5 c = search needs
+
+returns-5 : tie.Need-returns-5
+returns-5 c = c .before .before .put-small .ensures
 
 pub put-image-spec : {M : Type 1} → statement M
 put-image-spec =
@@ -52,6 +61,9 @@ put-image-spec =
     put-large-requires-3
     same-length-3
     returns-3
-    put-small-requires
+    put-middle-requires
     same-length-4
-    returns-4)
+    returns-4
+    put-small-requires
+    same-length-5
+    returns-5)

@@ -1,3 +1,4 @@
+-- `mark`: each test of the code is a test of `wordAt`, for a kind and a payload between two bounds.
 use borrow.Author.Tests.{le-ltb, lt-ltb, le-leb, lt-leb, eq-eqb, ne-eqb}
 use Rattle.expr.specs.Answer.{stepOf}
 use Rattle.tree.specs.Reader.{wordAt}

@@ -1,3 +1,4 @@
+-- `nowhere`: wrong at the place, or at the end.
 use borrow.Author.Tests.{le-ltb, lt-ltb}
 use Rattle.expr.specs.Answer.{stepOf}
 use Rattle.tree.specs.Reader.{neverAt}

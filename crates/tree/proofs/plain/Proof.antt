@@ -1,3 +1,4 @@
+-- `plain`: each number from 1 to 8 names a field of one word, and its arm reads it.
 use mathlib.Core.Path.{_≡_, refl, ap, _∙_}
 use native.Mathlib.Omega.{arith}
 use Prim.Native.Nat.{_≤_}

@@ -1,3 +1,4 @@
+-- `float`: any word, then the high word, as `floatAt` has them.
 use mathlib.Core.Path.{_∙_, sym}
 use borrow.Author.Needs.{needs}
 use Rattle.expr.specs.Reader.{floatAt}

@@ -1,3 +1,4 @@
+-- `head`: each test of the code is a test of `headAt`.
 use borrow.Author.Needs.{needs}
 use borrow.Author.Tests.{le-ltb, lt-ltb, le-leb, lt-leb, eq-eqb, ne-eqb}
 use Rattle.expr.specs.Answer.{stepOf}

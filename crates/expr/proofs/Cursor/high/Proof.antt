@@ -1,3 +1,4 @@
+-- `high`: an exponent of all ones is no finite float.
 use borrow.Author.Needs.{needs}
 use borrow.Author.Tests.{le-ltb, lt-ltb, le-leb, lt-leb, eq-eqb, ne-eqb}
 use Rattle.expr.specs.Answer.{stepOf}

@@ -1,3 +1,4 @@
+-- `leaf`: each test of the code is a test of `leafAt`.
 use borrow.Author.Needs.{needs}
 use borrow.Author.Tests.{le-ltb, lt-ltb, le-leb, lt-leb, eq-eqb, ne-eqb}
 use Rattle.expr.specs.Answer.{stepOf}

@@ -1,3 +1,4 @@
+-- `literal`: the head, then what its kind asks for.
 use borrow.Author.Needs.{needs}
 use native.Mathlib.Omega.{arith}
 use mathlib.Core.Logic.{⊎-elim}

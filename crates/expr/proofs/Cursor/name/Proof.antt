@@ -1,3 +1,4 @@
+-- `name`: each test of the code is a test of `nameAt`.
 use borrow.Author.Tests.{le-ltb, lt-ltb, le-leb, lt-leb, eq-eqb, ne-eqb}
 use lib.ListN.{getD}
 use Rattle.expr.specs.Answer.{stepOf}

@@ -58,7 +58,7 @@ mod rows {
 
     /// The i-th array: half of the names in the module, half in a procedure.
     fn row(i: u32) -> [u32; 6] {
-        let scope = if i % 2 == 0 { 0 } else { 7 };
+        let scope = if i.is_multiple_of(2) { 0 } else { 7 };
         [(133 << 24) | i, scope, 1, i + 1, 0, 0]
     }
 
@@ -68,7 +68,7 @@ mod rows {
     }
 
     fn scope(i: u32) -> Scope {
-        if i % 2 == 0 {
+        if i.is_multiple_of(2) {
             Scope::Module
         } else {
             Scope::Proc("LOGSCAN".to_string())

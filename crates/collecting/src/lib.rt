@@ -70,9 +70,6 @@ fn field(
         return stmt(words, names, bytes, ends, erased, b, d, s, scope, at);
     }
     let p = plans::plan_for(words, at, sort);
-    let c = p.same;
-    let r = p.row;
-    let n = p.times;
     each(
         words,
         names,
@@ -83,9 +80,9 @@ fn field(
         d,
         s,
         scope,
-        at + c,
-        r,
-        n,
+        at + p.same,
+        p.row,
+        p.times,
     )
 }
 

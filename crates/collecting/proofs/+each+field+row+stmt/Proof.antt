@@ -179,10 +179,10 @@ field-plan-for-requires : (t : ℕ) → field-lts.Need-plan-for-requires (K-fiel
 field-plan-for-requires t c κs = (to-some (c .before .before .before .before .before .before .before .before .before .pre .1 .0 .tree), c .before .before .before .before .before .before .before .before .before .pre .1 .1, c .before .if1 .left, c .if2 .left)
 
 field-add-each : (t : ℕ) → field-lts.Need-add-each (K-field t) (field-at t) field.Post
-field-add-each t c = omega (arith, open-fits (c .before .before .before .before .before .before .before .before .before .before .before .before .pre .1 .0 .tree) (c .before .before .plan-for .ensures))
+field-add-each t c = omega (arith, open-fits (c .before .before .before .before .before .before .before .before .before .before .before .before .before .pre .1 .0 .tree) (c .before .before .before .plan-for .ensures))
 
 field-each-requires : (t : ℕ) → field-lts.Need-each-requires (K-field t) (field-at t) field.Post
-field-each-requires t c κs = (omega (arith, c .before .before .before .before .before .before .before .before .before .before .before .before .pre .0, c .before .before .plan-for .ensures .falls, open-fits (c .before .before .before .before .before .before .before .before .before .before .before .before .pre .1 .0 .tree) (c .before .before .plan-for .ensures)), rows-ready (c .before .before .before .before .before .before .before .before .before .before .before .before .pre .1 .0) (c .before .before .plan-for .ensures))
+field-each-requires t c κs = (omega (arith, c .before .before .before .before .before .before .before .before .before .before .before .before .before .pre .0, c .before .before .before .plan-for .ensures .falls, open-fits (c .before .before .before .before .before .before .before .before .before .before .before .before .before .pre .1 .0 .tree) (c .before .before .before .plan-for .ensures)), rows-ready (c .before .before .before .before .before .before .before .before .before .before .before .before .before .pre .1 .0) (c .before .before .before .plan-for .ensures))
 
 field-same-length-3 : (t : ℕ) → field-lts.Need-same-length-3 (K-field t) (field-at t) field.Post
 field-same-length-3 t c = c .before .before .before .before .each .kept .1 .1 .1 .1 .1 .0
@@ -191,7 +191,7 @@ field-same-length-4 : (t : ℕ) → field-lts.Need-same-length-4 (K-field t) (fi
 field-same-length-4 t c = c .before .before .before .before .each .kept .1 .1 .1 .1 .1 .1 .0
 
 field-returns-3 : (t : ℕ) → field-lts.Need-returns-3 (K-field t) (field-at t) field.Post
-field-returns-3 t c = rows-walked (c .before .before .before .before .before .before .before .plan-for .ensures) (c .before .before .before .before .each .ensures)
+field-returns-3 t c = rows-walked (c .before .before .before .before .before .before .before .before .plan-for .ensures) (c .before .before .before .before .each .ensures)
 
 abbrev row-Inv-loop : row-lts.InvT-loop
 row-Inv-loop words names bytes ends erased b₀ d₀ scope at r t₀ a₀ i₀ b d t a i = (sizeR (decode (drop i (codes r))) ≤ sizeR (rowOf r)) × (length b ≡ length b₀) × (length d ≡ length d₀) × RowSoFar r words names bytes ends erased scope at a i t₀ t b₀ d₀ b d

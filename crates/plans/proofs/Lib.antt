@@ -1,5 +1,6 @@
--- A field by its sort, any walk by the table of fields, and the scope of bodies.
+-- A field by its sort, any walk by the table of fields, the scope of bodies, and the first token of a scan's items.
 pub mod Fields
 pub mod Walk
 pub mod Members
 pub mod Scopes
+pub mod Front

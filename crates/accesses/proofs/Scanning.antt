@@ -13,7 +13,7 @@ use Rattle.expr.specs.Got.{got}
 use Rattle.expr.specs.Answer.{stepOf}
 use Rattle.expr.specs.declared.Cursor.{Cursor}
 use Rattle.expr.specs.declared.Step.{Step}
-use Rattle.expr.specs.declared.Step.the-variants.{Read}
+use Rattle.expr.specs.declared.Step.the-variants.{Read, Wrong, Deep}
 use Rattle.tree.specs.Sorts.{stmt, body, sorts}
 use Rattle.tree.specs.Tree.{one, row, Tree, Stmt, depthT, wordsT}
 use Rattle.tree.specs.Stands.{Stands, SomeTree}
@@ -48,13 +48,19 @@ past-read {ns} {ws} {at} e q = record {
 }
 
 -- any other answer is of no statement
-pub past-none : {ns ws : List ℕ} {at p : ℕ} {s : Step} → s ≡ stepOf (stmtAt ws ns (length ns) maxDepth at) → ((c : Cursor) → s ≡ Read c → ⊥) → PastStmt ns ws at p
+past-none : {ns ws : List ℕ} {at p : ℕ} {s : Step} → s ≡ stepOf (stmtAt ws ns (length ns) maxDepth at) → ((c : Cursor) → s ≡ Read c → ⊥) → PastStmt ns ws at p
 unfolding stepOf fieldAt clear
 past-none {ns} {ws} {at} e f = record {
   gives = λ v end t h.
       let r : stmtAt ws ns (length ns) maxDepth at ≡ got v end = completes ws ns (length ns) v maxDepth at end refl h (t .valid) (t .wrote) in
       absurd (f (record { at = end }) (cc));
 }
+
+pub past-wrong : {ns ws : List ℕ} {at p q : ℕ} {s : Step} → s ≡ stepOf (stmtAt ws ns (length ns) maxDepth at) → s ≡ Wrong q → PastStmt ns ws at p
+past-wrong e w = past-none e (λ c x. let z : _≡_ {A = ℕ} 0 1 = cc in omega arith)
+
+pub past-deep : {ns ws : List ℕ} {at p q : ℕ} {s : Step} → s ≡ stepOf (stmtAt ws ns (length ns) maxDepth at) → s ≡ Deep q → PastStmt ns ws at p
+past-deep e w = past-none e (λ c x. let z : _≡_ {A = ℕ} 0 1 = cc in omega arith)
 
 -- ---- a SUB or FUNCTION
 

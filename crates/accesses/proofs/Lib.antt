@@ -1,4 +1,5 @@
--- Resolving by the table of fields: one tree, one statement, the walk.
-pub mod Trees
+-- What is still to come of a scan, resolved; a statement; a token; the scan.
+pub mod Resolved
 pub mod Statements
-pub mod Walk
+pub mod Steps
+pub mod Scanning

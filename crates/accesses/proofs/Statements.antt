@@ -52,6 +52,11 @@ module _ (scope : ℕ) where
   unfolding inside
   view-inside k = by-scope (λ (k : Kind). (r : Tree Expr (row (sorts k))) → inner scope (view k r) ≡ inside scope k (first r)) sub-inside function-inside (λ k p q r. rw (ne-eqb (numberOf k) 20 p, ne-eqb (numberOf k) 21 q) (sym (inner-other scope k r p q))) k
 
+-- all others keep it
+pub inside-other : (σ : ℕ) (k : Kind) (x : ℕ) → (numberOf k ≡ 20 → ⊥) → (numberOf k ≡ 21 → ⊥) → inside σ k x ≡ σ
+unfolding inside
+inside-other σ k x p q = rw (ne-eqb (numberOf k) 20 p, ne-eqb (numberOf k) 21 q) refl
+
 -- ---- a CALL
 
 pub record InCall (ws ns : List ℕ) (n at : ℕ) (v : Tree Expr (one stmt)) (end : ℕ) : Type 0 where

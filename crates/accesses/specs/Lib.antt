@@ -1,2 +1,2 @@
--- What the walk that resolves statements promises.
+-- What the scan that resolves statements promises.
 pub mod Post

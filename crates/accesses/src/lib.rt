@@ -1,43 +1,59 @@
-// Resolves statements of all kinds by the table of their fields, into a lent output.
+// Resolves statements of all kinds in one scan of their words, into a lent output.
+use expr::Cursor;
+use expr::Step;
 use resolver::Spot;
-ghost use lib.ListN.{length};
-ghost use Rattle.tree.specs.Sorts.{stmt as stmtSort, body};
-ghost use Rattle.tree.specs.Tree.{one, row as rowShape};
-ghost use Rattle.tree.specs.Codes.{sortAt, rowOf};
-ghost use Rattle.plans.specs.Plans.{Listed};
-ghost use Rattle.accesses.specs.Post.{ReadyTree, ReadyRows, ResolvedTree, ResolvedRows};
+ghost use mathlib.Core.Path.{_≡_};
+ghost use mathlib.Core.List.{List, [], _∷_};
+ghost use Prim.Native.Nat.{_+_, _≤_, _<_};
+ghost use lib.ListN.{length, getD};
+ghost use lib.Seq.{sets};
+ghost use Rattle.words.specs.Word.{kindOf};
+ghost use Rattle.words.specs.Sizes.{maxStrings};
+ghost use Rattle.accesses.specs.Post.{ReadyToken, DoneToken, ReadyScan, DoneScan, PastStmt, ReadyProgram, ResolvedProgram};
 
-// A field of a sort.
-fn field(
-    words: &[u32],
-    rows: &[u32],
-    count: usize,
-    scope: u32,
-    out: &mut [u32],
-    at: usize,
-    to: usize,
-    sort: u8,
-) -> Spot
-    requires { ⌜ ReadyTree (one (sortAt sort)) (now words) (now rows) count scope at to (length (now out)) × Listed sort ⌝ }
-    ensures { λ r. ⌜ ResolvedTree (one (sortAt sort)) (now (words .entry)) (now (rows .entry)) (now (out .entry)) (now (out .exit)) count scope at to (r .at) (r .to) ⌝ }
+// The place past the statement at `at`.
+fn past(words: &[u32], names: &[u8], at: usize) -> usize
+    requires { ⌜ length (now names) ≤ maxStrings ⌝ }
+    ensures { λ r. ⌜ PastStmt (now (names .entry)) (now (words .entry)) at r ⌝ }
 {
-    if sort == 9 {
-        return resolver::resolve_expr(words, rows, count, scope, out, at, to);
+    let n = names.len() as u32;
+    let s = tree::stmt(Cursor { at }, words, names, n, 100);
+    match s {
+        Step::Read(c) => c.at,
+        Step::Wrong(p) => p,
+        Step::Deep(p) => p,
     }
-    if sort == 10 {
-        return stmt(words, rows, count, scope, out, at, to);
-    }
-    let p = plans::plan_for(words, at, sort);
-    let c = p.same;
-    let r = p.row;
-    let n = p.times;
-    resolver::copy(words, out, at, to, c);
-    each(words, rows, count, scope, out, at + c, to + c, r, n)
 }
 
-// A statement. The arguments of a CALL are its procedure's, and it never turns into an element.
-fn stmt(
+// Copies two words.
+fn two(words: &[u32], out: &mut [u32], at: usize, to: usize) -> Spot
+    requires { ⌜ (at + 2 ≤ length (now words)) × (to + 2 ≤ length (now out)) ⌝ }
+    ensures { λ r. ⌜ (r .at ≡ at + 2) × (r .to ≡ to + 2) × (now (out .exit) ≡ sets (now (out .entry)) to (getD (now (words .entry)) at 0 ∷ getD (now (words .entry)) (at + 1) 0 ∷ [])) ⌝ }
+{
+    out[to] = words[at];
+    out[to + 1] = words[at + 1];
+    Spot {
+        at: at + 2,
+        to: to + 2,
+    }
+}
+
+// Writes the head h, and then copies the two words after the first.
+fn three(words: &[u32], out: &mut [u32], at: usize, to: usize, h: u32) -> Spot
+    requires { ⌜ (at + 3 ≤ length (now words)) × (to + 3 ≤ length (now out)) ⌝ }
+    ensures { λ r. ⌜ (r .at ≡ at + 3) × (r .to ≡ to + 3) × (now (out .exit) ≡ sets (now (out .entry)) to (h ∷ getD (now (words .entry)) (at + 1) 0 ∷ getD (now (words .entry)) (at + 2) 0 ∷ [])) ⌝ }
+{
+    resolver::begin(words, out, at, to, h);
+    Spot {
+        at: at + 3,
+        to: to + 3,
+    }
+}
+
+// A call: of a procedure all of it, else its head, and its arguments are still to come.
+fn call(
     words: &[u32],
+    names: &[u8],
     rows: &[u32],
     count: usize,
     scope: u32,
@@ -45,99 +61,147 @@ fn stmt(
     at: usize,
     to: usize,
 ) -> Spot
-    requires { ⌜ ReadyTree (one stmtSort) (now words) (now rows) count scope at to (length (now out)) ⌝ }
-    ensures { λ r. ⌜ ResolvedTree (one stmtSort) (now (words .entry)) (now (rows .entry)) (now (out .entry)) (now (out .exit)) count scope at to (r .at) (r .to) ⌝ }
+    requires { ⌜ ReadyToken (now names) (now words) (now rows) count scope at to (length (now out)) × (kindOf (getD (now words) at 0) ≡ 21) ⌝ }
+    ensures { λ r. ⌜ DoneToken (now (names .entry)) (now (words .entry)) (now (rows .entry)) (now (out .entry)) (now (out .exit)) count scope at to (r .at) (r .to) ⌝ }
 {
-    let k = words[at] / 16777216;
-    if k == 86 {
-        let f = words[at + 1] % 16777216;
-        let n = words[at + 2] % 16777216;
-        resolver::copy(words, out, at, to, 3);
+    let f = words[at + 1] % 16777216;
+    if lookup::has(rows, count, 135, f, 0) {
+        return resolver::resolve_expr(words, rows, count, scope, out, at, to);
+    }
+    three(
+        words,
+        out,
+        at,
+        to,
+        resolver::head(rows, count, scope, f),
+    )
+}
+
+// A CALL, in the same way: it never turns into an element.
+fn calling(
+    words: &[u32],
+    names: &[u8],
+    rows: &[u32],
+    count: usize,
+    scope: u32,
+    out: &mut [u32],
+    at: usize,
+    to: usize,
+) -> Spot
+    requires { ⌜ ReadyToken (now names) (now words) (now rows) count scope at to (length (now out)) × (kindOf (getD (now words) at 0) ≡ 86) ⌝ }
+    ensures { λ r. ⌜ DoneToken (now (names .entry)) (now (words .entry)) (now (rows .entry)) (now (out .entry)) (now (out .exit)) count scope at to (r .at) (r .to) ⌝ }
+{
+    let f = words[at + 1] % 16777216;
+    let n = words[at + 2] % 16777216;
+    let s = three(words, out, at, to, words[at]);
+    if lookup::has(rows, count, 135, f, 0) {
         return resolver::resolve_args(words, rows, count, scope, out, at + 3, to + 3, f, n);
     }
-    resolver::copy(words, out, at, to, 1);
+    s
+}
+
+// A SUB or FUNCTION, whose bodies have their own scope up to its end.
+fn procedure(
+    words: &[u32],
+    names: &[u8],
+    rows: &[u32],
+    count: usize,
+    scope: u32,
+    out: &mut [u32],
+    at: usize,
+    to: usize,
+) -> Spot
+    requires { ⌜ ReadyToken (now names) (now words) (now rows) count scope at to (length (now out)) × (84 ≤ kindOf (getD (now words) at 0)) × (kindOf (getD (now words) at 0) < 86) ⌝ }
+    ensures { λ r. ⌜ DoneToken (now (names .entry)) (now (words .entry)) (now (rows .entry)) (now (out .entry)) (now (out .exit)) count scope at to (r .at) (r .to) ⌝ }
+{
+    out[to] = words[at];
+    let end = past(words, names, at);
     let inner = plans::inside(words, at, scope);
-    row(
+    let t = scan(
         words,
+        names,
         rows,
         count,
         inner,
         out,
         at + 1,
+        end,
         to + 1,
-        (k - 64) as usize + 39,
-    )
+    );
+    Spot { at: end, to: t }
 }
 
-// So many rows, one after another.
-fn each(
+// The next token. A word is copied unless it is a call's head or stands for parentheses, which go.
+fn token(
     words: &[u32],
+    names: &[u8],
     rows: &[u32],
     count: usize,
     scope: u32,
     out: &mut [u32],
     at: usize,
     to: usize,
-    r: usize,
-    n: u32,
 ) -> Spot
-    requires { ⌜ ReadyRows (rowOf r) n (now words) (now rows) count scope at to (length (now out)) ⌝ }
-    ensures { λ s. ⌜ ResolvedRows (rowOf r) n (now (words .entry)) (now (rows .entry)) (now (out .entry)) (now (out .exit)) count scope at to (s .at) (s .to) ⌝ }
+    requires { ⌜ ReadyToken (now names) (now words) (now rows) count scope at to (length (now out)) ⌝ }
+    ensures { λ r. ⌜ DoneToken (now (names .entry)) (now (words .entry)) (now (rows .entry)) (now (out .entry)) (now (out .exit)) count scope at to (r .at) (r .to) ⌝ }
 {
-    let mut a = at;
-    let mut t = to;
-    let mut i = 0;
-    while i < n {
-        let m = row(words, rows, count, scope, out, a, t, r);
-        a = m.at;
-        t = m.to;
-        i += 1;
-    }
-    Spot { at: a, to: t }
-}
-
-// A row of fields.
-fn row(
-    words: &[u32],
-    rows: &[u32],
-    count: usize,
-    scope: u32,
-    out: &mut [u32],
-    at: usize,
-    to: usize,
-    r: usize,
-) -> Spot
-    requires { ⌜ ReadyTree (rowShape (rowOf r)) (now words) (now rows) count scope at to (length (now out)) ⌝ }
-    ensures { λ s. ⌜ ResolvedTree (rowShape (rowOf r)) (now (words .entry)) (now (rows .entry)) (now (out .entry)) (now (out .exit)) count scope at to (s .at) (s .to) ⌝ }
-{
-    let mut a = at;
-    let mut t = to;
-    let mut i = 0;
-    while i < 6 {
-        let k = tree::sort(r, i);
-        if k == 0 {
-            return Spot { at: a, to: t };
+    let w = words[at];
+    match w / 16777216 {
+        21 => call(words, names, rows, count, scope, out, at, to),
+        23 => Spot { at: at + 1, to },
+        24 => two(words, out, at, to),
+        25 => two(words, out, at, to),
+        26 => three(words, out, at, to, w),
+        27 => three(words, out, at, to, w),
+        84 => procedure(words, names, rows, count, scope, out, at, to),
+        85 => procedure(words, names, rows, count, scope, out, at, to),
+        86 => calling(words, names, rows, count, scope, out, at, to),
+        _ => {
+            out[to] = w;
+            Spot {
+                at: at + 1,
+                to: to + 1,
+            }
         }
-        let m = field(words, rows, count, scope, out, a, t, k);
-        a = m.at;
-        t = m.to;
-        i += 1;
     }
-    Spot { at: a, to: t }
 }
 
-// Resolves the list of statements at `at` into `out` from `to` on.
+// The tokens from `from` to `end`; answers the writing place past them.
+fn scan(
+    words: &[u32],
+    names: &[u8],
+    rows: &[u32],
+    count: usize,
+    scope: u32,
+    out: &mut [u32],
+    from: usize,
+    end: usize,
+    to: usize,
+) -> usize
+    requires { ⌜ ReadyScan (now names) (now words) (now rows) count scope from end to (length (now out)) ⌝ }
+    ensures { λ r. ⌜ DoneScan (now (names .entry)) (now (words .entry)) (now (rows .entry)) (now (out .entry)) (now (out .exit)) count scope from end to r ⌝ }
+{
+    let mut a = from;
+    let mut t = to;
+    while a < end {
+        let m = token(words, names, rows, count, scope, out, a, t);
+        a = m.at;
+        t = m.to;
+    }
+    t
+}
+
+// Resolves the program that is all of the words, of strings whose marks are `names`; answers how many words that gives.
 pub fn resolve_array_accesses(
     words: &[u32],
+    names: &[u8],
     rows: &[u32],
     count: usize,
-    scope: u32,
     out: &mut [u32],
-    at: usize,
-    to: usize,
-) -> Spot
-    requires { ⌜ ReadyTree (one body) (now words) (now rows) count scope at to (length (now out)) ⌝ }
-    ensures { λ r. ⌜ ResolvedTree (one body) (now (words .entry)) (now (rows .entry)) (now (out .entry)) (now (out .exit)) count scope at to (r .at) (r .to) ⌝ }
+) -> usize
+    requires { ⌜ ReadyProgram (now names) (now words) (now rows) count (length (now out)) ⌝ }
+    ensures { λ r. ⌜ ResolvedProgram (now (names .entry)) (now (words .entry)) (now (rows .entry)) (now (out .entry)) (now (out .exit)) count r ⌝ }
 {
-    field(words, rows, count, scope, out, at, to, 68)
+    let end = words.len();
+    scan(words, names, rows, count, 0, out, 0, end, 0)
 }

@@ -13,8 +13,7 @@ use Rattle.words.specs.declared.Refusal.{Refusal}
 use Rattle.words.specs.declared.Refusal.the-variants.{Size, Strings, Output}
 use Rattle.strings.specs.Table.{namesOf}
 use Rattle.strings.specs.Open.{Answers}
-use Rattle.tree.specs.Sorts.{body}
-use Rattle.tree.specs.Tree.{one, wordsT}
+use Rattle.tree.specs.Tree.{wordsT}
 use Rattle.tree.specs.Stands.{Stands}
 use Rattle.reader.specs.Sized.{sizedProgram}
 use Rattle.reader.specs.Program.{Program, acceptedOf}
@@ -29,7 +28,8 @@ use Rattle.steps.specs.Laws.{stops-some}
 use Rattle.steps.specs.Compose.{then}
 use Rattle.collect.specs.Collect.{given, collected, analysed}
 use Rattle.collect.specs.Passed.{Passed}
-use Rattle.collect.specs.PassedLaws.{passed-whole, accepted-leaves}
+use Rattle.reader.specs.Whole.{Whole}
+use Rattle.collect.specs.PassedLaws.{marks-many, passed-whole, accepted-leaves}
 use Rattle.lawful.specs.Good.{Good}
 use Rattle.collecting.specs.Walk.{Kept, Collects}
 use Rattle.collisions.specs.Collisions.{NamesHeld, Ready as ReadyRows, Checks}
@@ -39,7 +39,7 @@ use Rattle.resolve.specs.FromRows.{tablesOf}
 use Rattle.resolve.specs.Resolve.{resolveTree, resolveArrayAccesses}
 use Rattle.resolve.specs.Keeps.{shorter-tree}
 use Rattle.resolver.specs.Post.{Room}
-use Rattle.accesses.specs.Post.{ReadyTree, ResolvedTree}
+use Rattle.accesses.specs.Post.{ReadyProgram, ResolvedProgram}
 use Rattle.equivalence.specs.Analysis.{Analysis, resultOf}
 use Rattle.analyse.specs.Analyse.{work, analysisIn, told, counted, rowsAfter, notesAfter, outAfter, Formed, Tells, Analyses}
 use Rattle.analyse.specs.Run.{Ends, Tabled}
@@ -126,15 +126,15 @@ room-of {N} {D} {O} {s} {b} ws (running rs ds) o L E h =
     record { rows = rs; holds = H; held = holds-fits (H .filled); scoped = omega arith; behind = omega arith; fits = o }
 room-of ws (stopped k) o L E h = absurd (stops-some E (sym (ap (λ (c : Counts). c .stop) (L .answer)) ∙ h))
 
-running-tells : (p : Program) (notes rows out ws ns : List ℕ) (n : ℕ) {s : Counts} {b d out′ : List ℕ} {at to : ℕ} (st : State) → Left (length rows) (length notes) st s b d → Ends (length rows) (length notes) st
-    → s .stop ≡ 0 → Stands ws ns n 0 p (length ws) → length ws ≤ length out → ResolvedTree (one body) ws b out out′ (s .rows) 0 0 0 at to
+running-tells : (p : Program) (notes rows out ws ns : List ℕ) {s : Counts} {b d out′ : List ℕ} {to : ℕ} (st : State) → Left (length rows) (length notes) st s b d → Ends (length rows) (length notes) st
+    → s .stop ≡ 0 → Stands ws ns (length ns) 0 p (length ws) → length ws ≤ length out → ResolvedProgram ns ws b out out′ (s .rows) to
     → Tells (Done (record { notes = s .notes; rows = s .rows; words = to })) notes rows out d b out′ (resultOf p st)
 unfolding countsOf rowsLeft notesLeft Ends resultOf resolveArrayAccesses told counted notesAfter rowsAfter outAfter Formed
-running-tells p notes rows out ws ns n {s} {b} {d} {out′} {at} {to} (running rs ds) L E h S o R =
+running-tells p notes rows out ws ns {s} {b} {d} {out′} {to} (running rs ds) L E h S o R =
     let k : s .rows ≡ length rs = ap (λ (c : Counts). c .rows) (L .answer) in
     let m : s .notes ≡ length ds = ap (λ (c : Counts). c .notes) (L .answer) in
     let H : Holds rs (s .rows) b = rw (k, L .rows) (holds-image (length rows) rs (E .0) (E .1)) in
-    let U = R .gives rs H ns n p (length ws) S in
+    let U = R .gives rs H p S in
     let w = S .wrote .span in
     let u : to ≡ length (wordsT (resolveTree (tablesOf rs) 0 nowhere p)) = omega (arith, U .upto) in
     record {
@@ -144,7 +144,11 @@ running-tells p notes rows out ws ns n {s} {b} {d} {out′} {at} {to} (running r
       out-now = U .now;
       formed = record { table = E .0; rows-fit = E .1; wide = E .2; notes-fit = E .3; words-fit = omega (arith, w, o, shorter-tree (tablesOf rs) 0 nowhere p) };
     }
-running-tells p notes rows out ws ns n (stopped k) L E h S o R = absurd (stops-some E (sym (ap (λ (c : Counts). c .stop) (L .answer)) ∙ h))
+running-tells p notes rows out ws ns (stopped k) L E h S o R = absurd (stops-some E (sym (ap (λ (c : Counts). c .stop) (L .answer)) ∙ h))
+
+-- the program is all of the words, of as many strings as there are marks
+whole-of : {bytes ends erased ws marks : List ℕ} (P : Passed bytes ends erased ws marks) → Whole ws marks (length marks) (P .program)
+whole-of {ws = ws} {marks} P = subst (λ (n : ℕ). Whole ws marks n (P .program)) (sym (marks-many P)) (passed-whole P (P .program) (P .accepted))
 
 module _ {bytes ends erased ws marks : List ℕ} (P : Passed bytes ends erased ws marks) where
   module _ {notes rows out : List ℕ} (fits : length ws ≤ length out) {s : Counts} {b d : List ℕ} (T : Tabled bytes ends erased ws s rows notes b d) where
@@ -155,20 +159,23 @@ module _ {bytes ends erased ws marks : List ℕ} (P : Passed bytes ends erased w
         stopped-tells (P .program) notes rows out _ (T .left (P .program) (P .accepted)) (T .ends-in (P .program) (P .accepted)) h F)
 
     -- one that goes on, and is resolved
-    pub run-resolved : s .stop ≡ 0 → {out′ : List ℕ} {at to : ℕ} → ResolvedTree (one body) ws b out out′ (s .rows) 0 0 0 at to
+    pub run-resolved : s .stop ≡ 0 → {out′ : List ℕ} {to : ℕ} → ResolvedProgram marks ws b out out′ (s .rows) to
         → Tells (Done (record { notes = s .notes; rows = s .rows; words = to })) notes rows out d b out′ (work (length rows) (length notes) (length out) bytes ends erased ws)
     run-resolved h R =
         tells-as (sym (work-is P (length rows) (length notes) (length out) fits)) (
-        running-tells (P .program) notes rows out ws marks (length ends) _ (T .left (P .program) (P .accepted)) (T .ends-in (P .program) (P .accepted)) h
-        (passed-whole P (P .program) (P .accepted) .stands) fits R)
+        running-tells (P .program) notes rows out ws marks _ (T .left (P .program) (P .accepted)) (T .ends-in (P .program) (P .accepted)) h
+        (whole-of P .stands) fits R)
 
   -- what resolving asks
-  pub run-ready : {O : ℕ} → length ws ≤ O → {s : Counts} {rows notes b d : List ℕ} → Tabled bytes ends erased ws s rows notes b d → s .stop ≡ 0 → ReadyTree (one body) ws b (s .rows) 0 0 0 O
+  pub run-ready : {O : ℕ} → length ws ≤ O → {s : Counts} {rows notes b d : List ℕ} → Tabled bytes ends erased ws s rows notes b d → s .stop ≡ 0 → ReadyProgram marks ws b (s .rows) O
   run-ready fits T h =
       let p : Program = P .program in
       record {
-        some = record { names = marks; strings = length ends; tree = p; end = length ws; stands = passed-whole P p (P .accepted) .stands };
         room = room-of ws _ fits (T .left p (P .accepted)) (T .ends-in p (P .accepted)) h;
+        few = P .few;
+        program = p;
+        stands = whole-of P .stands;
+        shallow = whole-of P .shallow;
       }
 
 -- ---- 2, 3 and 4, and 10

@@ -61,8 +61,7 @@ fn run(
     if s.stop != 0 {
         return Answer::Refused(steps::refusal(s.stop));
     }
-    let w = accesses::resolve_array_accesses(words, rows, s.rows, 0, out, 0, 0);
-    let count = w.to;
+    let count = accesses::resolve_array_accesses(words, names, rows, s.rows, out);
     Answer::Done(Given {
         notes: s.notes,
         rows: s.rows,

@@ -24,8 +24,7 @@ use Rattle.expr.specs.declared.Step.{Step}
 use Rattle.expr.specs.declared.Step.the-variants.{Read as Passed-by, Wrong, Deep}
 use Rattle.expr.proofs.Parts.{wrote-first, pay-is}
 use Rattle.expr.proofs.Sound.{sound, list-sound}
-use Rattle.tree.specs.Sorts.{body}
-use Rattle.tree.specs.Tree.{strings, one, wordsT}
+use Rattle.tree.specs.Tree.{strings, wordsT}
 use Rattle.tree.specs.Reader.{programAt}
 use Rattle.tree.proofs.Sound.{program-sound}
 use Rattle.reader.specs.Program.{wholeOf, programOf}
@@ -41,7 +40,7 @@ use Rattle.resolve.specs.Tables.{Tables, places}
 use Rattle.resolve.specs.FromRows.{tablesOf}
 use Rattle.resolve.specs.Resolve.{Program, resolveExpr, resolveArgs, resolveArrayAccesses}
 use Rattle.resolver.specs.Post.{Room, Ready, ReadyAll, Resolved, ResolvedArgs}
-use Rattle.accesses.specs.Post.{ReadyTree, ResolvedTree}
+use Rattle.accesses.specs.Post.{ReadyProgram, ResolvedProgram}
 use Rattle.resolution.specs.Entries.{Written, takenOf, ruling, rewritten, resolveExprAt, resolveArgsAt, resolveAll, told, counted, written, Tells, Rewrites}
 use Rattle.reader.specs.Answered.{ReadTo, answer-read, answer-wrong, answer-deep}
 use Rattle.resolution.specs.Inner.{Passed}
@@ -240,16 +239,16 @@ module _ (names ws rows : List ℕ) (room : ℕ) (r : ReadTo (programAt ws names
   pub all-shut : (s : Refusal) → ruling names rows true (length ws) room ≡ refused s → resolveAll names ws rows room ≡ refused s
   all-shut s q = all-read ∙ at-shut names rows true 0 room F _ r s (subst (λ (k : ℕ). ruling names rows true k room ≡ refused s) whole-size q)
 
-  pub ready-all : {n : ℕ} → Passed names rows true (length ws) room n → ReadyTree (one body) ws rows n 0 0 0 room
-  ready-all p =
+  pub ready-all : {n : ℕ} → length names ≤ maxStrings → Passed names rows true (length ws) room n → ReadyProgram names ws rows n room
+  ready-all few p =
       let S = program-sound ws names (length names) (r .tree) (length ws) (r .is) in
-      record { some = record { names = names; strings = length names; tree = r .tree; end = length ws; stands = record { wrote = S .wrote; valid = S .valid } }; room = room-for ws p (omega arith) (omega arith) 0 }
+      record { room = room-for ws p (omega arith) (omega arith) 0; few = few; program = r .tree; stands = record { wrote = S .wrote; valid = S .valid }; shallow = S .deep }
 
-  pub all-told : {n a t : ℕ} {out last : List ℕ} → Passed names rows true (length ws) room n → ResolvedTree (one body) ws rows out last n 0 0 0 a t → Tells (Did (record { end = length ws; count = t })) out last (resolveAll names ws rows room)
+  pub all-told : {n t : ℕ} {out last : List ℕ} → Passed names rows true (length ws) room n → ResolvedProgram names ws rows out last n t → Tells (Did (record { end = length ws; count = t })) out last (resolveAll names ws rows room)
   unfolding resolveArrayAccesses
   all-told {n} p d =
       let S = program-sound ws names (length names) (r .tree) (length ws) (r .is) in
-      let e = d .gives (rowsOf n rows) (holds-of p) names (length names) (r .tree) (length ws) (record { wrote = S .wrote; valid = S .valid }) in
+      let e = d .gives (rowsOf n rows) (holds-of p) (r .tree) (record { wrote = S .wrote; valid = S .valid }) in
       said (all-read ∙ at-open names rows true 0 room F _ r (subst (λ (k : ℕ). Passed names rows true k room n) whole-size p)) (omega (arith, e .upto)) (e .now)
 
 -- words over, and what is wrong or too deep

@@ -41,7 +41,7 @@ fn copied(words: &[u32], out: &mut [u32], at: usize, to: usize, n: usize) -> Spo
 }
 
 // The head of a call of f: an element's where it is one.
-fn head(rows: &[u32], count: usize, scope: u32, f: u32) -> u32
+pub fn head(rows: &[u32], count: usize, scope: u32, f: u32) -> u32
     requires { ⌜ (count * width ≤ length (now rows)) × (scope ≤ 16777216) × (f < 16777216) ⌝ }
     ensures { λ r. ⌜ ((rs : List Row) → Holds rs count (now (rows .entry)) → r ≡ wordOf (pick (element (tablesOf rs) scope f) 18 21) 0) ⌝ }
 {
@@ -52,7 +52,7 @@ fn head(rows: &[u32], count: usize, scope: u32, f: u32) -> u32
 }
 
 // Writes the head h, and the name and the list's head of the call at `at` as they are.
-fn begin(words: &[u32], out: &mut [u32], at: usize, to: usize, h: u32)
+pub fn begin(words: &[u32], out: &mut [u32], at: usize, to: usize, h: u32)
     requires { ⌜ (at + 3 ≤ length (now words)) × (to + 3 ≤ length (now out)) ⌝ }
     ensures { λ _. ⌜ now (out .exit) ≡ sets (now (out .entry)) to (h ∷ getD (now (words .entry)) (at + 1) 0 ∷ getD (now (words .entry)) (at + 2) 0 ∷ []) ⌝ }
 {

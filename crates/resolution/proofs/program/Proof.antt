@@ -15,7 +15,7 @@ enum-known-n : tie.Need-enum-known-n
 enum-known-n c = search needs
 
 resolve-array-accesses-requires : tie.Need-resolve-array-accesses-requires
-resolve-array-accesses-requires c κs = ready-all (c .before .before .before .before .before .before .before .before .before .args .names .now) (c .before .before .before .before .before .before .before .before .before .args .words .now) (c .before .before .before .before .before .before .before .before .before .args .rows .now) (length (c .before .before .before .before .before .before .before .before .before .args .out .now)) (c .before .before .before .before .before .before .before .before .before .pre .0) (rw (c .before .before .n .given .1) at (c .before .before .before .before .ruled .ensures))
+resolve-array-accesses-requires c κs = ready-all (c .before .before .before .before .before .before .before .before .before .args .names .now) (c .before .before .before .before .before .before .before .before .before .args .words .now) (c .before .before .before .before .before .before .before .before .before .args .rows .now) (length (c .before .before .before .before .before .before .before .before .before .args .out .now)) (c .before .before .before .before .before .before .before .before .before .pre .0) (c .before .before .before .before .before .before .before .before .before .pre .1) (rw (c .before .before .n .given .1) at (c .before .before .before .before .ruled .ensures))
 
 returns : tie.Need-returns
 returns c = stopped _ _ (all-shut (c .before .before .before .before .before .before .before .before .args .names .now) (c .before .before .before .before .before .before .before .before .args .words .now) (c .before .before .before .before .before .before .before .before .args .rows .now) (length (c .before .before .before .before .before .before .before .before .args .out .now)) (c .before .before .before .before .before .before .before .before .pre .0) _ (rw (c .before .f .given .1) at (c .before .before .before .ruled .ensures)))

@@ -1,0 +1,353 @@
+-- A token of a scan, by its kind: what it asks of the words and the output, and what is then still to come. Assumes nothing.
+use Prim.Native.Nat.{ℕ, suc, _+_, _≤_, _<_}
+use native.Mathlib.Nat.{add-zero}
+use native.Mathlib.Numerals.{add-one}
+use native.Mathlib.Omega.{arith}
+use mathlib.Core.Path.{_≡_, refl, sym, ap, ap₂, subst, _∙_}
+use mathlib.Core.Bool.{Bool, true, false}
+use mathlib.Core.List.{List, [], _∷_, _++_, append-nil, append-assoc}
+use lib.ListN.{length, take, drop, getD, set, length-append, length-drop}
+use lib.Seq.{sets, drop-cons, length-take-le}
+use Rattle.words.specs.Word.{wordOf, kindOf, payOf, pick}
+use Rattle.words.specs.Sizes.{maxDepth}
+use Rattle.expr.specs.Expr.{Expr, Call, Paren, Exprs, many, words, wordsAll}
+use Rattle.expr.specs.Stands as E
+use Rattle.expr.proofs.Parts.{wrote-first, wrote-cat, pay-is}
+use Rattle.tree.specs.Sorts.{Kind, sorts, numberOf}
+use Rattle.tree.specs.Tree.{strings, row, Tree, Stmt, depthT, wordsT}
+use Rattle.tree.specs.Stands.{Stands, SomeTree}
+use Rattle.plans.specs.Pieces.{written}
+use Rattle.plans.specs.Plans.{InsideAt}
+use Rattle.plans.specs.Items.{Item, exprItem, exprsItem, treeItem, StandsAll, quietI, wordsI, wordsIs, RightI, RightIs, writtenI, writtenIs, eachE}
+use Rattle.plans.proofs.Front.{WordsAt, ParenAt, CallAt, StmtAt, FrontAt, overAt, wordAt, rawAt, rawsAt, parenAt, callAt, stmtAt, front-at, at-raw, at-raws, at-paren, at-call, at-stmt, at-end, items-tree, items-inside, quiet-kind}
+use Rattle.plans.proofs.Walk.{head-kind, fields}
+use Rattle.table.specs.Rows.{Row, Holds}
+use Rattle.entries.specs.Entries.{has}
+use Rattle.resolve.specs.Tables.{Tables, nowhere, places, element}
+use Rattle.resolve.specs.FromRows.{tablesOf}
+use Rattle.resolve.specs.Resolve.{resolveExpr, resolveArgs, resolveTree, first, inside}
+use Rattle.resolve.specs.Keeps.{shorter, shorter-args, shorter-tree}
+use Rattle.resolver.specs.Post.{Room, Ready, ReadyAll, Put, Resolved, ResolvedArgs}
+use Rattle.resolver.proofs.Nodes as N
+use Rattle.resolver.proofs.Writing.{sets-append, call-words}
+use Rattle.accesses.specs.Post.{resolved, Moved, ReadyToken, DoneToken, ReadyScan, DoneScan, PastStmt}
+use Rattle.accesses.proofs.Resolved.{no-places, each-args, parted, paren-is, tree-is}
+use Rattle.accesses.proofs.Statements.{stmt-words, view-inside, InCall, in-call, inside-other}
+
+-- ---- places
+
+pub room-at : {ws buf : List ℕ} {count scope at to size : ℕ} → Room ws buf count scope at to size → (a t : ℕ) → t ≤ a → {size′ : ℕ} → size′ ≡ size → Room ws buf count scope a t size′
+room-at r a t h q = record { rows = r .rows; holds = r .holds; held = r .held; scoped = r .scoped; behind = h; fits = omega (arith, r .fits) }
+
+-- the word there
+pub token-inside : {ns ws buf : List ℕ} {count scope at to size : ℕ} → ReadyToken ns ws buf count scope at to size → (at < length ws) × (to < size)
+token-inside {ws = ws} {at = at} r =
+    let i = items-inside (r .there) in
+    let h : at < length ws = omega (arith, r .before) in
+    (h, omega (arith, r .room .behind, r .room .fits))
+
+-- the first words, as they are stored one by one
+pub one-word : (ws : List ℕ) (at : ℕ) → at < length ws → take 1 (drop at ws) ≡ getD ws at 0 ∷ []
+one-word ws at h = ap (λ (l : List ℕ). take 1 l) (drop-cons ws at 0 h)
+
+pub two-words : (ws : List ℕ) (at : ℕ) → at + 2 ≤ length ws → take 2 (drop at ws) ≡ getD ws at 0 ∷ getD ws (at + 1) 0 ∷ []
+two-words ws at h = rw (add-one at) (ap (λ (l : List ℕ). take 2 l) (drop-cons ws at 0 (omega arith) ∙ ap (λ (l : List ℕ). getD ws at 0 ∷ l) (drop-cons ws (suc at) 0 (omega arith))))
+
+pub three-words : (ws : List ℕ) (at : ℕ) → at + 3 ≤ length ws → take 3 (drop at ws) ≡ getD ws at 0 ∷ getD ws (at + 1) 0 ∷ getD ws (at + 2) 0 ∷ []
+three-words ws at h =
+    let b : at + 2 ≡ suc (suc at) = omega arith in
+    rw (add-one at, b) (ap (λ (l : List ℕ). take 3 l) (drop-cons ws at 0 (omega arith) ∙ ap (λ (l : List ℕ). getD ws at 0 ∷ l) (drop-cons ws (suc at) 0 (omega arith) ∙ ap (λ (l : List ℕ). getD ws (suc at) 0 ∷ l) (drop-cons ws (suc (suc at)) 0 (omega arith)))))
+
+-- ---- words that are copied
+
+module _ {ns ws : List ℕ} {xs : List Item} {at end c : ℕ} (W : WordsAt ws ns (length ns) maxDepth at xs end c) where
+  words-inside : at + c ≤ length ws
+  words-inside = omega (arith, items-inside (W .there))
+
+  copied : (T : Tables) (σ : ℕ) {to : ℕ} {out last : List ℕ} {a t : ℕ} → a ≡ at + c → t ≡ to + c → last ≡ sets out to (take c (drop at ws)) → Moved T σ ns ws xs at end to out a t last
+  copied T σ {to} p q e =
+      let l : length (take c (drop at ws)) ≡ c = length-take-le c (drop at ws) (omega (arith, length-drop at ws, words-inside)) in
+      record { left = W .rest; there = rw p (W .there); wrote = take c (drop at ws); upto = omega arith; short = omega arith; is = e; rest = W .writes (resolved T σ) (parted T σ) }
+
+-- c words there, and room for them
+record Taking (ws : List ℕ) (at to size c : ℕ) : Type 0 where
+  inside : at + c ≤ length ws
+  room : to + c ≤ size
+
+taking : {ns ws buf : List ℕ} {count scope at to size c : ℕ} (r : ReadyToken ns ws buf count scope at to size) → WordsAt ws ns (length ns) maxDepth at (r .items) (r .end) c → (at + c ≤ length ws) × (to + c ≤ size)
+taking {ws = ws} {at = at} {c = c} r W =
+    let h : at + c ≤ length ws = words-inside W in
+    (h, omega (arith, r .room .behind, r .room .fits))
+
+module _ {ns ws buf : List ℕ} {count scope at to size : ℕ} (r : ReadyToken ns ws buf count scope at to size) where
+  pub raw-room : 24 ≤ kindOf (getD ws at 0) → kindOf (getD ws at 0) ≤ 25 → (at + 2 ≤ length ws) × (to + 2 ≤ size)
+  raw-room h l = taking r (at-raw (r .there) (r .before) h l)
+
+  pub raws-room : 26 ≤ kindOf (getD ws at 0) → kindOf (getD ws at 0) ≤ 27 → (at + 3 ≤ length ws) × (to + 3 ≤ size)
+  raws-room h l = taking r (at-raws (r .there) (r .before) h l)
+
+-- a literal's head with one raw word, and with two
+pub raw-done : {ns ws buf out last : List ℕ} {count scope at to a t : ℕ} → 24 ≤ kindOf (getD ws at 0) → kindOf (getD ws at 0) ≤ 25 → (a ≡ at + 2) × (t ≡ to + 2) × (last ≡ sets out to (getD ws at 0 ∷ getD ws (at + 1) 0 ∷ [])) → DoneToken ns ws buf out last count scope at to a t
+raw-done {ws = ws} {out = out} {scope = scope} {at} {to} h l e = record {
+  gives = λ rs H xs end s z.
+      let W = at-raw s z h l in
+      (copied W (tablesOf rs) scope (e .0) (e .1) (e .2 ∙ ap (λ (k : List ℕ). sets out to k) (sym (two-words ws at (words-inside W)))), omega (arith, e .0));
+}
+
+pub raws-done : {ns ws buf out last : List ℕ} {count scope at to a t : ℕ} → 26 ≤ kindOf (getD ws at 0) → kindOf (getD ws at 0) ≤ 27 → (a ≡ at + 3) × (t ≡ to + 3) × (last ≡ sets out to (getD ws at 0 ∷ getD ws (at + 1) 0 ∷ getD ws (at + 2) 0 ∷ [])) → DoneToken ns ws buf out last count scope at to a t
+raws-done {ws = ws} {out = out} {scope = scope} {at} {to} h l e = record {
+  gives = λ rs H xs end s z.
+      let W = at-raws s z h l in
+      (copied W (tablesOf rs) scope (e .0) (e .1) (e .2 ∙ ap (λ (k : List ℕ). sets out to k) (sym (three-words ws at (words-inside W)))), omega (arith, e .0));
+}
+
+-- ---- parentheses
+
+pub paren-done : {ns ws buf out : List ℕ} {count scope at to : ℕ} → kindOf (getD ws at 0) ≡ 23 → DoneToken ns ws buf out out count scope at to (at + 1) to
+unfolding writtenI writtenIs
+paren-done {scope = scope} {at} {to} h = record {
+  gives = λ rs H xs end s z.
+      let P = at-paren s z h in
+      let T : Tables = tablesOf rs in
+      (record {
+        left = exprItem (P .inner) ∷ P .rest;
+        there = P .there;
+        wrote = [];
+        upto = sym (add-zero to);
+        short = omega arith;
+        is = refl;
+        rest = P .writes (resolved T scope) (parted T scope) ∙ ap (λ (l : List ℕ). l ++ writtenIs (resolved T scope) (P .rest)) (paren-is T scope (P .inner));
+      }, omega arith);
+}
+
+-- ---- a plain word, a statement's head among them
+
+-- neither a call, parentheses, a literal with raw words, a SUB, a FUNCTION nor a CALL
+pub record Plain (k : ℕ) : Type 0 where
+  pub no-call : k ≡ 21 → ⊥
+  pub no-raw : 23 ≤ k → k < 28 → ⊥
+  pub no-procedure : 84 ≤ k → k < 87 → ⊥
+
+past-it : (k j : ℕ) → j ≤ k → (k ≡ j → ⊥) → j + 1 ≤ k
+past-it k j h f = omega arith
+
+pub is-plain : (k : ℕ) → (k ≡ 21 → ⊥) → (k ≡ 23 → ⊥) → (k ≡ 24 → ⊥) → (k ≡ 25 → ⊥) → (k ≡ 26 → ⊥) → (k ≡ 27 → ⊥) → (k ≡ 84 → ⊥) → (k ≡ 85 → ⊥) → (k ≡ 86 → ⊥) → Plain k
+is-plain k a b c d e f g h i = record { no-call = a; no-raw = λ x y. five x y (past-it k 27 (past-it k 26 (past-it k 25 (past-it k 24 (past-it k 23 x b) c) d) e) f); no-procedure = λ x y. three x y (past-it k 86 (past-it k 85 (past-it k 84 x g) h) i) }
+  where
+    five : 23 ≤ k → k < 28 → 28 ≤ k → ⊥
+    five x y z = omega (arith, y, z)
+    three : 84 ≤ k → k < 87 → 87 ≤ k → ⊥
+    three x y z = omega (arith, y, z)
+
+-- a statement that has no scope of its own: its head, and then its fields
+stmt-moved : {ns ws : List ℕ} {xs : List Item} {at end : ℕ} → StmtAt ws ns (length ns) maxDepth at xs end → (84 ≤ kindOf (getD ws at 0) → kindOf (getD ws at 0) < 87 → ⊥) → (T : Tables) (σ : ℕ) {to : ℕ} (out : List ℕ) → Moved T σ ns ws xs at end to out (at + 1) (to + 1) (set out to (getD ws at 0))
+unfolding writtenI writtenIs
+stmt-moved {ws = ws} {xs} {at} S p T σ {to} out =
+    let s = S .whole in
+    let k = head-kind s in
+    let a : numberOf (S .kind) ≡ 20 → ⊥ = λ q. p (omega arith) (omega arith) in
+    let b : numberOf (S .kind) ≡ 21 → ⊥ = λ q. p (omega arith) (omega arith) in
+    let g = resolved T σ in
+    let is : g (Rattle.plans.specs.Pieces.stmtPiece (S .kind) (S .line) (S .fields)) ≡ getD ws at 0 ∷ written g (S .fields) =
+        stmt-words s (λ q. p (omega arith) (omega arith)) T σ
+        ∙ ap (λ (i : ℕ). getD ws at 0 ∷ wordsT (resolveTree T i nowhere (S .fields))) (inside-other σ (S .kind) (first (S .fields)) a b)
+        ∙ ap (λ (l : List ℕ). getD ws at 0 ∷ l) (tree-is T σ (S .fields)) in
+    record {
+      left = treeItem (S .fields) ∷ S .rest;
+      there = S .there;
+      wrote = getD ws at 0 ∷ [];
+      upto = refl;
+      short = omega arith;
+      is = refl;
+      rest = S .writes g (parted T σ) ∙ ap (λ (l : List ℕ). l ++ writtenIs g (S .rest)) is;
+    }
+
+pub plain-done : {ns ws buf out : List ℕ} {count scope at to : ℕ} → Plain (kindOf (getD ws at 0)) → DoneToken ns ws buf out (set out to (getD ws at 0)) count scope at to (at + 1) (to + 1)
+plain-done {ns} {ws} {buf} {out} {count} {scope} {at} {to} p = record { gives = λ rs H xs end s z. (go rs xs end s z (front-at s), omega arith) }
+  where
+    go : (rs : List Row) (xs : List Item) (end : ℕ) → StandsAll ws ns (length ns) maxDepth at xs end → at < end → FrontAt ws ns (length ns) maxDepth at xs end → Moved (tablesOf rs) scope ns ws xs at end to out (at + 1) (to + 1) (set out to (getD ws at 0))
+    go rs xs end s z (overAt q a b) = absurd (omega arith)
+    go rs xs end s z (wordAt k W) = copied W (tablesOf rs) scope refl refl (ap (λ (l : List ℕ). sets out to l) (sym (one-word ws at (omega (arith, items-inside s)))))
+    go rs xs end s z (rawAt a b W) = absurd (p .no-raw (omega (arith, a)) (omega (arith, b)))
+    go rs xs end s z (rawsAt a b W) = absurd (p .no-raw (omega (arith, a)) (omega (arith, b)))
+    go rs xs end s z (parenAt k W) = absurd (p .no-raw (omega (arith, k)) (omega (arith, k)))
+    go rs xs end s z (callAt k W) = absurd (p .no-call k)
+    go rs xs end s z (stmtAt a b S) = stmt-moved S (p .no-procedure) (tablesOf rs) scope out
+
+-- ---- calls and CALLs
+
+-- the head that a call is written with
+abbrev pub calledHead : Tables → ℕ → ℕ → ℕ
+calledHead T σ f = wordOf (pick (element T σ f) 18 21) 0
+
+-- its name, the head of its list and its arguments, which are written after h
+pub record HeadAt (h : Tables → ℕ → ℕ → ℕ) (ws ns : List ℕ) (at : ℕ) (xs : List Item) (end : ℕ) : Type 0 where
+  pub name : ℕ
+  pub args : Exprs
+  pub rest : List Item
+  pub mid : ℕ
+  pub called : getD ws (at + 1) 0 ≡ wordOf 2 name
+  pub listed : getD ws (at + 2) 0 ≡ wordOf 1 (many args)
+  pub small : name < 16777216
+  pub few : many args < 16777216
+  pub there : E.StandsAll ws (strings ns (length ns)) (at + 3) args mid
+  pub after : StandsAll ws ns (length ns) maxDepth mid rest end
+  pub writes : (T : Tables) (σ : ℕ) → writtenIs (resolved T σ) xs ≡ h T σ name ∷ getD ws (at + 1) 0 ∷ getD ws (at + 2) 0 ∷ (wordsAll (resolveArgs T σ (places T name) args) ++ writtenIs (resolved T σ) rest)
+
+module _ {ws ns : List ℕ} {at : ℕ} {xs : List Item} {end : ℕ} (s : StandsAll ws ns (length ns) maxDepth at xs end) (z : at < end) where
+  pub call-head : kindOf (getD ws at 0) ≡ 21 → HeadAt calledHead ws ns at xs end
+  call-head k =
+      let C = at-call s z k in
+      let D = N.in-call k (C .whole) in
+      record {
+        name = D .name;
+        args = D .args;
+        rest = C .rest;
+        mid = C .mid;
+        called = D .called;
+        listed = D .listed;
+        small = D .small;
+        few = D .few;
+        there = D .there;
+        after = C .after;
+        writes = λ T σ. C .writes (resolved T σ) (parted T σ) ∙ ap (λ (l : List ℕ). l ++ writtenIs (resolved T σ) (C .rest)) (ap (λ (e : Expr). words (resolveExpr T σ e)) (D .is) ∙ call-words T σ (D .name) (D .args) ∙ ap₂ (λ (x y : ℕ). calledHead T σ (D .name) ∷ x ∷ y ∷ wordsAll (resolveArgs T σ (places T (D .name)) (D .args))) (sym (D .called)) (sym (D .listed)));
+      }
+
+  pub calling-head : kindOf (getD ws at 0) ≡ 86 → HeadAt (λ T σ f. getD ws at 0) ws ns at xs end
+  calling-head k =
+      let S = at-stmt s z (omega (arith, k)) (omega (arith, k)) in
+      let D = in-call k (S .whole) in
+      record {
+        name = D .name;
+        args = D .args;
+        rest = S .rest;
+        mid = S .mid;
+        called = D .called;
+        listed = D .listed;
+        small = D .small;
+        few = D .few;
+        there = D .there;
+        after = S .after;
+        writes = λ T σ. S .writes (resolved T σ) (parted T σ) ∙ ap (λ (l : List ℕ). l ++ writtenIs (resolved T σ) (S .rest)) (D .is T σ);
+      }
+
+module _ {h : Tables → ℕ → ℕ → ℕ} {ws ns : List ℕ} {at : ℕ} {xs : List Item} {end : ℕ} (C : HeadAt h ws ns at xs end) where
+  name-is : payOf (getD ws (at + 1) 0) ≡ C .name
+  name-is = ap payOf (C .called) ∙ pay-is 2 (C .name) (C .small)
+
+  many-is : many (C .args) ≡ payOf (getD ws (at + 2) 0)
+  many-is = sym (ap payOf (C .listed) ∙ pay-is 1 (many (C .args)) (C .few))
+
+  head-inside : at + 3 ≤ length ws
+  head-inside = let s = C .there in omega (arith, s .wrote .span, s .wrote .inside)
+
+  -- of no procedure: the arguments are still to come
+  head-moved : (T : Tables) (σ : ℕ) {w to : ℕ} {out last : List ℕ} {a t : ℕ} → T .procedure (C .name) ≡ false → w ≡ h T σ (C .name) → a ≡ at + 3 → t ≡ to + 3 → last ≡ sets out to (w ∷ getD ws (at + 1) 0 ∷ getD ws (at + 2) 0 ∷ []) → Moved T σ ns ws xs at end to out a t last
+  unfolding wordsI wordsIs RightI RightIs writtenI writtenIs
+  head-moved T σ {w} {to} f e p q n =
+      let s = C .there in
+      let r = C .after in
+      record {
+        left = exprsItem (C .args) ∷ C .rest;
+        there = record { wrote = rw p (wrote-cat (s .wrote) (r .wrote)); valid = (s .valid, r .valid) };
+        wrote = w ∷ getD ws (at + 1) 0 ∷ getD ws (at + 2) 0 ∷ [];
+        upto = q;
+        short = omega arith;
+        is = n;
+        rest = C .writes T σ ∙ ap₂ (λ (x : ℕ) (l : List ℕ). x ∷ getD ws (at + 1) 0 ∷ getD ws (at + 2) 0 ∷ (l ++ writtenIs (resolved T σ) (C .rest))) (sym e) (ap (λ (m : ℕ → Bool). wordsAll (resolveArgs T σ m (C .args))) (no-places T (C .name) f) ∙ each-args T σ (C .args));
+      }
+
+  -- of a procedure: the arguments are resolved with it
+  args-moved : (T : Tables) (σ : ℕ) {to : ℕ} {out one last : List ℕ} {a t : ℕ} → one ≡ sets out to (h T σ (C .name) ∷ getD ws (at + 1) 0 ∷ getD ws (at + 2) 0 ∷ []) → Put (wordsAll (resolveArgs T σ (places T (C .name)) (C .args))) one last (to + 3) a t (C .mid) → Moved T σ ns ws xs at end to out a t last
+  args-moved T σ {to} {out} {one} n d =
+      let s = C .there in
+      let y : List ℕ = wordsAll (resolveArgs T σ (places T (C .name)) (C .args)) in
+      let x : List ℕ = h T σ (C .name) ∷ getD ws (at + 1) 0 ∷ getD ws (at + 2) 0 ∷ [] in
+      record {
+        left = C .rest;
+        there = rw (d .past) (C .after);
+        wrote = x ++ y;
+        upto = omega (arith, d .upto);
+        short = omega (arith, d .past, s .wrote .span, shorter-args T σ (places T (C .name)) (C .args));
+        is = d .now ∙ ap (λ (l : List ℕ). sets l (to + 3) y) n ∙ sym (sets-append x y out to);
+        rest = C .writes T σ;
+      }
+
+-- a call of a procedure, by the resolver of expressions
+whole-moved : {ws ns : List ℕ} {at : ℕ} {xs : List Item} {end : ℕ} (C : CallAt ws ns (length ns) maxDepth at xs end) (T : Tables) (σ : ℕ) {to : ℕ} {out last : List ℕ} {a t : ℕ} → Put (words (resolveExpr T σ (Call (C .name) (C .args)))) out last to a t (C .mid) → Moved T σ ns ws xs at end to out a t last
+whole-moved C T σ d =
+    let s = C .whole in
+    record {
+      left = C .rest;
+      there = rw (d .past) (C .after);
+      wrote = words (resolveExpr T σ (Call (C .name) (C .args)));
+      upto = d .upto;
+      short = omega (arith, d .past, s .wrote .span, shorter T σ (Call (C .name) (C .args)));
+      is = d .now;
+      rest = C .writes (resolved T σ) (parted T σ);
+    }
+
+-- what is asked of the rows
+pub not-procedure : (f : ℕ) {count : ℕ} {buf : List ℕ} {b : Bool} → ((rs : List Row) → Holds rs count buf → b ≡ has rs 135 f 0) → b ≡ false → (rs : List Row) → Holds rs count buf → tablesOf rs .procedure f ≡ false
+unfolding tablesOf
+not-procedure f g e rs H = sym (g rs H) ∙ e
+
+module _ {ns ws buf : List ℕ} {count scope at to size : ℕ} (r : ReadyToken ns ws buf count scope at to size) where
+  head-room : {h : Tables → ℕ → ℕ → ℕ} → HeadAt h ws ns at (r .items) (r .end) → (at + 3 ≤ length ws) × (to + 3 ≤ size)
+  head-room C =
+      let x : at + 3 ≤ length ws = head-inside C in
+      (x, omega (arith, r .room .behind, r .room .fits))
+
+  pub call-room : kindOf (getD ws at 0) ≡ 21 → (at + 3 ≤ length ws) × (to + 3 ≤ size)
+  call-room k = head-room (call-head (r .there) (r .before) k)
+
+  pub calling-room : kindOf (getD ws at 0) ≡ 86 → (at + 3 ≤ length ws) × (to + 3 ≤ size)
+  calling-room k = head-room (calling-head (r .there) (r .before) k)
+
+  pub ready-call : kindOf (getD ws at 0) ≡ 21 → Ready ws buf count scope at to size
+  ready-call k =
+      let C = at-call (r .there) (r .before) k in
+      record { some = record { strings = strings ns (length ns); tree = Call (C .name) (C .args); end = C .mid; stands = C .whole }; room = r .room }
+
+  pub ready-args : kindOf (getD ws at 0) ≡ 86 → {size′ : ℕ} → size′ ≡ size → ReadyAll ws buf count scope (at + 3) (to + 3) size′ (payOf (getD ws (at + 2) 0))
+  ready-args k q =
+      let C = calling-head (r .there) (r .before) k in
+      record { strings = strings ns (length ns); trees = C .args; end = C .mid; stands = C .there; counted = many-is C; room = room-at (r .room) (at + 3) (to + 3) (omega (arith, r .room .behind)) q }
+
+module _ {ns ws buf out : List ℕ} {count scope at to : ℕ} where
+  -- the head alone
+  heads-done : {h : Tables → ℕ → ℕ → ℕ} {last : List ℕ} {w a t : ℕ} → ((xs : List Item) (end : ℕ) → StandsAll ws ns (length ns) maxDepth at xs end → at < end → HeadAt h ws ns at xs end)
+      → ((rs : List Row) → Holds rs count buf → tablesOf rs .procedure (payOf (getD ws (at + 1) 0)) ≡ false) → ((rs : List Row) → Holds rs count buf → w ≡ h (tablesOf rs) scope (payOf (getD ws (at + 1) 0)))
+      → (a ≡ at + 3) × (t ≡ to + 3) × (last ≡ sets out to (w ∷ getD ws (at + 1) 0 ∷ getD ws (at + 2) 0 ∷ [])) → DoneToken ns ws buf out last count scope at to a t
+  heads-done {h} H₀ f g e = record {
+    gives = λ rs H xs end s z.
+        let C = H₀ xs end s z in
+        (head-moved C (tablesOf rs) scope (ap (λ (x : ℕ). tablesOf rs .procedure x) (sym (name-is C)) ∙ f rs H) (g rs H ∙ ap (λ (x : ℕ). h (tablesOf rs) scope x) (name-is C)) (e .0) (e .1) (e .2), omega (arith, e .0));
+  }
+
+  pub call-head-done : {last : List ℕ} {w a t : ℕ} → kindOf (getD ws at 0) ≡ 21 → ((rs : List Row) → Holds rs count buf → tablesOf rs .procedure (payOf (getD ws (at + 1) 0)) ≡ false) → ((rs : List Row) → Holds rs count buf → w ≡ calledHead (tablesOf rs) scope (payOf (getD ws (at + 1) 0)))
+      → (a ≡ at + 3) × (t ≡ to + 3) × (last ≡ sets out to (w ∷ getD ws (at + 1) 0 ∷ getD ws (at + 2) 0 ∷ [])) → DoneToken ns ws buf out last count scope at to a t
+  call-head-done k f g e = heads-done {h = calledHead} (λ xs end s z. call-head s z k) f g e
+
+  pub calling-head-done : {last : List ℕ} {a t : ℕ} → kindOf (getD ws at 0) ≡ 86 → ((rs : List Row) → Holds rs count buf → tablesOf rs .procedure (payOf (getD ws (at + 1) 0)) ≡ false)
+      → (a ≡ at + 3) × (t ≡ to + 3) × (last ≡ sets out to (getD ws at 0 ∷ getD ws (at + 1) 0 ∷ getD ws (at + 2) 0 ∷ [])) → DoneToken ns ws buf out last count scope at to a t
+  calling-head-done k f e = heads-done {h = λ T σ f. getD ws at 0} (λ xs end s z. calling-head s z k) f (λ rs H. refl) e
+
+  pub call-done : {last : List ℕ} {a t : ℕ} → kindOf (getD ws at 0) ≡ 21 → Resolved ws buf out last count scope at to a t → DoneToken ns ws buf out last count scope at to a t
+  call-done k d = record {
+    gives = λ rs H xs end s z.
+        let C = at-call s z k in
+        let e = d .gives rs H (strings ns (length ns)) (Call (C .name) (C .args)) (C .mid) (C .whole) in
+        (whole-moved C (tablesOf rs) scope e, omega (arith, e .past, N.moves (C .whole)));
+  }
+
+  pub calling-done : {one last : List ℕ} {a t : ℕ} → kindOf (getD ws at 0) ≡ 86 → one ≡ sets out to (getD ws at 0 ∷ getD ws (at + 1) 0 ∷ getD ws (at + 2) 0 ∷ []) → ResolvedArgs (payOf (getD ws (at + 1) 0)) (payOf (getD ws (at + 2) 0)) ws buf one last count scope (at + 3) (to + 3) a t → DoneToken ns ws buf out last count scope at to a t
+  calling-done {one} {last} {a} {t} k n d = record {
+    gives = λ rs H xs end s z.
+        let T : Tables = tablesOf rs in
+        let C = calling-head s z k in
+        let u = C .there in
+        let e = d .gives rs H (strings ns (length ns)) (C .args) (C .mid) (C .there) (many-is C) in
+        let e′ : Put (wordsAll (resolveArgs T scope (places T (C .name)) (C .args))) one last (to + 3) a t (C .mid) = subst (λ (f : ℕ). Put (wordsAll (resolveArgs T scope (places T f) (C .args))) one last (to + 3) a t (C .mid)) (name-is C) e in
+        (args-moved C T scope n e′, omega (arith, e .past, u .wrote .span));
+  }

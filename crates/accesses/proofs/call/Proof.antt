@@ -1,0 +1,64 @@
+-- A call: the resolver of expressions for a procedure's, else its head. Assumes nothing.
+use Prim.Native.Nat.{_+_}
+use native.Mathlib.Omega.{arith}
+use lib.ListN.{getD}
+use Rattle.words.specs.Word.{payOf}
+use Rattle.accesses.proofs.Steps.{call-room, ready-call, not-procedure, call-done, call-head-done}
+use borrow.Author.Needs.{needs}
+use Rattle.accesses.proofs.call.Statement.{statement}
+use Rattle.accesses.proofs.call.Tie as tie
+use Rattle.accesses.proofs.call.Reads as reads
+use Rattle.accesses.proofs.call.Lts as lts
+use Rattle.accesses.proofs.three.Reads as three-reads
+use Rattle.lookup.proofs.has.Reads as has-reads
+use Rattle.resolver.proofs.head.Reads as head-reads
+use Rattle.resolver.proofs.resolve_expr.Reads as resolve-expr-reads
+
+add-f : tie.Need-add-f
+add-f c = search needs
+
+mul-f : tie.Need-mul-f
+mul-f c = search needs
+
+shared-slice-read-f : tie.Need-shared-slice-read-f
+shared-slice-read-f c = omega (arith, call-room (c .before .before .before .before .before .pre .0) (c .before .before .before .before .before .pre .1))
+
+has-requires : tie.Need-has-requires
+has-requires c κs = search needs
+
+resolve-expr-requires : tie.Need-resolve-expr-requires
+resolve-expr-requires c κs = ready-call (c .before .before .before .before .before .before .before .before .pre .0) (c .before .before .before .before .before .before .before .before .pre .1)
+
+same-length : tie.Need-same-length
+same-length c = search needs
+
+returns : tie.Need-returns
+returns c = call-done (c .before .before .before .before .before .before .before .before .before .before .before .pre .1) (c .before .before .resolve-expr .ensures)
+
+head-requires : tie.Need-head-requires
+head-requires c κs = search needs
+
+three-requires : tie.Need-three-requires
+three-requires c κs = call-room (c .before .before .before .before .before .before .before .before .before .pre .0) (c .before .before .before .before .before .before .before .before .before .pre .1)
+
+same-length-2 : tie.Need-same-length-2
+same-length-2 c = search needs
+
+returns-2 : tie.Need-returns-2
+returns-2 c = call-head-done (c .before .before .before .before .before .before .before .before .before .before .before .before .pre .1) (not-procedure (payOf (getD (c .before .before .before .before .before .before .before .before .before .before .before .before .args .words .now) ((c .before .before .before .before .before .before .before .before .before .before .before .before .args .at) + 1) 0)) (c .before .before .before .before .before .before .has .ensures) (c .before .before .before .before .before .if1 .left)) (c .before .before .before .head .ensures) (c .before .before .three .ensures)
+
+pub call-spec : {M : Type 1} → statement M
+call-spec =
+    tie.close
+    (tie.spec
+    add-f
+    mul-f
+    shared-slice-read-f
+    has-requires
+    resolve-expr-requires
+    same-length
+    returns
+    head-requires
+    three-requires
+    same-length-2
+    returns-2)

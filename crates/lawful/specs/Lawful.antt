@@ -1,5 +1,5 @@
 -- Each definition of `collect`, in their order, keeps the rows such as a lent table may have them; so the rows that collecting gives pass the rule of a
--- lent table, and const_eval may be asked under them. Assumes nothing.
+-- lent table, and const_eval may be asked under them. And the diagnostics name names, and both have room. Assumes nothing.
 use Prim.Native.Nat.{ℕ, zero, suc, _+_, _*_, _%_, _≤_, _<_}
 use mathlib.Core.Path.{_≡_, refl, sym, _∙_, subst}
 use mathlib.Core.Bool.{Bool, true, false, _&&_, _||_, not, false≢true}

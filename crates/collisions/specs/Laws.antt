@@ -5,9 +5,8 @@ use mathlib.Core.Bool.{true}
 use mathlib.Core.List.{List, []}
 use native.Mathlib.Omega.{arith}
 use lib.ListN.{getD}
-use Rattle.words.specs.Word.{kindOf, payOf}
-use Rattle.lent.specs.Rules.{isMarked, wordOk, wordsOk, kindOk, rowOk}
-use Rattle.lent.specs.RuleLaws.{pick-both}
+use Rattle.lent.specs.Rules.{rowOk}
+use Rattle.lent.specs.RuleLaws.{array-name}
 use Rattle.lent.specs.Lent.{AllOk}
 use Rattle.table.specs.Rows.{Row}
 use Rattle.table.specs.Each.{each-at}
@@ -15,12 +14,6 @@ use Rattle.steps.specs.State.{State, running, stopped}
 use Rattle.steps.specs.declared.Counts.{Counts}
 use Rattle.steps.specs.Held.{Held}
 use Rattle.collisions.specs.Collisions.{ArraysNamed, NamesHeld}
-
-array-name : (names : List ℕ) (r : Row) → kindOf (getD r 0 0) ≡ 133 → rowOk names r ≡ true → isMarked names (payOf (getD r 0 0)) ≡ true
-unfolding rowOk kindOk wordsOk wordOk
-array-name names r k o =
-    let t : kindOk names 5 r ≡ true = rw k at o in
-    pick-both (isMarked names (payOf (getD r 0 0))) _ t .0
 
 pub arrays-named : (names : List ℕ) (rows : List Row) → AllOk names rows → ArraysNamed names rows
 arrays-named names rows o i h k = array-name names (getD rows i []) k (each-at (λ r. rowOk names r ≡ true) [] rows o i h)

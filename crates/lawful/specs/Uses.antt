@@ -16,6 +16,7 @@ use Rattle.views.specs.Uses.{own, plain, uses}
 use Rattle.subscripts.specs.Subscripts.{orElse, firstOf, subscripted, inExpr, inExprs, indexed, inLvalue, inStmt, subscriptCount}
 use Rattle.collect.specs.Seen.{Seen, see}
 use Rattle.table.specs.Each.{Each}
+use Rattle.lawful.specs.Good.{each-append}
 
 -- none, or a number below 16,777,216
 abbrev pub Small : Option ℕ → Type 0
@@ -37,11 +38,6 @@ first-small : {A : Type 0} {P : A → Type 0} (f : A → Option ℕ) → ((x : A
 unfolding firstOf Each
 first-small f h [] a = tt
 first-small f h (x ∷ xs) a = else-small (f x) (firstOf f xs) (h x (a .0)) (first-small f h xs (a .1))
-
-each-append : (xs ys : List Seen) → Each FineExpr xs → Each FineExpr ys → Each FineExpr (xs ++ ys)
-unfolding Each
-each-append [] ys a b = b
-each-append (x ∷ xs) ys a b = (a .0, each-append xs ys (a .1) b)
 
 subscripted-small : (b : Bool) (k : ℕ) → k < 16777216 → Small (subscripted b k)
 unfolding subscripted
@@ -85,9 +81,9 @@ module _ (ns : List ℕ) (n : ℕ) where
   own-small (this r) h = own-small r h
   own-small (that v) h = own-small v h
   own-small done h = tt
-  own-small (cons v r) h = each-append (own (over see v)) (own (over see r)) (own-small v (h .0)) (own-small r (h .1))
+  own-small (cons v r) h = each-append FineExpr (own (over see v)) (own (over see r)) (own-small v (h .0)) (own-small r (h .1))
   own-small noRows h = tt
-  own-small (addRow r rs) h = each-append (own (over see r)) (own (over see rs)) (own-small r (h .0)) (own-small rs (h .1))
+  own-small (addRow r rs) h = each-append FineExpr (own (over see r)) (own (over see rs)) (own-small r (h .0)) (own-small rs (h .1))
 
   pub optional-small : (v : Tree Expr (one (opt (exprs & nil)))) → Right ns n v → Small (indexed (optional expressions (over see v)))
   unfolding indexed optional expressions items over Right
@@ -115,10 +111,10 @@ module _ (ns : List ℕ) (n : ℕ) where
   unfolding sorts uses over Right Each
   uses-small label r h = plain-small r h
   uses-small labelName r h = plain-small r h
-  uses-small let′ (cons (word x) (cons is e)) h = (((optional-small is (h .1 .0)), tt), each-append (own (over see is)) (own (over see e)) (own-small is (h .1 .0)) (own-small e (h .1 .1)))
-  uses-small print (cons file (cons its (cons (word newline) (cons using′ (cons (word write) done))))) h = (tt, each-append (own (over see file)) (own (over see using′) ++ own (over see its)) (own-small file (h .0)) (each-append (own (over see using′)) (own (over see its)) (own-small using′ (h .1 .1 .1 .0)) (own-small its (h .1 .0))))
-  uses-small input (cons prompt (cons (word query) (cons vars (cons file done)))) h = (targets-small vars (h .1 .1 .0), each-append (own (over see file)) (own (over see vars)) (own-small file (h .1 .1 .1 .0)) (own-small vars (h .1 .1 .0)))
-  uses-small lineInput (cons prompt (cons (part var) (cons file done))) h = ((target-small var (h .1 .0), tt), each-append (own (over see file)) (own (over see var)) (own-small file (h .1 .1 .0)) (own-small var (h .1 .0)))
+  uses-small let′ (cons (word x) (cons is e)) h = (((optional-small is (h .1 .0)), tt), each-append FineExpr (own (over see is)) (own (over see e)) (own-small is (h .1 .0)) (own-small e (h .1 .1)))
+  uses-small print (cons file (cons its (cons (word newline) (cons using′ (cons (word write) done))))) h = (tt, each-append FineExpr (own (over see file)) (own (over see using′) ++ own (over see its)) (own-small file (h .0)) (each-append FineExpr (own (over see using′)) (own (over see its)) (own-small using′ (h .1 .1 .1 .0)) (own-small its (h .1 .0))))
+  uses-small input (cons prompt (cons (word query) (cons vars (cons file done)))) h = (targets-small vars (h .1 .1 .0), each-append FineExpr (own (over see file)) (own (over see vars)) (own-small file (h .1 .1 .1 .0)) (own-small vars (h .1 .1 .0)))
+  uses-small lineInput (cons prompt (cons (part var) (cons file done))) h = ((target-small var (h .1 .0), tt), each-append FineExpr (own (over see file)) (own (over see var)) (own-small file (h .1 .1 .0)) (own-small var (h .1 .0)))
   uses-small if r h = plain-small r h
   uses-small for r h = plain-small r h
   uses-small while r h = plain-small r h
@@ -137,7 +133,7 @@ module _ (ns : List ℕ) (n : ℕ) where
   uses-small function r h = plain-small r h
   uses-small call r h = plain-small r h
   uses-small midAssign r h = plain-small r h
-  uses-small swap (cons (part a) (cons (part b) done)) h = ((target-small a (h .0), (target-small b (h .1 .0), tt)), each-append (own (over see a)) (own (over see b)) (own-small a (h .0)) (own-small b (h .1 .0)))
+  uses-small swap (cons (part a) (cons (part b) done)) h = ((target-small a (h .0), (target-small b (h .1 .0), tt)), each-append FineExpr (own (over see a)) (own (over see b)) (own-small a (h .0)) (own-small b (h .1 .0)))
   uses-small const r h = plain-small r h
   uses-small exitLoop r h = plain-small r h
   uses-small exitProc r h = plain-small r h

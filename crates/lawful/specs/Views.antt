@@ -18,7 +18,7 @@ use Rattle.subscripts.specs.Subscripts.{indexed, subscriptCount}
 use Rattle.table.specs.Rows.{Row}
 use Rattle.fold.specs.FoldLaws.{RowFold}
 use Rattle.fold.specs.declared.Fold.{Fold}
-use Rattle.lent.specs.Rules.{typeOk, scopeOk}
+use Rattle.lent.specs.Rules.{isMarked, typeOk, scopeOk}
 use Rattle.lent.specs.Valid.{typeOrNone}
 use Rattle.consteval.specs.ConstEval.{constEval}
 use Rattle.consteval.specs.Evaluates.{Consts}
@@ -128,11 +128,14 @@ module _ (ns : List ℕ) (n : ℕ) where
   type-or-none (some (FixedString k)) h = h
   type-or-none (some (Record x)) h = h
 
-  pub own-scope : (x : ℕ) → Named ns x → Scope (x + 1)
+  pub marked-scope : (x : ℕ) → isMarked ns x ≡ true → scopeOk ns (x + 1) ≡ true
   unfolding scopeOk
-  own-scope x h =
+  marked-scope x h =
       let k : x + 1 - 1 ≡ x = omega arith in
-      record { ok = rw (ne-eqb (x + 1) 0 (λ e. omega arith), k) (h .named); fits = omega (arith, h .fits) }
+      rw (ne-eqb (x + 1) 0 (λ e. omega arith), k) h
+
+  pub own-scope : (x : ℕ) → Named ns x → Scope (x + 1)
+  own-scope x h = record { ok = marked-scope x (h .named); fits = omega (arith, h .fits) }
 
   pub module-scope : Scope 0
   unfolding scopeOk

@@ -1,4 +1,5 @@
--- What the tests of the rules say: a name's number is below the marks' number, a word of a row in order meets its own rule. Assumes nothing.
+-- What the tests of the rules say: a name's number is below the marks' number, a word of a row in order meets its own rule, an array's row names it.
+-- Assumes nothing.
 use Prim.Native.Nat.{ℕ, zero, suc, _+_, _-_, _≤_, _<_}
 use mathlib.Core.Path.{_≡_, refl, ap, _∙_, subst}
 use mathlib.Core.Bool.{Bool, true, false, false≢true}
@@ -10,9 +11,10 @@ use lib.Dec.{eqb}
 use lib.ListN.{length, drop, getD, List·getD-eq-default}
 use lib.Seq.{getD-drop}
 use borrow.Author.Tests.{eqb-true}
-use Rattle.words.specs.Word.{pick}
+use Rattle.words.specs.Word.{kindOf, payOf, pick}
+use Rattle.table.specs.Rows.{Row}
 use Rattle.table.specs.Laws.{order}
-use Rattle.lent.specs.Rules.{isMarked, scopeOk, wordOk, wordsOk}
+use Rattle.lent.specs.Rules.{isMarked, scopeOk, wordOk, wordsOk, kindOk, rowOk}
 
 -- ---- numbers of names
 
@@ -48,3 +50,10 @@ words-ok-at names rs (w ∷ ws) (suc j) e h =
     let t = words-ok-at names (drop 1 rs) ws j (pick-both (wordOk names (getD rs 0 0) w (getD ws 0 0) (getD ws 1 0)) _ e .1) (le-of-suc-le-suc h) in
     let p : 1 + j ≡ suc j = omega arith in
     subst (λ (x : ℕ). wordOk names x (getD ws j 0) (getD ws (suc j) 0) (getD ws (suc (suc j)) 0) ≡ true) (getD-drop 1 rs j 0 ∙ ap (λ (i : ℕ). getD rs i 0) p) t
+
+-- the name of an array
+pub array-name : (names : List ℕ) (r : Row) → kindOf (getD r 0 0) ≡ 133 → rowOk names r ≡ true → isMarked names (payOf (getD r 0 0)) ≡ true
+unfolding rowOk kindOk wordsOk wordOk
+array-name names r k o =
+    let t : kindOk names 5 r ≡ true = rw k at o in
+    pick-both (isMarked names (payOf (getD r 0 0))) _ t .0

@@ -1,18 +1,16 @@
 -- main: the listing's length is within its buffer.
-use mathlib.Core.Path.{_≡_, sym}
+use mathlib.Core.Path.{_≡_, sym, ap}
 use mathlib.Core.List.{List}
 use Prim.Native.Nat.{ℕ, _≤_}
 use native.Mathlib.Omega.{arith}
-use lib.ListN.{length}
+use lib.ListN.{length, take, length-take}
 use lib.Seq.{length-take-le}
-use Rattle.text.specs.Wrote.{size}
-use Rattle.text.specs.Laws.{size-le}
 use borrow.Author.Needs.{needs}
 use Rattle.list.proofs.main.Statement.{statement}
 use Rattle.list.proofs.main.Tie as tie
 
-within : (r : ℕ) (text b last : List ℕ) → r ≡ size text b → length last ≡ length b → r ≤ length last
-within r text b last e l = omega (arith, size-le text b)
+within : (r : ℕ) (text last : List ℕ) → (r ≡ length text) × (take r last ≡ text) → r ≤ length last
+within r text last e = omega (arith, e .0, ap length (e .1), length-take r last)
 
 large-buffer-requires : tie.Need-large-buffer-requires
 large-buffer-requires c κs = search needs
@@ -29,20 +27,20 @@ room-requires c κs = search needs
 array-share-prefix-image : tie.Need-array-share-prefix-image
 array-share-prefix-image c = search needs
 
-slice-aggregate-patskneli-listing : tie.Need-slice-aggregate-patskneli-listing
-slice-aggregate-patskneli-listing c = search needs
+slice-aggregate-put-whole : tie.Need-slice-aggregate-put-whole
+slice-aggregate-put-whole c = search needs
 
-slice-aggregate-patskneli-listing-2 : tie.Need-slice-aggregate-patskneli-listing-2
-slice-aggregate-patskneli-listing-2 c = search needs
+slice-aggregate-put-whole-2 : tie.Need-slice-aggregate-put-whole-2
+slice-aggregate-put-whole-2 c = search needs
 
-patskneli-listing-requires : tie.Need-patskneli-listing-requires
-patskneli-listing-requires c κs = search needs
+put-whole-requires : tie.Need-put-whole-requires
+put-whole-requires c κs = search needs
 
 array-share-prefix-out : tie.Need-array-share-prefix-out
-array-share-prefix-out c = within _ _ _ (c .before .patskneli-listing .last .1 .0) (c .before .patskneli-listing .ensures .0) (c .before .patskneli-listing .kept .1 .0)
+array-share-prefix-out c = within _ _ (c .before .put-whole .last .1 .0) (c .before .put-whole .ensures)
 
 slice-aggregate-write-all : tie.Need-slice-aggregate-write-all
-slice-aggregate-write-all c = sym (length-take-le _ _ (within _ _ _ (c .before .before .patskneli-listing .last .1 .0) (c .before .before .patskneli-listing .ensures .0) (c .before .before .patskneli-listing .kept .1 .0)))
+slice-aggregate-write-all c = sym (length-take-le _ _ (within _ _ (c .before .before .put-whole .last .1 .0) (c .before .before .put-whole .ensures)))
 
 write-all-requires : tie.Need-write-all-requires
 write-all-requires c κs = search needs
@@ -59,9 +57,9 @@ main-spec =
     read-full-requires
     room-requires
     array-share-prefix-image
-    slice-aggregate-patskneli-listing
-    slice-aggregate-patskneli-listing-2
-    patskneli-listing-requires
+    slice-aggregate-put-whole
+    slice-aggregate-put-whole-2
+    put-whole-requires
     array-share-prefix-out
     slice-aggregate-write-all
     write-all-requires

@@ -1,5 +1,8 @@
 -- `collect` and `check_name_collisions` of sema.rs: one definition for each arm of the match, in its order, then the walk that goes through the bodies.
--- An expression is only `Seen`; a string is its number; on names all the Rust's case folding is identity.
+-- An expression is only `Seen`; a string is its number; on names all the Rust's case folding is identity. `notes` are the diagnostics.
+-- The kinds of rows, whose words entries/specs/Entries.antt lists: 128 line number, 129 label, 130 TYPE, 131 field, 132 CONST, 133 array,
+-- 134 typed variable, 135 procedure, 136 parameter, 137 DIM SHARED, 138 SHARED item, 139 STATIC item, 140 STATIC procedure, 141 DEF FN,
+-- 142 unranked array parameter, 143 OPTION BASE seen.
 use Prim.Native.Nat.{ℕ, _+_, _%_}
 use mathlib.Core.Bool.{Bool, true, false, _&&_, _||_, not}
 use mathlib.Core.List.{List, [], _∷_, _++_}
@@ -26,7 +29,8 @@ use Rattle.steps.specs.State.{State, running, Step, _⨾_, nothing, when, askin
 use Rattle.collect.specs.Diagnostics.{duplicateLine, duplicateLabel, typeDefined, typeInside, fieldTwice, containsItself, fieldUndefined, optionBaseTwice, optionBaseLate, constDefined, constOverflow, notConstant, itemsOutside, dimSharedInside, suffixDiffers, undefinedType, declaredTwice, noDimension, arrayTwice, otherRank, fixedParam, fixedResult, procInside, procDefined, paramUndefined, arrayAndProc, arrayAndBuiltin}
 use Rattle.collect.specs.Seen.{Seen, see}
 
--- what is given beside the tree: the words that the lent buffers have (none: no limit), the bytes of each string, the erased names
+-- what is given beside the tree: the words that the lent buffers of rows and of diagnostics have (none: no limit), the bytes of each string,
+-- the erased names
 pub record Given : Type 0 where
   pub row-room : Option ℕ
   pub note-room : Option ℕ
@@ -54,7 +58,7 @@ unfoldable pub disagrees : (last : ℕ) → TypeRef → Bool
 disagrees last ty = suffix last && not (eqb (fromTypeRef (head ty)) (fromSuffix last))
 
 abbrev pub isRecord : TypeRef → Bool
-isRecord t = eqb (head t) 45
+isRecord t = eqb (head t) 45  -- TypeRef::Record
 
 unfoldable pub anySome : {A : Type 0} → List (Option A) → Bool
 anySome [] = false
@@ -63,7 +67,7 @@ anySome (x ∷ xs) = isSome x || anySome xs
 -- some array is declared, in whatever scope
 unfoldable pub anyArray : List Row → Bool
 anyArray [] = false
-anyArray (r ∷ rs) = eqb (kindOf (getD r 0 0)) 133 || anyArray rs
+anyArray (r ∷ rs) = eqb (kindOf (getD r 0 0)) 133 || anyArray rs  -- word 0: the kind
 
 -- the length of a fixed string, else 0; width 0 is a plain string
 unfoldable pub fixedLength : Option TypeRef → ℕ
@@ -143,7 +147,7 @@ unfoldable pub constOf : ℕ → Value → Row
 constOf name v = constRow name (literalKind v) (lowOf v) (highOf v)
 
 module _ (G : Given) where
-  -- `error` and `error_with_note`
+  -- `error` and `error_with_note`: the diagnostic is pushed
   abbrev pub error : Row → Step
   error = push (G .note-room)
 
@@ -193,7 +197,7 @@ module _ (G : Given) where
 
   unfoldable pub typeDef : (scope line name : ℕ) → List FieldDecl → Step
   typeDef scope line name fs =
-      asking (λ rows. when (has rows 130 name 0) (error (typeDefined line name (rowWord 3 (find (entryKey 130 name 0) rows)))))
+      asking (λ rows. when (has rows 130 name 0) (error (typeDefined line name (rowWord 3 (find (entryKey 130 name 0) rows)))))  -- word 3: its line
       ⨾ when (not (eqb scope 0)) (error (typeInside line name))
       ⨾ asking (λ rows. fields rows line name (record { fields = []; words = 0 }) fs)
 
@@ -216,6 +220,7 @@ module _ (G : Given) where
 
   -- ---- StmtKind::Shared, StmtKind::Static
 
+  -- word 2 of a row 138 or 139 is its mark, 0 where there is no such row
   unfoldable pub item : (static : Bool) → (scope : ℕ) → ScopeItem → Step
   item true scope i = asking (λ rows. entry (staticRow (i .name) scope (marked (i .array) (rowWord 2 (find (entryKey 139 (i .name) scope) rows)))))
   item false scope i = asking (λ rows. entry (sharedRow (i .name) scope (marked (i .array) (rowWord 2 (find (entryKey 138 (i .name) scope) rows)))))
@@ -228,6 +233,7 @@ module _ (G : Given) where
   unfoldable pub itemType : (scope : ℕ) → ScopeItem → Step
   itemType scope i = when (not (i .array)) (typed scope (i .name) (i .ty))
 
+  -- the statement (`items` of views/specs/View.antt goes through a list)
   unfoldable pub items : (static : Bool) → (scope line : ℕ) → List ScopeItem → Step
   items static scope line is =
       pick (eqb scope 0) (error (itemsOutside line static)) (
@@ -244,13 +250,14 @@ module _ (G : Given) where
       ⨾ asking (λ rows. when (has rows 134 name scope && not is-redim) (error (declaredTwice line name)))
       ⨾ entry (typedVarRow name scope (head ty) (arg ty))
 
-  -- where an array of that name and scope was there
+  -- where an array of that name and scope was there: word 2 of its row is its rank, the number of dimensions
   unfoldable pub redeclared : (line : ℕ) (is-redim preserve : Bool) (name rank : ℕ) → Option Row → Step
   redeclared line is-redim preserve name rank none = nothing
   redeclared line is-redim preserve name rank (some prev) =
       pick (not is-redim && not (member name (G .erased))) (error (arrayTwice line name)) (
       when (not (eqb (getD prev 2 0) rank)) (error (otherRank preserve line name (getD prev 2 0))))
 
+  -- word 4 of a row 133 is `has_lower`
   unfoldable pub declaredArray : {E : Type 0} (scope line : ℕ) (is-redim preserve : Bool) (name : ℕ) → List (Option E) → Option (List E) → Step
   declaredArray scope line is-redim preserve name lowers none = nothing
   declaredArray scope line is-redim preserve name lowers (some dims) =
@@ -312,7 +319,7 @@ module _ (G : Given) where
       resultType line (f .name) (f .ret-ty)
       ⨾ checkVariableLengthStrings line f
       ⨾ when (not (eqb scope 0)) (error (procInside line (f .name)))
-      ⨾ asking (λ rows. when (has rows 135 (f .name) 0) (error (procDefined line (f .name) (rowWord 3 (find (entryKey 135 (f .name) 0) rows)))))
+      ⨾ asking (λ rows. when (has rows 135 (f .name) 0) (error (procDefined line (f .name) (rowWord 3 (find (entryKey 135 (f .name) 0) rows)))))  -- word 3: its line
       ⨾ change (G .row-room) (replaceProc (f .name) (procRow (f .name) (f .is-function) line (headOf (f .ret-ty)) (argOf (f .ret-ty)) ∷ paramRows (f .name) 0 (f .params)))
       ⨾ when (f .is-static) (entry (staticProcRow (f .name)))
       ⨾ when (f .def-fn) (entry (defFnRow (f .name)))
@@ -344,13 +351,13 @@ module _ (G : Given) where
   -- ---- `check_name_collisions`: each array in row order, a procedure before a builtin
 
   unfoldable pub collides : (line name : ℕ) → Option Row → Step
-  collides line name (some proc) = error (arrayAndProc line name (getD proc 2 0) (getD proc 3 0))
+  collides line name (some proc) = error (arrayAndProc line name (getD proc 2 0) (getD proc 3 0))  -- words 2 and 3: is function, line
   collides line name none = when (isBuiltin (G .string name)) (error (arrayAndBuiltin line name))
 
   unfoldable pub collision : List Row → Row → Step
   collision rows r =
-      let name = payOf (getD r 0 0) in
-      when (eqb (kindOf (getD r 0 0)) 133) (collides (getD r 3 0) name (find (entryKey 135 name 0) rows))
+      let name = payOf (getD r 0 0) in  -- word 0: kind and name
+      when (eqb (kindOf (getD r 0 0)) 133) (collides (getD r 3 0) name (find (entryKey 135 name 0) rows))  -- word 3: the array's line
 
   unfoldable pub checkNameCollisions : Step
   checkNameCollisions = asking (λ rows. each (collision rows) rows)
@@ -360,6 +367,6 @@ module _ (G : Given) where
   unfoldable pub collected : {i : Shape} → Tree Expr i → State
   collected t = collect 0 (over see t) (running [] [])
 
-  -- with the collisions, which come after all of `collect`
+  -- with the collisions, which come after all of `collect` (`analysed` of listing/specs/Listing.antt is the whole analysis of an image)
   unfoldable pub analysed : {i : Shape} → Tree Expr i → State
   analysed t = checkNameCollisions (collected t)

@@ -1,11 +1,12 @@
 -- The diagnostics: code, line, two names in the message's order, a number, the note's line; what a message lacks is 0. Above each, its message in sema.rs.
+-- A note stands on a line of its own.
 use Prim.Native.Nat.{ℕ, _+_}
 use mathlib.Core.Bool.{Bool, true, false}
 use mathlib.Core.List.{List, [], _∷_}
 use Rattle.table.specs.Rows.{Row}
 use Rattle.entries.specs.Entries.{bit}
 
--- a name is its string number plus 1
+-- a name in a diagnostic is its string number plus 1
 abbrev pub named : ℕ → ℕ
 named x = x + 1
 
@@ -27,7 +28,8 @@ duplicateLine line n = 1 ∷ line ∷ 0 ∷ 0 ∷ n ∷ 0 ∷ []
 abbrev pub duplicateLabel : (line name : ℕ) → Row
 duplicateLabel line name = of 2 line name
 
--- TYPE '{name}' is already defined; previous definition is on line {prev}
+-- TYPE '{name}' is already defined
+-- note: previous definition is on line {prev}
 abbrev pub typeDefined : (line name prev : ℕ) → Row
 typeDefined line name prev = 3 ∷ line ∷ named name ∷ 0 ∷ 0 ∷ prev ∷ []
 
@@ -95,17 +97,19 @@ noDimension line name = of 18 line name
 abbrev pub arrayTwice : (line name : ℕ) → Row
 arrayTwice line name = of 19 line name
 
--- REDIM PRESERVE of '{name}' must keep its {rank}; only the last one's upper bound may change
--- REDIM of '{name}' must keep its {rank}
+-- REDIM PRESERVE of '{name}' must keep its {rank}; only the last one's upper bound may change (20)
+-- REDIM of '{name}' must keep its {rank} (21)
 abbrev pub otherRank : (preserve : Bool) (line name rank : ℕ) → Row
 otherRank true line name rank = 20 ∷ line ∷ named name ∷ 0 ∷ rank ∷ 0 ∷ []
 otherRank false line name rank = 21 ∷ line ∷ named name ∷ 0 ∷ rank ∷ 0 ∷ []
 
--- parameter '{param}' of '{name}' is declared AS STRING * {n}, but a parameter must be a variable-length string; declare it {param} AS STRING
+-- parameter '{param}' of '{name}' is declared AS STRING * {n}, but a parameter must be a variable-length string
+-- note: declare it {param} AS STRING
 abbrev pub fixedParam : (line param name n : ℕ) → Row
 fixedParam line param name n = 22 ∷ line ∷ named param ∷ named name ∷ n ∷ 0 ∷ []
 
--- the result of '{name}' is declared AS STRING * {n}, but a FUNCTION's result must be a variable-length string; declare it AS STRING
+-- the result of '{name}' is declared AS STRING * {n}, but a FUNCTION's result must be a variable-length string
+-- note: declare it AS STRING
 abbrev pub fixedResult : (line name n : ℕ) → Row
 fixedResult line name n = 23 ∷ line ∷ named name ∷ 0 ∷ n ∷ 0 ∷ []
 
@@ -113,7 +117,8 @@ fixedResult line name n = 23 ∷ line ∷ named name ∷ 0 ∷ n ∷ 0 ∷ []
 abbrev pub procInside : (line name : ℕ) → Row
 procInside line name = of 24 line name
 
--- '{name}' is already defined; previous definition is on line {prev}
+-- '{name}' is already defined
+-- note: previous definition is on line {prev}
 abbrev pub procDefined : (line name prev : ℕ) → Row
 procDefined line name prev = 25 ∷ line ∷ named name ∷ 0 ∷ 0 ∷ prev ∷ []
 
@@ -121,7 +126,8 @@ procDefined line name prev = 25 ∷ line ∷ named name ∷ 0 ∷ 0 ∷ prev ∷
 abbrev pub paramUndefined : (line param type : ℕ) → Row
 paramUndefined line param type = ofTwo 26 line param type
 
--- '{name}' is declared both as an array and as a {SUB or FUNCTION}; the {SUB or FUNCTION} is on line {proc-line}
+-- '{name}' is declared both as an array and as a {SUB or FUNCTION}
+-- note: the {SUB or FUNCTION} is on line {proc-line}
 abbrev pub arrayAndProc : (line name is-function proc-line : ℕ) → Row
 arrayAndProc line name is-function proc-line = 27 ∷ line ∷ named name ∷ 0 ∷ is-function ∷ proc-line ∷ []
 

@@ -30,7 +30,7 @@ literal (E.Single low high) = Single (ofWords low high)
 literal (E.Float low high) = Float (ofWords low high)
 literal (E.Text s) = Text s
 
--- the value that a CONST row holds: its words 2, 3 and 4
+-- the value that a CONST row holds: its words 2, 3 and 4, literal kind, low and high
 abbrev pub rowValue : Row → Value
 rowValue r = valueOf (getD r 2 0) (getD r 3 0) (getD r 4 0)
 

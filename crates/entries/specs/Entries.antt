@@ -8,7 +8,7 @@ use lib.ListN.{length, getD}
 use Rattle.words.specs.Word.{wordOf}
 use Rattle.table.specs.Rows.{Row, width, keyOf, zeros, find, replace}
 
--- a row: kind and name, the words after it, and zeros
+-- a row of the table: kind and name, the words after it, and zeros
 abbrev pub row : (kind name : ℕ) → List ℕ → Row
 row kind name words = wordOf kind name ∷ words ++ zeros (width - suc (length words))
 
@@ -104,5 +104,6 @@ abbrev pub rowWord : ℕ → Option Row → ℕ
 rowWord j none = 0
 rowWord j (some r) = getD r j 0
 
+-- whether the rows have one with this key
 abbrev pub has : List Row → (kind name second : ℕ) → Bool
 has rows kind name second = hasRow (find (entryKey kind name second) rows)

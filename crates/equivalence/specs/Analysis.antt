@@ -31,7 +31,7 @@ unfoldable pub resultOf : Program → State → Told Analysis
 resultOf p (running rows notes) = gives (record { tree = p; rows = rows; diagnostics = notes; resolved = resolvedUnder rows p })
 resultOf p (stopped n) = stops n 0
 
--- a room is the words that a lent buffer has, `none` where there is no limit.
+-- `rows` and `notes` are the rooms for rows and diagnostics: a room is the words that a lent buffer has, `none` where there is no limit.
 -- 5, then 1 (at a place that is left open), then 2 or 3, then 4; then collecting and the collision check, which may stop; then resolving
 unfoldable pub analysis : (rows notes : Option ℕ) (at : ℕ) (bytes ends erased words : List ℕ) → Told Analysis
 unfolding resultOf
@@ -39,11 +39,11 @@ analysis rows notes at bytes ends erased words =
     entryOf (sizedProgram bytes ends words erased) at bytes ends (
     after (acceptedOf (namesOf bytes ends) words erased) (λ p. resultOf p (analysed (given rows notes bytes ends erased) p)))
 
--- accepted: no number, where the lent buffers have no limit (the place of 1 plays no part)
+-- for demand 3. Accepted: no number, where the lent buffers have no limit (the place of 1 plays no part)
 abbrev pub Accepted : (bytes ends erased words : List ℕ) → Analysis → Type 0
 Accepted bytes ends erased words a = analysis none none 0 bytes ends erased words ≡ gives a
 
--- resolving words alone, under given rows: read as a tree, and resolved
+-- for demand 3. Resolving words alone, under given rows: read as a tree, and resolved
 unfoldable pub resolution : List Row → (at : ℕ) (bytes ends words : List ℕ) → Told (List ℕ)
 resolution rows at bytes ends words =
     entryOf (sizedTree bytes ends words) at bytes ends (

@@ -7,27 +7,31 @@ use lib.ListN.{getD}
 use mathlib.Core.List.{List, [], _∷_, _++_}
 use Rattle.words.specs.Word.{wordOf}
 
+-- `Literal` of parser.rs, with its kinds. Integer and Long hold the raw word: `signed32` (consteval/specs/ConstEval.antt) reads it in two's complement
 pub data Literal : Type 0 where
-  Integer : ℕ → Literal
-  Long : ℕ → Literal
-  Single : ℕ → ℕ → Literal
-  Float : ℕ → ℕ → Literal
-  Text : ℕ → Literal
+  Integer : ℕ → Literal  -- 24
+  Long : ℕ → Literal  -- 25
+  Single : ℕ → ℕ → Literal  -- 26: the low word, the high word
+  Float : ℕ → ℕ → Literal  -- 27: the same
+  Text : ℕ → Literal  -- 28 String: its number
 
 mutual
+  -- `Expr` of parser.rs, with its kinds and its fields in order. A name is its string's number, an operator its position in its enum
   pub data Expr : Type 0 where
-    Lit : Literal → Expr
-    Var : ℕ → Expr
-    Elem : ℕ → Exprs → Expr
-    Unary : ℕ → Expr → Expr
-    Binary : ℕ → Expr → Expr → Expr
-    Call : ℕ → Exprs → Expr
-    Field : Expr → ℕ → Expr
-    Paren : Expr → Expr
+    Lit : Literal → Expr  -- 16 Literal
+    Var : ℕ → Expr  -- 17 Variable
+    Elem : ℕ → Exprs → Expr  -- 18 ArrayAccess: name, indices
+    Unary : ℕ → Expr → Expr  -- 19: op, operand
+    Binary : ℕ → Expr → Expr → Expr  -- 20: op, left, right
+    Call : ℕ → Exprs → Expr  -- 21 FnCall: name, args
+    Field : Expr → ℕ → Expr  -- 22: base, field
+    Paren : Expr → Expr  -- 23
 
   pub data Exprs : Type 0 where
     none : Exprs
     more : Expr → Exprs → Exprs
+
+-- ---- the words: a head of kind 16 to 28, then what it holds; kind 1 is a list, 2 a string's number, 9 an operator
 
 unfoldable pub wordsL : Literal → List ℕ
 wordsL (Integer a) = wordOf 24 0 ∷ a ∷ []
@@ -36,6 +40,7 @@ wordsL (Single a b) = wordOf 26 0 ∷ a ∷ b ∷ []
 wordsL (Float a b) = wordOf 27 0 ∷ a ∷ b ∷ []
 wordsL (Text s) = wordOf 28 0 ∷ wordOf 2 s ∷ []
 
+-- how many expressions (`many` of tree/specs/Sorts.antt is the sort of a list)
 unfoldable pub many : Exprs → ℕ
 many none = 0
 many (more e es) = many es + 1
@@ -55,7 +60,7 @@ unfoldable mutual
   wordsAll none = []
   wordsAll (more e es) = words e ++ wordsAll es
 
--- how deep a tree is: an expression inside another is one deeper
+-- for contracts inside and proofs: how deep a tree is, an expression inside another being one deeper
 unfoldable mutual
   pub depth : Expr → ℕ
   depth (Lit l) = 1
@@ -71,11 +76,11 @@ unfoldable mutual
   depths none = 0
   depths (more e es) = max (depth e) (depths es)
 
--- the high word of a finite float
+-- the high word of a finite float: its exponent isn't all ones (`finite` in fold/specs is the library's, of a float)
 abbrev pub finite : ℕ → Bool
 finite w = not (eqb ((w / 1048576) % 2048) 2047)
 
--- a payload below n
+-- for contracts inside and proofs: a payload below n
 pub record Below (n x : ℕ) : Type 0 where
   pub below : x < n
   pub fits : x < 16777216
@@ -85,12 +90,12 @@ pub record Strings : Type 0 where
   pub count : ℕ
   pub names : List ℕ
 
--- the number of a name
+-- for contracts inside and proofs: the number of a name
 pub record Named (ns : List ℕ) (x : ℕ) : Type 0 where
   pub named : eqb (getD ns x 0) 1 ≡ true
   pub fits : x < 16777216
 
--- the strings and the marks of a tree are right
+-- for contracts inside and proofs: the strings and the marks of a tree are right
 module _ (n : ℕ) where
   unfoldable pub ValidL : Literal → Type 0
   ValidL (Integer a) = Unit {0}
@@ -115,7 +120,7 @@ module _ (n : Strings) where
     Valids none = Unit {0}
     Valids (more e es) = Valid e × Valids es
 
--- the kind of a tree's head
+-- for proofs: the kind of a tree's head, and of a literal's (`kindL` of tree/specs/Tree.antt is a leaf's)
 unfoldable pub kindE : Expr → ℕ
 kindE (Lit l) = 16
 kindE (Var x) = 17

@@ -24,7 +24,7 @@ module _ (ws : List ℕ) where
       (pick (eqb (kindOf (getD ws at 0)) k) (pick (ltb (payOf (getD ws at 0)) n) (got (payOf (getD ws at 0)) (at + 1)) (wrong at)) (wrong at))
       (wrong (length ws))
 
-  -- the number of a name
+  -- the number of a name (`nameAt` of lookup/specs/Builtins.antt is a builtin's name)
   unfoldable pub nameAt : List ℕ → ℕ → Got ℕ
   nameAt ns at =
       pick (ltb at (length ws))
@@ -45,14 +45,14 @@ module _ (ws : List ℕ) where
   floatAt f at = bind (rawAt at) (λ a m. bind (testAt finite m) (λ b m′. got (f a b) m′))
 
   module _ (n : ℕ) where
-    -- what follows a literal's head of the kind k
+    -- what follows a literal's head of the kind k, 24 to 28
     unfoldable pub literalBody : ℕ → ℕ → Got Literal
     literalBody k m =
         pick (eqb k 24) (bind (rawAt m) (λ a m′. got (Integer a) m′))
         (pick (eqb k 25) (bind (rawAt m) (λ a m′. got (Long a) m′))
         (pick (eqb k 26) (floatAt Single m)
         (pick (eqb k 27) (floatAt Float m)
-        (bind (leafAt 2 n m) (λ s m′. got (Text s) m′)))))
+        (bind (leafAt 2 n m) (λ s m′. got (Text s) m′)))))  -- 28
 
     unfoldable pub literalAt : ℕ → Got Literal
     literalAt at = bind (headAt 24 28 at) literalBody
@@ -68,7 +68,7 @@ module _ (ws : List ℕ) where
       unfoldable pub listAt : ℕ → Got Exprs
       listAt at = bind (leafAt 1 16777216 at) exprsAt
 
-      -- what follows a head of the kind k
+      -- what follows a head of the kind k, 16 to 23; UnaryOp has 2 variants, BinaryOp 18
       unfoldable pub bodyAt : ℕ → ℕ → Got Expr
       bodyAt k at =
           pick (eqb k 16) (bind (literalAt (n .count) at) (λ l m. got (Lit l) m))
@@ -78,9 +78,9 @@ module _ (ws : List ℕ) where
           (pick (eqb k 20) (bind (leafAt 9 18 at) (λ o m. bind (sub m) (λ l m′. bind (sub m′) (λ r m″. got (Binary o l r) m″))))
           (pick (eqb k 21) (bind (nameAt (n .names) at) (λ x m. bind (listAt m) (λ es m′. got (Call x es) m′)))
           (pick (eqb k 22) (bind (sub at) (λ e m. bind (nameAt (n .names) m) (λ x m′. got (Field e x) m′)))
-          (bind (sub at) (λ e m. got (Paren e) m))))))))
+          (bind (sub at) (λ e m. got (Paren e) m))))))))  -- 23
 
-    -- an expression, with so many levels left
+    -- an expression, with so many levels left: a right head where none is left is too deep
     unfoldable pub exprAt : ℕ → ℕ → Got Expr
     exprAt zero at = bind (headAt 16 23 at) (λ k m. deep at)
     exprAt (suc d) at = bind (headAt 16 23 at) (bodyAt (exprAt d))

@@ -1,5 +1,7 @@
 -- What `const_eval` of sema.rs gives, rule by rule in the order of its match. Definitions only.
--- Values are `Good` throughout: of any other nothing is asked.
+-- Nothing is asked of a caller: every value here is in the range that `Good` (Value.antt) states, since a literal's float is finite
+-- (`floatAt`, expr/specs/Reader.antt) and its whole number has 32 bits, a folded one is tested here or only changes its sign, and lent CONST rows
+-- are tested by number 6. What the definitions say of other values is never asked.
 use mathlib.Core.Path.{_≡_}
 use mathlib.Core.Bool.{Bool, true, false, not, cond, _||_}
 use Prim.Native.Nat.{ℕ, zero, suc, max}
@@ -32,7 +34,7 @@ andThen (Is v) k = k v
 andThen Overflow k = Overflow
 andThen NotConstant k = NotConstant
 
--- an answer's value, where it has one, is good
+-- for contracts inside and proofs: an answer's value, where it has one, is good
 abbrev pub GoodFold : Fold → Type 0
 GoodFold (Is v) = Good v
 GoodFold Overflow = Unit {0}
@@ -78,7 +80,8 @@ isText (Single x) = false
 isText (Float x) = false
 isText (Text t) = true
 
--- `numeric_type`, as the number that `max_by_key` gives it: INTEGER, LONG, SINGLE, DOUBLE. Integer kind outside 16 bits counts as LONG
+-- `numeric_type`, as the number that `max_by_key` gives it: INTEGER, LONG, SINGLE, DOUBLE. Integer kind outside 16 bits counts as LONG.
+-- (No array's rank, and not the `rank` of table/specs/Rows.antt.) A string's is never asked: `onNumbers`
 abbrev pub rankOf : Value → ℕ
 rankOf (Integer n) = cond (inInteger n) 0 1
 rankOf (Long n) = 1
@@ -86,7 +89,7 @@ rankOf (Single x) = 2
 rankOf (Float x) = 3
 rankOf (Text t) = 3
 
--- `as_f64`
+-- `as_f64`; a string's is never asked: `onNumbers`
 abbrev pub asF64 : Value → Ieee.Float
 asF64 (Integer n) = doubleOf n
 asF64 (Long n) = doubleOf n
@@ -94,7 +97,7 @@ asF64 (Single x) = x
 asF64 (Float x) = x
 asF64 (Text t) = fin false 0 (pos 0)
 
--- `int_of`
+-- `int_of`; it counts only where both operands are whole: `atRank`, ranks 0 and 1
 abbrev pub intOf : Value → ℤ
 intOf (Integer n) = n
 intOf (Long n) = n
@@ -166,15 +169,15 @@ floatOp Mul a b = Ieee.mul binary64 a b
 
 -- z in whole numbers, x in floats: the type says which of the two counts
 abbrev pub atRank : ℕ → ℤ → Ieee.Float → Fold
-atRank zero z x = integerFold z
-atRank (suc zero) z x = longFold z
-atRank (suc (suc zero)) z x = singleFold x
-atRank (suc (suc (suc k))) z x = floatFold x
+atRank zero z x = integerFold z  -- INTEGER
+atRank (suc zero) z x = longFold z  -- LONG
+atRank (suc (suc zero)) z x = singleFold x  -- SINGLE
+atRank (suc (suc (suc k))) z x = floatFold x  -- DOUBLE
 
 unfoldable pub arithOf : Arith → Value → Value → Fold
 arithOf op l r = atRank (max (rankOf l) (rankOf r)) (intOp op (intOf l) (intOf r)) (floatOp op (asF64 l) (asF64 r))
 
--- ---- by the operator's position in `BinaryOp`: power, comparison and logic are not constant
+-- ---- by the operator's position in `BinaryOp`: 0 Add, 1 Sub, 2 Mul, 3 Div, 4 IntDiv, 5 Mod; power, comparison and logic are not constant
 unfoldable pub opOf : ℕ → Value → Value → Fold
 opOf op l r =
     pick (eqb op 0) (arithOf Add l r)

@@ -11,7 +11,8 @@ use Rattle.numbers.specs.Numbers.{ofWords, bitsOf, wholeAt}
 use Rattle.fold.specs.declared.Value.{Value}
 use Rattle.fold.specs.declared.Value.the-variants.{Integer, Long, Single, Float, Text}
 
--- ---- the range of the numbers: Integer and Long from -2147483648 to 2147483648, floats finite
+-- ---- for contracts inside and proofs. The range of the numbers: Integer and Long from -2147483648 to 2147483648, floats finite (`finite` of the
+-- library, of a float; that of expr/specs/Expr.antt is of its high word)
 
 abbrev pub InRange : ℤ → Type 0
 InRange z = natAbs z ≤ 2147483648
@@ -53,7 +54,7 @@ lowOf v = bits64 v % 4294967296
 abbrev pub highOf : Value → ℕ
 highOf v = bits64 v / 4294967296
 
--- ---- back: the value of a row with these words
+-- ---- back: the value of a row with these words; its kind is 24 to 28
 
 unfoldable pub valueOf : (kind low high : ℕ) → Value
 valueOf k low high =
@@ -61,9 +62,9 @@ valueOf k low high =
     (pick (eqb k 25) (Long (wholeAt low high))
     (pick (eqb k 26) (Single (ofWords low high))
     (pick (eqb k 27) (Float (ofWords low high))
-    (Text low))))
+    (Text low))))  -- 28
 
--- ---- the rule of these words in a row, with n strings
+-- ---- the rule of these words in a lent row, with n strings: number 6 of the other entries; the C entry takes no rows
 
 -- -2147483648 to 2147483648
 abbrev pub wholeRule : (low high : ℕ) → Bool

@@ -18,7 +18,7 @@ pub record Image : Type 0 where
   pub words : List ℕ
   pub erased : List ℕ
 
--- the little-endian word at a place
+-- the little-endian word whose first byte stands at a place (`wordAt` of tree/specs/Reader.antt reads a tree's word)
 unfoldable pub wordAt : List ℕ → ℕ → ℕ
 wordAt l i = getD l i 0 + 256 * getD l (i + 1) 0 + 65536 * getD l (i + 2) 0 + 16777216 * getD l (i + 3) 0
 
@@ -27,7 +27,7 @@ unfoldable pub wordsAt : List ℕ → ℕ → ℕ → List ℕ
 wordsAt l i zero = []
 wordsAt l i (suc n) = wordAt l i ∷ wordsAt l (i + 4) n
 
--- the three counts
+-- the three counts (`strings` of tree/specs/Tree.antt is a count with marks)
 unfoldable pub strings : List ℕ → ℕ
 strings l = wordAt l 0
 
@@ -37,7 +37,7 @@ treeWords l = wordAt l 4
 unfoldable pub erasedNames : List ℕ → ℕ
 erasedNames l = wordAt l 8
 
--- where what follows them starts
+-- where what follows them starts (`erasedFrom` of reader/specs/Program.antt tests the erased names)
 unfoldable pub treeFrom : List ℕ → ℕ
 treeFrom l = 12 + 4 * strings l
 
@@ -65,6 +65,7 @@ parts l = record {
   erased = wordsAt l (erasedFrom l) (erasedNames l);
 }
 
+-- whether all are zero (`zeros` of table/specs/Rows.antt is so many zeros)
 unfoldable pub zeros : List ℕ → Bool
 zeros [] = true
 zeros (x ∷ xs) = eqb x 0 && zeros xs
@@ -83,6 +84,6 @@ well l =
 unfoldable pub decode : List ℕ → Option Image
 decode l = pick (well l) (some (parts l)) none
 
--- the same as the program answers it: the counts
+-- for contracts inside: the same as the code answers it, the counts
 unfoldable pub opened : List ℕ → Opened
 opened l = pick (well l) (Whole (record { strings = strings l; words = treeWords l; erased = erasedNames l; bytes = byteCount l })) Malformed

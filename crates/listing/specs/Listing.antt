@@ -18,7 +18,8 @@ unfoldable pub listed : (Image → Told Analysis) → Option Image → List ℕ
 listed analyse none = refusal 5
 listed analyse (some i) = textOf (i .bytes) (i .ends) (analyse i)
 
--- with 2,048 rows and 2,048 diagnostics lent; no place is printed, so that 0 stands for the one that is left open
+-- with 2,048 rows and 2,048 diagnostics lent; no place is printed, so that 0 stands for the one that is left open.
+-- (`analysed` of collect/specs/Collect.antt is collecting with the collision check.)
 unfoldable pub analysed : Image → Told Analysis
 analysed i = analysis (some (2048 * width)) (some (2048 * noteWidth)) 0 (i .bytes) (i .ends) (i .erased) (i .words)
 

@@ -85,7 +85,7 @@ same [] (b ∷ bs) = false
 same (a ∷ xs) [] = false
 same (a ∷ xs) (b ∷ bs) = eqb a b && same xs bs
 
--- the first entry of that name
+-- the first builtin of that name (`entryOf` of strings/specs/Open.antt is how an entry begins)
 unfoldable pub entryOf : List ℕ → List Builtin → Option Builtin
 unfolding same
 entryOf name [] = none
@@ -103,6 +103,8 @@ unfoldable pub isBuiltin : List ℕ → Bool
 unfolding builtin
 isBuiltin name = isSome (builtin name)
 
+-- ---- for contracts inside and proofs
+
 -- the code's table: the name's length, the least and most arguments, the name and zeros
 unfoldable pub cellsOf : Builtin → List ℕ
 cellsOf b = length (b .name) ∷ b .least ∷ b .most ∷ b .name ++ replicate (7 - length (b .name)) 0
@@ -116,6 +118,7 @@ unfoldable pub flat : List (List ℕ) → List ℕ
 flat [] = []
 flat (r ∷ rs) = r ++ flat rs
 
+-- the name of builtin i (`nameAt` of expr/specs/Reader.antt reads a name's number)
 unfoldable pub nameAt : ℕ → List ℕ
 unfolding builtins
 nameAt i = getD (map (λ (b : Builtin). b .name) builtins) i []

@@ -34,13 +34,14 @@ near h a b = byHalf h (a / b) (compare (a % b * 2) b)
 abbrev pub signed : Bool → ℕ → ℤ
 signed s n = cond s (negℤ (pos n)) (pos n)
 
--- the whole number nearest to a float. (Of what is not finite it is never asked.)
+-- the whole number nearest to a float. Of what is not finite it is never asked: `rounded` (fold/specs/Fold.antt) asks it of finite values alone.
+-- (`wholeOf` of reader/specs/Program.antt asks whether all words are the tree's.)
 unfoldable pub wholeOf : Halves → Float → ℤ
 wholeOf h nan = pos 0
 wholeOf h (inf s) = pos 0
 wholeOf h (fin s m e) = signed s (near h (m * up e) (down e))
 
--- -2 ^ k ≤ z < 2 ^ k
+-- -2 ^ k ≤ z < 2 ^ k: `mag` (lib.Signed) is n both for n and for -(n + 1)
 abbrev pub within : ℕ → ℤ → Bool
 within k z = ltb (mag z) (2 ^ k)
 
@@ -84,7 +85,7 @@ bitsOf (negsuc n) = 18446744073709551615 - n
 abbrev pub wholeAt : (low high : ℕ) → ℤ
 wholeAt low high = cond (ltb high 2147483648) (pos (high * 4294967296 + low)) (negsuc (18446744073709551615 - (high * 4294967296 + low)))
 
--- ---- x is sig * 2 ^ exp of the smallest f64, and sig has all 53 digits where exp is above 0
+-- ---- for contracts inside and proofs: x is sig * 2 ^ exp of the smallest f64, and sig has all 53 digits where exp is above 0
 pub record PartsOf (x : Float) (neg : Bool) (exp sig : ℕ) : Type 0 where
   pub value : HasValue x neg (sig * 2 ^ exp) (2 ^ 1074)
   pub small : sig < 2 ^ 53

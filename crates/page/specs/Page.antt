@@ -7,7 +7,7 @@ use Rattle.message.specs.Message.{lines}
 use Rattle.message.specs.declared.Diag.{Diag}
 use Rattle.table.specs.Rows.{Row}
 
--- a word's digits, after a blank
+-- a word's digits, after a blank (32)
 unfoldable pub word : ℕ → List ℕ
 word w = 32 ∷ hex8 w
 
@@ -26,7 +26,7 @@ diagOf r = record {
   note = getD r 5 0;
 }
 
--- the lines of the diagnostics, a T line for each row, and the R line of the resolved words
+-- the lines of the diagnostics (`notes`), a T line for each row, and the R line of the resolved words: 84 is T, 82 is R
 unfoldable pub page : (bytes ends : List ℕ) → (notes rows : List Row) → (words : List ℕ) → List ℕ
 page bytes ends notes rows words = flatMap (λ r. lines bytes ends (diagOf r)) notes ++ (flatMap (line 84) rows ++ line 82 words)
 

@@ -15,16 +15,17 @@ use Rattle.tree.specs.Reader.{programAt}
 use Rattle.reader.specs.declared.Accepted.{Accepted}
 use Rattle.reader.specs.declared.Accepted.the-variants.{Fine, Refused}
 
+-- a program's tree
 abbrev pub Program : Type 0
 Program = Tree Expr (one (many (stmt & nil)))
 
--- all words are the tree's
+-- all words are the tree's, else number 2 at the first word over (`wholeOf` of numbers/specs/Numbers.antt rounds a float)
 unfoldable pub wholeOf : {A : Type 0} → List ℕ → Got A → Told A
 wholeOf ws (got p m) = pick (eqb m (length ws)) (gives p) (stops 2 m)
 wholeOf ws (wrong p) = stops 2 p
 wholeOf ws (deep p) = stops 3 p
 
--- strictly rising, from `low` on, each a name's number
+-- the erased names: strictly rising, from `low` on, each a name's number (`erasedFrom` of image/specs/Image.antt is their place in a file)
 unfoldable pub erasedFrom : List ℕ → ℕ → List ℕ → Bool
 erasedFrom ns low [] = true
 erasedFrom ns low (e ∷ es) = leb low e && (eqb (getD ns e 0) 1 && erasedFrom ns (e + 1) es)
@@ -37,6 +38,8 @@ programOf ns ws = wholeOf ws (programAt ws ns (length ns))
 unfoldable pub acceptedOf : List ℕ → List ℕ → List ℕ → Told Program
 unfolding programOf erasedFrom
 acceptedOf ns ws erased = after (programOf ns ws) (λ p. unless (erasedFrom ns 0 erased) 4 0 (gives p))
+
+-- ---- for the other entries, contracts inside and proofs
 
 -- the number and the place alone
 unfoldable pub verdict : {A : Type 0} → Told A → Told (Unit {0})

@@ -10,17 +10,17 @@ use Rattle.entries.specs.Entries.{entryKey, has}
 use Rattle.lookup.specs.Lookup.{ArrayInfo, lookupArray}
 use Rattle.resolve.specs.Tables.{Tables}
 
--- a parameter with these marks, whose type has this head: by reference (no mark 1), no array (no mark 2) and no record (45, whether or
--- not a row 130 has that TYPE)
+-- `!p.byval && !p.array && !matches!(p.ty, Some(TypeRef::Record(_)))` of a parameter with these marks (1 BYVAL, 2 array) whose type has this
+-- head: not BYVAL, which the name here doesn't say, no array, and no record (45, whether or not a row 130 has that TYPE)
 abbrev pub isScalar : (marks head : ℕ) → Bool
 isScalar marks head = not (eqb (marks % 2) 1) && (not (leb 2 marks) && not (eqb head 45))
 
 -- there is such a parameter
 abbrev pub byRef : Option Row → Bool
 byRef none = false
-byRef (some r) = isScalar (getD r 3 0) (getD r 4 0)
+byRef (some r) = isScalar (getD r 3 0) (getD r 4 0)  -- row 136's words 3 and 4: marks, type's head
 
--- `is_some`
+-- `is_some` (the one of lookup/specs/Builtins.antt, for arrays)
 abbrev pub isSome : Option ArrayInfo → Bool
 isSome none = false
 isSome (some a) = true

@@ -41,7 +41,7 @@ unfoldable mutual
   resolveArgs T σ m none = none
   resolveArgs T σ m (more e es) = more (passed (m 0) e (resolveExpr T σ e)) (resolveArgs T σ (after m) es)
 
--- The word of a row's first field: the name of a CALL, SUB or FUNCTION.
+-- The word of a row's first field: the name of a CALL, SUB or FUNCTION. Of other kinds `inside` and `argued` don't look at it.
 unfoldable pub first : {i : Shape} → Tree Expr i → ℕ
 first (word x) = x
 first (value e) = 0
@@ -57,11 +57,11 @@ first (add r rs) = 0
 
 -- The scope inside a statement of the kind k whose name is x: SUB and FUNCTION (DEF FN too) open their own, all others keep it.
 unfoldable pub inside : ℕ → Kind → ℕ → ℕ
-inside σ k x = pick (eqb (numberOf k) 20 || eqb (numberOf k) 21) (x + 1) σ
+inside σ k x = pick (eqb (numberOf k) 20 || eqb (numberOf k) 21) (x + 1) σ  -- 20 SUB, 21 FUNCTION
 
 -- The expressions listed in it: those of a CALL are arguments.
 unfoldable pub argued : Tables → Kind → ℕ → Places
-argued T k x = pick (eqb (numberOf k) 22) (places T x) nowhere
+argued T k x = pick (eqb (numberOf k) 22) (places T x) nowhere  -- 22 CALL
 
 -- Every expression of a statement of any kind, its bodies' too: m says `by_ref` of those that a list's rows hold.
 unfoldable pub resolveTree : Tables → ℕ → Places → {i : Shape} → Tree Expr i → Tree Expr i
@@ -77,6 +77,7 @@ resolveTree T σ m (cons v r) = cons (resolveTree T σ m v) (resolveTree T σ m 
 resolveTree T σ m nothing = nothing
 resolveTree T σ m (add r rs) = add (resolveTree T σ m r) (resolveTree T σ (after m) rs)
 
+-- the same as in reader/specs/Program.antt
 abbrev pub Program : Type 0
 Program = Tree Expr (one (many (stmt & nil)))
 

@@ -6,7 +6,7 @@ use mathlib.Core.Bool.{Bool, true, false, _&&_, not}
 pub record Tables : Type 0 where
   -- a procedure of that name is known
   pub procedure : ℕ → Bool
-  -- the parameter of that name at that position is there, by reference, and neither an array nor a record
+  -- the parameter at that position of the procedure of that name is there, by reference, and neither an array nor a record
   pub reference : ℕ → ℕ → Bool
   -- from that scope, that name is a visible array
   pub array : ℕ → ℕ → Bool
@@ -23,7 +23,7 @@ nowhere i = false
 unfoldable pub places : Tables → ℕ → Places
 places T f i = T .procedure f && T .reference f i
 
--- the same past the first
+-- the same past the first (`after` of words/specs/Told.antt puts one check after another)
 unfoldable pub after : Places → Places
 after m i = m (suc i)
 

@@ -1,4 +1,5 @@
 -- What collecting keeps: the rows and the diagnostics, or the number that stopped it; and the few things that it does to them.
+-- `notes` are the diagnostics; document 01's note, the N line, is `noteLine` (message/specs/Message.antt).
 use Prim.Native.Nat.{ℕ, _*_}
 use mathlib.Core.Bool.{Bool, true, false}
 use mathlib.Core.List.{List, [], _∷_, _++_}

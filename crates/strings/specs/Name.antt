@@ -5,11 +5,11 @@ use mathlib.Core.List.{List, [], _∷_}
 use lib.ListN.{length}
 use lib.Dec.{leb, eqb}
 
--- from a to z, both included
+-- from a to z, both included (`between` of tree/specs/Tree.antt leaves its end out)
 unfoldable pub between : ℕ → ℕ → ℕ → Bool
 between a z b = leb a b && leb b z
 
--- a capital, a digit or a dot
+-- a capital (65 to 90), a digit (48 to 57) or a dot (46)
 unfoldable pub inner : ℕ → Bool
 inner b = between 65 90 b || (between 48 57 b || eqb b 46)
 

@@ -56,6 +56,7 @@ unfoldable pub sound : List ℕ → List ℕ → Bool
 unfolding allBelow rightAt
 sound bytes ends = pick (eqb (length ends) 0) (eqb (length bytes) 0) (allBelow (length ends) (rightAt bytes ends))
 
+-- For the other entries, which give number 1 with its place.
 -- Where the rule breaks: an end past the bytes or below the end before it is laid to its own string, a byte outside 32 to 126 to the string that
 -- holds it, a string not above the one before it to the later one, a short last end to the last string, or to 0 where there are no strings.
 unfoldable pub breaksAt : List ℕ → List ℕ → ℕ → Bool
@@ -72,7 +73,7 @@ unfoldable pub namesOf : List ℕ → List ℕ → List ℕ
 unfolding marksBelow
 namesOf bytes ends = marksBelow bytes ends (length ends)
 
--- string i runs from a to e, within the bytes, and the string before it from an earlier place to a
+-- for contracts inside and proofs: string i runs from a to e, within the bytes, and the string before it from an earlier place to a
 pub record Bounds (bytes ends : List ℕ) (i a e : ℕ) : Type 0 where
   pub inside : i < length ends
   pub from : a ≡ startOf ends i
@@ -81,7 +82,7 @@ pub record Bounds (bytes ends : List ℕ) (i a e : ℕ) : Type 0 where
   pub order : a ≤ e
   pub fits : e ≤ length bytes
 
--- an array that begins with the marks of all strings
+-- for contracts inside and proofs: an array that begins with the marks of all strings
 pub record Names (bytes ends marks : List ℕ) : Type 0 where
   pub long : length marks ≡ 1024
   pub first : take (length ends) marks ≡ namesOf bytes ends

@@ -11,6 +11,7 @@ use Rattle.tree.specs.Tree.{Shape, Tree, word, value, Stmt, list, part, this, t
 use Rattle.views.specs.View.{LValue}
 use Rattle.views.specs.Uses.{Uses, uses}
 
+-- `Option::or_else`
 unfoldable pub orElse : Option ℕ → Option ℕ → Option ℕ
 orElse nothing b = b
 orElse (some n) b = some n

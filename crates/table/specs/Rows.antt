@@ -1,5 +1,5 @@
 -- The table of document 01: rows of `width` words, strictly rising by their first two, in a buffer that is zero past the last. Diagnostics
--- stand in their own buffer under the same rule. These are definitions.
+-- stand in their own buffer, in the order in which they were pushed, and it too is zero past the last. These are definitions.
 use mathlib.Core.Path.{_≡_}
 use mathlib.Core.List.{List, [], _∷_, _++_}
 use mathlib.Core.Option.{Option, none, some}
@@ -12,7 +12,7 @@ use Rattle.words.specs.Word.{pick}
 abbrev pub width : ℕ
 width = 6
 
--- the words of a diagnostic
+-- the words of a diagnostic, here called a note (document 01's note, the N line, is `noteLine` in message/specs/Message.antt)
 abbrev pub noteWidth : ℕ
 noteWidth = 6
 
@@ -27,17 +27,17 @@ keyOf a b = a * 4294967296 + b
 unfoldable pub key : Row → ℕ
 key r = keyOf (getD r 0 0) (getD r 1 0)
 
--- each row has w words
+-- for the other entries, contracts inside and proofs: each row has w words
 abbrev pub Wide : ℕ → List Row → Type 0
 Wide w [] = Unit {0}
 Wide w (r ∷ rs) = (length r ≡ w) × Wide w rs
 
--- `Table b rows`: each row has `width` words, and the keys rise strictly, from b on
+-- for the other entries, contracts inside and proofs. `Table b rows`: each row has `width` words, and the keys rise strictly, from b on
 abbrev pub Table : ℕ → List Row → Type 0
 Table b [] = Unit {0}
 Table b (r ∷ rs) = (length r ≡ width) × (b ≤ key r) × Table (suc (key r)) rs
 
--- how many rows stand before the key k: the place where it is, or would go
+-- for contracts inside and proofs: how many rows stand before the key k, the place where it is, or would go (no array's rank)
 unfoldable pub rank : ℕ → List Row → ℕ
 rank k [] = zero
 rank k (r ∷ rs) = pick (ltb (key r) k) (suc (rank k rs)) zero
@@ -66,20 +66,23 @@ remove lo hi (x ∷ xs) = pick (leb lo (key x)) (pick (ltb (key x) hi) (remove l
 unfoldable pub replace : ℕ → ℕ → List Row → List Row → List Row
 replace lo hi new rows = insertAll new (remove lo hi rows)
 
+-- ---- rows in a buffer: for the other entries' contracts, contracts inside and proofs. The listing needs `zeros` alone
+
 -- the words of the rows, one row after the other
 unfoldable pub flatten : List Row → List ℕ
 flatten [] = []
 flatten (r ∷ rs) = r ++ flatten rs
 
--- n zeros
+-- n zeros (`zeros` of image/specs/Image.antt tests for them)
 abbrev pub zeros : ℕ → List ℕ
 zeros n = replicate n 0
 
--- a buffer of n words that holds rows of w words: the rows, and then zeros, also where too few words are left for one more
+-- a buffer of n words that holds rows of w words: the rows, and then zeros, also where too few words are left for one more.
+-- (`Image` of image/specs/Image.antt is a program's.)
 unfoldable pub image : ℕ → ℕ → List Row → List ℕ
 image w n rows = flatten rows ++ zeros (n - length rows * w)
 
--- the first n rows of a buffer
+-- the first n rows of a buffer (`rowsOf` of views/specs/View.antt goes through rows of fields)
 unfoldable pub rowsOf : ℕ → List ℕ → List Row
 rowsOf zero b = []
 rowsOf (suc n) b = take width b ∷ rowsOf n (drop width b)

@@ -11,7 +11,7 @@ unfoldable pub ascii : S.String → List ℕ
 ascii S.[] = []
 ascii (S._∷_ c s) = code c ∷ ascii s
 
--- 0 to 9, then a to f
+-- 0 to 9, then a to f: 48 is the character 0, 87 + 10 is a
 unfoldable pub digit : ℕ → ℕ
 digit n = pick (ltb n 10) (48 + n) (87 + n)
 
@@ -19,7 +19,7 @@ digit n = pick (ltb n 10) (48 + n) (87 + n)
 unfoldable pub hex8 : ℕ → List ℕ
 hex8 w = map (λ k. digit (w / 16 ^ k % 16)) (7 ∷ 6 ∷ 5 ∷ 4 ∷ 3 ∷ 2 ∷ 1 ∷ 0 ∷ [])
 
--- a byte as two digits, and those of each byte below n, one byte after the other
+-- for contracts inside: a byte as two digits, and those of each byte below n, one byte after the other
 abbrev pub pair : ℕ → List ℕ
 pair b = digit (b / 16) ∷ digit (b % 16) ∷ []
 

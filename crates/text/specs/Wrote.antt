@@ -7,6 +7,7 @@ use lib.ListN.{length, drop, replicate}
 use lib.Seq.{sets}
 use Rattle.words.specs.Word.{pick}
 
+-- For contracts inside and proofs.
 -- The text was written from `at` on, as much of it as fits: a store past the end is none. `next` is the place past it; all
 -- places past the end are alike.
 pub record Wrote (text before after : List ℕ) (at next : ℕ) : Type 0 where

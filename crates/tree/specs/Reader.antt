@@ -12,7 +12,7 @@ use Rattle.tree.specs.Sorts.{Leaf, Sort, leaf, expr, stmt, many, group, 
 use Rattle.tree.specs.Tree.{strings, Shape, one, row, rows, Tree, word, value, Stmt, list, part, this, that, done, cons, none, more, kindL, okL}
 
 module _ (ws : List ℕ) where
-  -- a word of kind k whose payload is right: its payload
+  -- a word of kind k whose payload is right: its payload (`wordAt` of image/specs/Image.antt is four bytes)
   unfoldable pub wordAt : ℕ → (ℕ → Bool) → ℕ → Got ℕ
   wordAt k ok at =
       pick (ltb at (length ws))
@@ -27,7 +27,7 @@ module _ (ws : List ℕ) where
   unfoldable pub isAt : ℕ → ℕ → Bool
   isAt w at = pick (ltb at (length ws)) (eqb (getD ws at 0) w) false
 
-  -- a statement's head, with any line: the word
+  -- a statement's head, of the kinds 64 to 117, with any line: the word
   unfoldable pub stmtHead : ℕ → Got ℕ
   stmtHead at =
       pick (ltb at (length ws))
@@ -41,6 +41,7 @@ module _ (ws : List ℕ) where
     rowsAt f (suc c) at = bind (f at) (λ r m. bind (rowsAt f c m) (λ rs m′. got (more r rs) m′))
 
     module _ (sub : ℕ → Got Expr) (subS : ℕ → Got (Tree Expr (one stmt))) where
+      -- a field of the sort s, a row of fields: `sub` reads an expression inside, `subS` a statement
       unfoldable mutual
         pub fieldAt : (s : Sort) → ℕ → Got (Tree Expr (one s))
         fieldAt (leaf l) at = bind (wordAt (kindL l) (okL ns n l) at) (λ x m. got (word x) m)
@@ -59,10 +60,11 @@ module _ (ws : List ℕ) where
       unfoldable pub restAt : ℕ → ℕ → Got (Tree Expr (one stmt))
       restAt w m = bind (rowAt (sorts (kindAt (kindOf w - 64))) m) (λ r m′. got (Stmt (kindAt (kindOf w - 64)) (payOf w) r) m′)
 
+    -- a statement, with so many levels left: a right head where none is left is too deep
     unfoldable pub stmtAt : ℕ → ℕ → Got (Tree Expr (one stmt))
     stmtAt zero at = bind (stmtHead at) (λ w m. deep at)
     stmtAt (suc d) at = bind (stmtHead at) (restAt (exprAt ws (strings ns n) d) (stmtAt d))
 
-    -- a whole program: one list of statements
+    -- a whole program: one list of statements; 100 is `maxDepth` (words/specs/Sizes.antt)
     unfoldable pub programAt : Got (Tree Expr (one (many (stmt & nil))))
     programAt = fieldAt (exprAt ws (strings ns n) 100) (stmtAt 100) (many (stmt & nil)) 0

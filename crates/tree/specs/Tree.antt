@@ -9,35 +9,37 @@ use Rattle.expr.specs.Expr.{Strings, Expr, words, depth, Valid}
 use Rattle.words.specs.Word.{wordOf}
 use Rattle.tree.specs.Sorts.{Leaf, name, text, mark, Sort, leaf, expr, stmt, many, group, either, never, Sorts, nil, _&_, Kind, sorts, numberOf}
 
--- a field, a row of fields, or several rows
+-- a field, a row of fields, or several rows. A row here is a row of fields, not of the table
 pub data Shape : Type 0 where
   one : Sort → Shape
   row rows : Sorts → Shape
 
--- E stands for an expression
+-- What stands in the place of a sort (Sorts.antt). E stands for an expression
 pub data Tree (E : Type 0) : Shape → Type 0 where
-  word : {l : Leaf} → ℕ → Tree E (one (leaf l))
-  value : E → Tree E (one expr)
-  Stmt : (k : Kind) → ℕ → Tree E (row (sorts k)) → Tree E (one stmt)
-  list : {ss : Sorts} → Tree E (rows ss) → Tree E (one (many ss))
-  part : {ss : Sorts} → Tree E (row ss) → Tree E (one (group ss))
-  this : {k : ℕ} {ss : Sorts} {s : Sort} → Tree E (row ss) → Tree E (one (either k ss s))
-  that : {k : ℕ} {ss : Sorts} {s : Sort} → Tree E (one s) → Tree E (one (either k ss s))
-  done : Tree E (row nil)
-  cons : {s : Sort} {ss : Sorts} → Tree E (one s) → Tree E (row ss) → Tree E (row (s & ss))
-  none : {ss : Sorts} → Tree E (rows ss)
-  more : {ss : Sorts} → Tree E (row ss) → Tree E (rows ss) → Tree E (rows ss)
+  word : {l : Leaf} → ℕ → Tree E (one (leaf l))  -- a leaf: its payload
+  value : E → Tree E (one expr)  -- an expression
+  Stmt : (k : Kind) → ℕ → Tree E (row (sorts k)) → Tree E (one stmt)  -- a statement: kind, line, fields
+  list : {ss : Sorts} → Tree E (rows ss) → Tree E (one (many ss))  -- a list: its rows
+  part : {ss : Sorts} → Tree E (row ss) → Tree E (one (group ss))  -- a struct: its fields
+  this : {k : ℕ} {ss : Sorts} {s : Sort} → Tree E (row ss) → Tree E (one (either k ss s))  -- a choice: the variant k with its fields; an absent option
+  that : {k : ℕ} {ss : Sorts} {s : Sort} → Tree E (one s) → Tree E (one (either k ss s))  -- a choice: a later variant; a present option
+  done : Tree E (row nil)  -- no more fields
+  cons : {s : Sort} {ss : Sorts} → Tree E (one s) → Tree E (row ss) → Tree E (row (s & ss))  -- a field and those after it
+  none : {ss : Sorts} → Tree E (rows ss)  -- no more rows
+  more : {ss : Sorts} → Tree E (row ss) → Tree E (rows ss) → Tree E (rows ss)  -- a row and those after it
 
+-- how many rows
 unfoldable pub count : {E : Type 0} {ss : Sorts} → Tree E (rows ss) → ℕ
 count none = 0
 count (more r rs) = count rs + 1
 
--- the kind of a leaf's word
+-- the kind of a leaf's word (`kindL` of expr/specs/Expr.antt is a literal's)
 abbrev pub kindL : Leaf → ℕ
 kindL name = 2
 kindL text = 2
 kindL (mark k a b) = k
 
+-- its words
 unfoldable pub wordsT : {i : Shape} → Tree Expr i → List ℕ
 wordsT (word {l} x) = wordOf (kindL l) x ∷ []
 wordsT (value e) = words e
@@ -51,7 +53,7 @@ wordsT (cons v r) = wordsT v ++ wordsT r
 wordsT none = []
 wordsT (more r rs) = wordsT r ++ wordsT rs
 
--- a statement or an expression inside another is one deeper
+-- for contracts inside and proofs: its depth, a statement or an expression inside another being one deeper
 unfoldable pub depthT : {i : Shape} → Tree Expr i → ℕ
 depthT (word x) = 0
 depthT (value e) = depth e
@@ -65,19 +67,22 @@ depthT (cons v r) = max (depthT v) (depthT r)
 depthT none = 0
 depthT (more r rs) = max (depthT r) (depthT rs)
 
--- what a leaf's payload may be: n strings, of which ns says which are names
+-- from a to below b (`between` of strings/specs/Name.antt includes its end)
 abbrev pub between : ℕ → ℕ → ℕ → Bool
 between a b x = leb a x && ltb x b
 
+-- n strings, and for each a 1 where it is a name (`strings` of image/specs/Image.antt is a file's count)
 abbrev pub strings : List ℕ → ℕ → Strings
 strings ns n = record { count = n; names = ns }
 
 module _ (ns : List ℕ) (n : ℕ) where
+  -- what a leaf's payload may be: n strings, of which ns says which are names
   abbrev pub okL : Leaf → ℕ → Bool
   okL name x = eqb (getD ns x 0) 1
   okL text x = between 0 n x
   okL (mark k a b) x = between a b x
 
+  -- for contracts inside and proofs: every word of it is right
   unfoldable pub Right : {i : Shape} → Tree Expr i → Type 0
   Right (word {l} x) = (okL l x ≡ true) × (x < 16777216)
   Right (value e) = Valid (strings ns n) e

@@ -24,7 +24,7 @@ pub record Uses (E : Type 0) : Type 0 where
   pub targets : List (LValue E)
   pub exprs : List E
 
--- no such target, and the words' order
+-- no such target, and the words' order (`plain` of collect/specs/Diagnostics.antt is a message without a name)
 unfoldable pub plain : {E : Type 0} {ss : Sorts} → Tree E (row ss) → Uses E
 plain r = record { targets = []; exprs = own r }
 

@@ -7,11 +7,13 @@ use lib.Dec.{eqb}
 use Rattle.tree.specs.Sorts.{Sort, leaf, expr, stmt, many, group, either, never, Sorts, nil, _&_, flag, named, opt, exprs, body, TypeRef as TypeSort, LValue as LValueRow, Declarator as DeclaratorRow, Param as ParamRow, ScopeItem as ScopeRow, FieldDecl as FieldRow, Kind, sorts, label, labelName, let′, print, input, lineInput, if, for, while, doLoop, goto, gosub, return, onGoto, onGosub, dim, declare, shared, static, redim, sub, function, call, midAssign, swap, const, exitLoop, exitProc, optionBase, typeDef, fieldAssign, data′, read, defType, beep, erase, raiseError, onError, resume, locate, color, randomize, restore, cls, selectCase, end′, stop, open′, close, width, field′, setField, getPut, lock}
 use Rattle.tree.specs.Tree.{Shape, one, row, rows, Tree, word, value, Stmt, list, part, this, that, done, cons, none, more}
 
+-- ---- the Rust's enum and structs, as far as collecting reads them (of LValue not `fields`). As sorts they stand in tree/specs/Sorts.antt
+
 pub data TypeRef : Type 0 where
   Integer Long Single Double : TypeRef
   FixedString Record : ℕ → TypeRef
 
--- a type in a row: its head's kind and its argument, 0 if it has none; an absent one is 0 and 0
+-- a type in a row of the table: its head's kind, 40 to 45, and its argument, 0 if it has none; an absent one is 0 and 0
 abbrev pub head : TypeRef → ℕ
 head Integer = 40
 head Long = 41
@@ -68,10 +70,12 @@ module _ {E : Type 0} where
   optional f (this r) = absent
   optional f (that (part r)) = some (f r)
 
+  -- a list's rows of fields, each by f (`rowsOf` of table/specs/Rows.antt is rows of the table)
   unfoldable pub rowsOf : {A : Type 0} {ss : Sorts} → (Tree E (row ss) → A) → Tree E (rows ss) → List A
   rowsOf f none = []
   rowsOf f (more r rs) = f r ∷ rowsOf f rs
 
+  -- the same of a whole list (`items` of collect/specs/Collect.antt is the statement SHARED or STATIC)
   unfoldable pub items : {A : Type 0} {ss : Sorts} → (Tree E (row ss) → A) → Tree E (one (many ss)) → List A
   items f (list rs) = rowsOf f rs
 
@@ -81,12 +85,12 @@ module _ {E : Type 0} where
   -- ---- the Rust's structs
 
   unfoldable pub typeRef : Tree E (one TypeSort) → TypeRef
-  typeRef (this r) = Integer
-  typeRef (that (this r)) = Long
-  typeRef (that (that (this r))) = Single
-  typeRef (that (that (that (this r)))) = Double
-  typeRef (that (that (that (that (this (cons (word n) done)))))) = FixedString n
-  typeRef (that (that (that (that (that (this (cons (word x) done))))))) = Record x
+  typeRef (this r) = Integer  -- 40
+  typeRef (that (this r)) = Long  -- 41
+  typeRef (that (that (this r))) = Single  -- 42
+  typeRef (that (that (that (this r)))) = Double  -- 43
+  typeRef (that (that (that (that (this (cons (word n) done)))))) = FixedString n  -- 44
+  typeRef (that (that (that (that (that (this (cons (word x) done))))))) = Record x  -- 45
 
   unfoldable pub asType : Tree E (row (TypeSort & nil)) → TypeRef
   asType (cons t done) = typeRef t
@@ -129,6 +133,7 @@ pub data View (E : Type 0) : Type 0 where
   Function : (name : ℕ) → List Param → (ret-ty : Option TypeRef) → Tree E (one body) → (is-static def-fn : Bool) → View E
   Other : View E
 
+-- the fields of a row stand in the order of `sorts`
 unfoldable pub view : {E : Type 0} (k : Kind) → Tree E (row (sorts k)) → View E
 unfolding sorts
 view label (cons (word n) done) = Label n
@@ -186,7 +191,8 @@ view setField r = Other
 view getPut r = Other
 view lock r = Other
 
--- the scope of a statement's bodies: a procedure's own, else the one it stands in. 0 is the module's, else the procedure's string number plus 1
+-- the scope of a statement's bodies: a procedure's own, else the one it stands in. 0 is the module's, else the procedure's string number plus 1.
+-- (`inner` of strings/specs/Name.antt is a test of bytes.)
 unfoldable pub inner : {E : Type 0} → ℕ → View E → ℕ
 inner scope (Label n) = scope
 inner scope (LabelName x) = scope

@@ -1,9 +1,10 @@
--- Document 01's number and place for each cause ("What stops a call").
+-- Document 01's number and place for each cause ("What stops a call"), for the other entries and contracts inside, whose refusals are an enum.
 use Prim.Native.Nat.{ℕ}
 use Rattle.words.specs.Told.{Told, stops}
 use Rattle.words.specs.declared.Refusal.{Refusal}
 use Rattle.words.specs.declared.Refusal.the-variants.{Size, Strings, Word, Depth, Erased, Rows, Lookup, Output, RowsFull, DiagnosticsFull, TypeWords}
 
+-- (`numberOf` of tree/specs/Sorts.antt is the place of a statement's kind)
 abbrev pub numberOf : Refusal → ℕ
 numberOf Size = 5
 numberOf (Strings p) = 1

@@ -1,4 +1,4 @@
--- The sizes of document 01. Exactly a size passes, one over is number 5.
+-- The sizes of document 01. Exactly a size passes; one over is number 5, for the depth number 3.
 use Prim.Native.Nat.{ℕ}
 
 abbrev pub maxWords : ℕ
@@ -13,6 +13,7 @@ maxBytes = 16384
 abbrev pub maxErased : ℕ
 maxErased = 1024
 
--- the deepest level: a top statement has depth 1, a statement or expression inside another is one deeper
+-- the deepest level: a top statement has depth 1, a statement or expression inside another is one deeper. Reading a whole program
+-- (`programAt`, tree/specs/Reader.antt) begins with as many levels left
 abbrev pub maxDepth : ℕ
 maxDepth = 100

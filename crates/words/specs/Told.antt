@@ -6,7 +6,7 @@ pub data Told (A : Type 0) : Type 0 where
   stops : (number place : ℕ) → Told A
   gives : A → Told A
 
--- one check or run after another: the first that stops decides
+-- one check or run after another: the first that stops decides (`after` of resolve/specs/Tables.antt shifts positions)
 unfoldable pub after : {A B : Type 0} → Told A → (A → Told B) → Told B
 after (stops n p) k = stops n p
 after (gives a) k = k a

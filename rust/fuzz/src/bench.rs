@@ -1,7 +1,7 @@
 //! How long one image takes, side by side on the same images in one run.
 //!
-//! A side is a function from an image to its listing. The two are here; another joins by an entry in [`sides`]. What is timed is
-//! the call alone: the listings are compared afterwards, and what a side has allocated for its answer is freed after the clock stopped.
+//! A side is a function from an image to its listing. The two are here; another joins by an entry in [`sides`]. What is timed are
+//! the calls alone: the listings are compared afterwards, and what a side has allocated for its answers is freed after the clock stopped.
 
 use crate::{limit, program, rng::Rng};
 use image::ast::*;
@@ -92,16 +92,22 @@ fn middle<T: Copy>(mut all: Vec<T>, order: impl FnMut(&T, &T) -> std::cmp::Order
     all[all.len() / 2]
 }
 
-/// The median time of a side's call on an image.
+/// A sample takes about this long at least, so that reading the clock doesn't count.
+const SAMPLE: Duration = Duration::from_micros(20);
+
+/// The median time of a side's call on an image, each sample being the mean of a few calls.
 fn time(side: &Side, file: &[u8], out: &mut [u8], runs: usize) -> Duration {
-    let run = |_| {
+    let mut sample = |calls: u32| {
+        let mut made = Vec::with_capacity(calls as usize);
         let start = Instant::now();
-        let made = black_box((side.run)(black_box(file), out));
-        let taken = start.elapsed();
-        drop(made);
-        taken
+        for _ in 0..calls {
+            made.push(black_box((side.run)(black_box(file), out)));
+        }
+        start.elapsed() / calls
     };
-    middle((0..runs).map(run).collect(), Ord::cmp)
+    let one = sample(8).max(Duration::from_nanos(1));
+    let calls = SAMPLE.div_duration_f64(one).clamp(1.0, 100.0) as u32;
+    middle((0..runs).map(|_| sample(calls)).collect(), Ord::cmp)
 }
 
 /// Whether two sides have different listings for an image.

@@ -1,7 +1,7 @@
-//! The original as judge: xbasic64's own `collect`, `check_name_collisions` and `resolve_array_accesses`, run on an image,
+//! The original, to compare with: xbasic64's own `collect`, `check_name_collisions` and `resolve_array_accesses`, run on an image,
 //! and the listing that document 01 describes, from the original's tables, messages and tree.
 //!
-//! Build with `XBASIC64_SRC` naming the original's folder; without it [`AVAILABLE`] is false and nothing else is here.
+//! It is built from `docs/src`, or from the folder that `XBASIC64_SRC` names; where neither is there [`AVAILABLE`] is false and nothing else is here.
 
 #[cfg(original)]
 mod lexer;

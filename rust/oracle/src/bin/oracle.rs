@@ -19,7 +19,7 @@ fn main() -> ExitCode {
 #[cfg(not(original))]
 fn main() -> ExitCode {
     eprintln!(
-        "oracle: built without the original; name its folder in XBASIC64_SRC and build again"
+        "oracle: built without the original (docs/src, or the folder that XBASIC64_SRC names)"
     );
     ExitCode::from(2)
 }

@@ -25,7 +25,7 @@ use Rattle.expr.proofs.Step.{the-type}
 use Rattle.tree.specs.Sorts.{Leaf, Sort, leaf, expr, stmt, many, group, either, never, Sorts, nil, _&_, flag, whole, letter, oneOf, named, quoted, opt, exprs, body, GotoTarget, TypeRef, PrintItem, CaseClause, ResumeTarget, Kind, sorts, kinds, kindAt, lock}
 use Rattle.tree.specs.Tree.{strings, Shape, one, row, rows, Tree, word, value, Stmt, list, part, this, that, done, cons, none, more, kindL, okL, between}
 use Rattle.tree.specs.Codes.{parts, allRows, rowOf, singles, sortAt, decode, chain, partCodes, stmtCodes, codes, decoded}
-use Rattle.tree.specs.Reader.{wordAt, neverAt, isAt, stmtHead, rowsAt, fieldAt, rowAt, restAt, stmtAt, programAt}
+use Rattle.tree.specs.Reader.{wordAt, neverAt, isAt, stmtHead, rowsAt, fieldAt, rowAt, restAt, stmtAt}
 
 -- a number past the end of the flags is no name's
 pub no-name : (ns : List ℕ) (x : ℕ) → length ns ≤ x → eqb (getD ns x 0) 1 ≡ false
@@ -64,11 +64,11 @@ sixes : List (List ℕ) → Bool
 sixes [] = true
 sixes (l ∷ ls) = leb (length l) 6 && sixes ls
 
-and-left : (a b : Bool) → (a && b) ≡ true → a ≡ true
+pub and-left : (a b : Bool) → (a && b) ≡ true → a ≡ true
 and-left true b e = refl
 and-left false b e = e
 
-and-right : (a b : Bool) → (a && b) ≡ true → b ≡ true
+pub and-right : (a b : Bool) → (a && b) ≡ true → b ≡ true
 and-right true b e = e
 and-right false b e = absurd (mathlib.Core.Bool.false≢true e)
 
@@ -127,6 +127,15 @@ size-group ss = refl
 pub size-opt : (ss : Sorts) → sizeS (opt ss) ≡ 1 + (sizeR ss + 2) + 2
 unfolding sizeS sizeR
 size-opt ss = refl
+
+pub size-none : sizeR nil ≡ 1
+unfolding sizeR
+size-none = refl
+
+pub size-pos : (ss : Sorts) → 0 < sizeR ss
+unfolding sizeR
+size-pos nil = lib.Dec.lit< tt
+size-pos (s & ss) = omega arith
 
 pub size-cons : (s : Sort) (ss : Sorts) → sizeR (s & ss) ≡ sizeS s + sizeR ss + 2
 unfolding sizeR
@@ -252,6 +261,13 @@ pub zero-not : (ws : List ℕ) (at : ℕ) → at < length ws → (getD ws at 0 �
 unfolding isAt
 zero-not ws at h f = simp (lt-ltb at (length ws) h, ne-eqb (getD ws at 0) 0 f)
 
+-- where nothing is read after it
+pub then-read : (s : Step) → then s (λ m. Read (record { at = m })) ≡ s
+unfolding then
+then-read (Read c) = refl
+then-read (Wrong p) = refl
+then-read (Deep p) = refl
+
 -- a list
 pub rows-none : (ws ns : List ℕ) (n : ℕ) {ss : Sorts} (f : ℕ → Got (Tree Expr (row ss))) (count : ℕ) (c : Cursor) → count ≤ 0 → stepOf (rowsAt ws ns n f count (c .at)) ≡ Read c
 unfolding rowsAt stepOf
@@ -356,14 +372,8 @@ module _ (ws ns : List ℕ) (n : ℕ) (sub : ℕ → Got Expr) (subS : ℕ → G
   plain-row (suc (suc (suc zero))) h = refl
   plain-row (suc (suc (suc (suc j)))) h = absurd (omega arith)
 
-  then-read : (s : Step) → then s (λ m. Read (record { at = m })) ≡ s
-  unfolding then
-  then-read (Read c) = refl
-  then-read (Wrong p) = refl
-  then-read (Deep p) = refl
-
   -- a row of one field
-  row-one : (s : Sort) (m : ℕ) {r : Step} → r ≡ stepOf (fieldAt ws ns n sub subS s m) → r ≡ stepOf (rowAt ws ns n sub subS (s & nil) m)
+  pub row-one : (s : Sort) (m : ℕ) {r : Step} → r ≡ stepOf (fieldAt ws ns n sub subS s m) → r ≡ stepOf (rowAt ws ns n sub subS (s & nil) m)
   unfolding rowAt stepOf
   row-one s m e = e ∙ sym (row-more s nil m ∙ then-read _)
 
@@ -466,13 +476,3 @@ stmt-go ws ns n zero at z a b c h = absurd (z refl)
 stmt-go ws ns n (suc d) at {r} z a b c h =
     let q : rowOf (kindOf (getD ws at 0) - 64 + 39) ≡ sorts (kindAt (kindOf (getD ws at 0) - 64)) = row-kind (kindOf (getD ws at 0) - 64) (omega arith) in
     rw (head-ok ws at a b c) (last (Stmt _ _) _ (rw (sub-one, q) at h))
-
--- the program is the list of the rows number 4
-pub program-is : (ws ns : List ℕ) (n : ℕ) {s : Step} → s ≡ stepOf (fieldAt ws ns n (exprAt ws (strings ns n) 100) (stmtAt ws ns n 100) (many (rowOf 4)) 0) → s ≡ stepOf (programAt ws ns n)
-unfolding programAt rowOf allRows parts
-program-is ws ns n e = e
-
--- so is any body
-pub body-is : (ws ns : List ℕ) (n left at : ℕ) {s : Step} → s ≡ stepOf (fieldAt ws ns n (exprAt ws (strings ns n) left) (stmtAt ws ns n left) (many (rowOf 4)) at) → s ≡ stepOf (fieldAt ws ns n (exprAt ws (strings ns n) left) (stmtAt ws ns n left) (many (stmt & nil)) at)
-unfolding rowOf allRows parts
-body-is ws ns n left at e = e

@@ -210,7 +210,7 @@ module _ (ws ns : List ℕ) (n : ℕ) where
     goes-up z e h =
         record {
           is = ap (λ (s : Step). then s (λ m. after g sp m)) (frame-end ws ns n f at z e) ∙ after-top g sp at h;
-          less = omega (arith, size-end f, total-top g sp h)
+          less = omega (arith, size-end f, total-top g sp h);
         }
 
     -- the field in hand: what it reads, then the rest
@@ -222,7 +222,7 @@ module _ (ws ns : List ℕ) (n : ℕ) where
     goes-past {m} z e =
         record {
           is = next-field z ∙ ap (λ (s : Step). then s (λ m′. whole g sp (restOf f) m′)) e;
-          less = omega (arith, size-next f z, field-after ws ns n (f .left) (sortAt (f .fields % 256)) at e)
+          less = omega (arith, size-next f z, field-after ws ns n (f .left) (sortAt (f .fields % 256)) at e);
         }
 
     pub stops-wrong : {p : ℕ} → (f .fields ≡ 0 → ⊥) → fieldStep ws ns n (f .left) (sortAt (f .fields % 256)) at ≡ Wrong p → whole g sp f at ≡ Wrong p
@@ -242,7 +242,7 @@ module _ (ws ns : List ℕ) (n : ℕ) where
     goes-into g′ r o m f′ z e w q p alike top =
         record {
           is = next-field z ∙ ap (λ (s : Step). then s (λ m′. whole g sp (restOf f) m′)) e ∙ then-same _ _ _ (λ m′. ap (λ (h : Frame). whole g sp h m′) (sym q) ∙ pushed-is g g′ sp r o m′ p alike top);
-          less = omega (arith, size-next f z, w, ap sizeF q, pushed-size g g′ sp r o p alike top)
+          less = omega (arith, size-next f z, w, ap sizeF q, pushed-size g g′ sp r o p alike top);
         }
 
   -- by the frame that a function answers

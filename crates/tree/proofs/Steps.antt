@@ -141,12 +141,6 @@ pub size-cons : (s : Sort) (ss : Sorts) → sizeR (s & ss) ≡ sizeS s + sizeR s
 unfolding sizeR
 size-cons s ss = refl
 
-pub size-chain : (k : ℕ) (rs : List Sorts) (j : ℕ) → j < length rs → sizeR (getD rs j nil) < sizeS (chain k rs)
-unfolding chain sizeS
-size-chain k [] j h = absurd (omega arith)
-size-chain k (ss ∷ rs) zero h = omega arith
-size-chain k (ss ∷ rs) (suc j) h = let z : sizeR (getD rs j nil) < sizeS (chain (suc k) rs) = size-chain (suc k) rs j (omega arith) in omega arith
-
 smalls : List Sorts → Bool
 smalls [] = true
 smalls (ss ∷ l) = ltb (sizeR ss) 1000 && smalls l
@@ -166,11 +160,6 @@ size-start r = le-of-eq (ap sizeR (decode-row r))
 
 pub size-step : (r i k : ℕ) → k ≡ getD (codes r) i 0 → (k ≡ 0 → ⊥) → sizeR (decode (drop i (codes r))) ≡ sizeS (sortAt k) + sizeR (decode (drop (i + 1) (codes r))) + 2
 size-step r i k e z = ap sizeR (decode-go (codes r) i (λ y. z (e ∙ y)) ∙ ap (λ (x : ℕ). sortAt x & decode (drop (i + 1) (codes r))) (sym e)) ∙ size-cons _ _
-
-pub size-choice : (first count r i : ℕ) → r + count ≤ 93 → i < count → sizeR (rowOf (r + i)) < sizeS (chain first (take count (drop r allRows)))
-size-choice first count r i b h =
-    subst (λ (ss : Sorts). sizeR ss < sizeS (chain first (take count (drop r allRows)))) (sym (row-chain r count i h))
-    (size-chain first (take count (drop r allRows)) i (subst (λ (x : ℕ). i < x) (sym (length-chain r count b)) h))
 
 -- ---- fields
 
@@ -361,10 +350,6 @@ module _ (ws ns : List ℕ) (n : ℕ) (sub : ℕ → Got Expr) (subS : ℕ → G
   abbrev typeRows : List Sorts
   typeRows = nil ∷ nil ∷ nil ∷ nil ∷ (whole & nil) ∷ (named & nil) ∷ []
 
-  type-chain : chain 40 typeRows ≡ TypeRef
-  unfolding chain
-  type-chain = refl
-
   plain-row : (j : ℕ) → j < 4 → getD typeRows j nil ≡ nil
   plain-row zero h = refl
   plain-row (suc zero) h = refl
@@ -419,21 +404,6 @@ module _ (ws ns : List ℕ) (n : ℕ) (sub : ℕ → Got Expr) (subS : ℕ → G
       let e : getD ws at 0 ≡ wordOf (first + j) 0 = omega arith in
       chain-yes first (take count (drop r allRows)) j at h (subst (λ (x : ℕ). j < x) (sym (length-chain r count b)) i) e
       (subst (λ (ss : Sorts). a ≡ stepOf (rowAt ws ns n sub subS ss (at + 1))) (row-chain r count j i) q)
-
-  -- a row by its numbers
-  pub row-is : (r m : ℕ) → stepOf (rowAt ws ns n sub subS (rowOf r) m) ≡ stepOf (rowAt ws ns n sub subS (decode (drop 0 (codes r))) m)
-  row-is r m = ap (λ (ss : Sorts). stepOf (rowAt ws ns n sub subS ss m)) (sym (decode-row r))
-
-  pub row-stop : (r i k : ℕ) (c : Cursor) → k ≡ getD (codes r) i 0 → k ≡ 0 → stepOf (rowAt ws ns n sub subS (decode (drop i (codes r))) (c .at)) ≡ Read c
-  row-stop r i k c e z = ap (λ (ss : Sorts). stepOf (rowAt ws ns n sub subS ss (c .at))) (decode-stop (codes r) i (sym e ∙ z)) ∙ row-none c
-
-  pub row-over : (r i : ℕ) (c : Cursor) → 6 ≤ i → stepOf (rowAt ws ns n sub subS (decode (drop i (codes r))) (c .at)) ≡ Read c
-  row-over r i c h = ap (λ (ss : Sorts). stepOf (rowAt ws ns n sub subS ss (c .at))) (decode-over r i h) ∙ row-none c
-
-  pub row-step : (r i k m : ℕ) → k ≡ getD (codes r) i 0 → (k ≡ 0 → ⊥) → stepOf (rowAt ws ns n sub subS (decode (drop i (codes r))) m) ≡ then (stepOf (fieldAt ws ns n sub subS (sortAt k) m)) (λ m′. stepOf (rowAt ws ns n sub subS (decode (drop (i + 1) (codes r))) m′))
-  row-step r i k m e z =
-      ap (λ (ss : Sorts). stepOf (rowAt ws ns n sub subS ss m)) (decode-go (codes r) i (λ y. z (e ∙ y)) ∙ ap (λ (x : ℕ). sortAt x & decode (drop (i + 1) (codes r))) (sym e))
-      ∙ row-more (sortAt k) (decode (drop (i + 1) (codes r))) m
 
 -- a statement: its head, then its row
 module _ (ws : List ℕ) (at : ℕ) where

@@ -20,7 +20,7 @@ unfoldable pub Past : ℕ → ℕ → Type 0
 Past zero k = Unit
 Past (suc n) k = Past n k × (OneOf (n ∷ []) k → ⊥)
 
-beyond : (n k : ℕ) → Past n k → n ≤ k
+pub beyond : (n k : ℕ) → Past n k → n ≤ k
 unfolding Past
 beyond zero k p = omega arith
 beyond (suc n) k p = past n k (beyond n k (p .0)) (p .1)

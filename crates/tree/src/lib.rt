@@ -339,22 +339,6 @@ fn nowhere(c: Cursor, words: &[u32]) -> Step
     Step::Wrong(at)
 }
 
-// a field that is one plain word
-fn plain(c: Cursor, words: &[u32], names: &[u8], n: u32, left: usize, sort: u8) -> Step
-    ensures { λ r. ⌜ (0 < sort → sort < 9 → r ≡ stepOf (fieldAt (now (words .entry)) (now (names .entry)) n (exprAt (now (words .entry)) (strings (now (names .entry)) n) left) (stmtAt (now (words .entry)) (now (names .entry)) n left) (sortAt sort) (c .at))) ⌝ }
-{
-    match sort {
-        1 => name(c, words, names),
-        2 => mark(c, words, 2, 0, n),
-        3 => mark(c, words, 3, 0, 2),
-        4 => mark(c, words, 4, 0, 16777216),
-        5 => mark(c, words, 7, 65, 91),
-        6 => mark(c, words, 9, 0, 4),
-        7 => mark(c, words, 9, 0, 5),
-        _ => mark(c, words, 9, 0, 18),
-    }
-}
-
 // a type: one of the plain heads, a fixed string with its length, or a record with its name
 fn type_ref(c: Cursor, words: &[u32], names: &[u8], n: u32, left: usize) -> Step
     ensures { λ r. ⌜ r ≡ stepOf (fieldAt (now (words .entry)) (now (names .entry)) n (exprAt (now (words .entry)) (strings (now (names .entry)) n) left) (stmtAt (now (words .entry)) (now (names .entry)) n left) TypeRef (c .at)) ⌝ }
@@ -558,7 +542,14 @@ fn look(c: Cursor, words: &[u32], names: &[u8], n: u32, left: usize, sort: u8) -
 {
     match sort {
         0 => told(nowhere(c, words)),
-        1..=8 => told(plain(c, words, names, n, left, sort)),
+        1 => told(name(c, words, names)),
+        2 => told(mark(c, words, 2, 0, n)),
+        3 => told(mark(c, words, 3, 0, 2)),
+        4 => told(mark(c, words, 4, 0, 16777216)),
+        5 => told(mark(c, words, 7, 65, 91)),
+        6 => told(mark(c, words, 9, 0, 4)),
+        7 => told(mark(c, words, 9, 0, 5)),
+        8 => told(mark(c, words, 9, 0, 18)),
         9 => expression(c, words, names, n, left),
         10 => statement(c, words, left),
         11 => choice(c, words, left, 48, 2, 22),

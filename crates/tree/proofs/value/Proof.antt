@@ -49,7 +49,7 @@ returns-6 : tie.Need-returns-6
 returns-6 c = λ at h. field-body _ _ _ _ _ _ (c .match .keys6) h (c .before .before .before .pre .2)
 
 returns-7 : tie.Need-returns-7
-returns-7 c = 
+returns-7 c =
     let r = c .match .rest in
     let k : ℕ = c .before .before .before .args .k in
     let a19 : 19 ≤ k = past 18 k (past 17 k (past 16 k (c .before .before .before .pre .0) (r .0 .0 .0 .0 .0 .1)) (r .0 .0 .0 .0 .1)) (λ e. r .0 .0 .0 .1 (inl e)) in

@@ -1,14 +1,14 @@
 -- What resolving does to what a scan has still to come: to an expression part by part, to a call of no procedure, to a tree. Assumes nothing.
 use Prim.Native.Nat.{ℕ}
-use mathlib.Core.Path.{_≡_, refl, sym, ap, ap₂, _∙_, fun-ext}
+use mathlib.Core.Path.{_≡_, refl, ap, ap₂, fun-ext}
 use mathlib.Core.Bool.{false}
 use mathlib.Core.List.{List, _∷_, _++_}
 use Rattle.words.specs.Word.{wordOf}
-use Rattle.expr.specs.Expr.{Expr, Paren, Exprs, none, more, words, wordsAll}
+use Rattle.expr.specs.Expr.{Expr, Exprs, none, more, words, wordsAll}
 use Rattle.tree.specs.Tree.{Shape, Tree, word, value, Stmt, list, part, this, that, done, cons, none as nothing, more as add, wordsT}
 use Rattle.plans.specs.Pieces.{written}
 use Rattle.plans.specs.Items.{eachE, Parted}
-use Rattle.resolve.specs.Tables.{Tables, Places, nowhere, places, after}
+use Rattle.resolve.specs.Tables.{Tables, nowhere, places, after}
 use Rattle.resolve.specs.Resolve.{resolveExpr, resolveArgs, resolveTree}
 use Rattle.resolve.specs.Flags.{passed-false}
 use Rattle.resolve.specs.Keeps.{count-tree}
@@ -37,11 +37,6 @@ module _ (T : Tables) (σ : ℕ) where
     of-binary = λ o e f. refl;
     of-field = λ e x. refl;
   }
-
-  -- only grouping
-  pub paren-is : (e : Expr) → words (resolveExpr T σ (Paren e)) ≡ words (resolveExpr T σ e)
-  unfolding resolveExpr
-  paren-is e = refl
 
   pub tree-is : {i : Shape} (v : Tree Expr i) → wordsT (resolveTree T σ nowhere v) ≡ written (resolved T σ) v
   unfolding written resolveTree wordsT nowhere after

@@ -2,7 +2,7 @@
 use Prim.Native.Nat.{ℕ, _+_, _≤_, _<_}
 use native.Mathlib.Nat.{add-zero}
 use native.Mathlib.Omega.{arith}
-use mathlib.Core.Path.{_≡_, refl, sym, ap, subst, _∙_}
+use mathlib.Core.Path.{_≡_, refl, sym, ap, _∙_}
 use mathlib.Core.List.{List, [], _∷_, _++_, append-nil, append-assoc}
 use lib.ListN.{length, getD, set, length-append}
 use lib.Seq.{sets}
@@ -14,12 +14,12 @@ use Rattle.expr.specs.Answer.{stepOf}
 use Rattle.expr.specs.declared.Cursor.{Cursor}
 use Rattle.expr.specs.declared.Step.{Step}
 use Rattle.expr.specs.declared.Step.the-variants.{Read, Wrong, Deep}
-use Rattle.tree.specs.Sorts.{stmt, body, sorts}
+use Rattle.tree.specs.Sorts.{stmt, sorts}
 use Rattle.tree.specs.Tree.{one, row, Tree, Stmt, depthT, wordsT}
-use Rattle.tree.specs.Stands.{Stands, SomeTree}
+use Rattle.tree.specs.Stands.{SomeTree}
 use Rattle.tree.specs.Reader.{fieldAt, stmtAt}
 use Rattle.tree.proofs.Complete.{completes, one-tree, clear}
-use Rattle.plans.specs.Pieces.{stmtPiece, written}
+use Rattle.plans.specs.Pieces.{written}
 use Rattle.plans.specs.Plans.{InsideAt}
 use Rattle.plans.specs.Items.{Item, treeItem, StandsAll, quietI, writtenI, writtenIs}
 use Rattle.plans.proofs.Front.{StmtAt, at-stmt, at-end, items-tree, items-inside, quiet-kind, quiet-body}
@@ -27,7 +27,7 @@ use Rattle.plans.proofs.Walk.{fields}
 use Rattle.table.specs.Rows.{Row, Holds}
 use Rattle.resolve.specs.Tables.{Tables, nowhere}
 use Rattle.resolve.specs.FromRows.{tablesOf}
-use Rattle.resolve.specs.Resolve.{Program, resolveTree, resolveArrayAccesses, first, inside}
+use Rattle.resolve.specs.Resolve.{resolveTree, resolveArrayAccesses, first, inside}
 use Rattle.resolve.specs.Keeps.{shorter-tree}
 use Rattle.resolver.specs.Post.{Put}
 use Rattle.resolver.proofs.Writing.{sets-append}

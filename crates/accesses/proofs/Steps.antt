@@ -4,35 +4,33 @@ use native.Mathlib.Nat.{add-zero}
 use native.Mathlib.Numerals.{add-one}
 use native.Mathlib.Omega.{arith}
 use mathlib.Core.Path.{_≡_, refl, sym, ap, ap₂, subst, _∙_}
-use mathlib.Core.Bool.{Bool, true, false}
-use mathlib.Core.List.{List, [], _∷_, _++_, append-nil, append-assoc}
-use lib.ListN.{length, take, drop, getD, set, length-append, length-drop}
+use mathlib.Core.Bool.{Bool, false}
+use mathlib.Core.List.{List, [], _∷_, _++_}
+use lib.ListN.{length, take, drop, getD, set, length-drop}
 use lib.Seq.{sets, drop-cons, length-take-le}
 use Rattle.words.specs.Word.{wordOf, kindOf, payOf, pick}
 use Rattle.words.specs.Sizes.{maxDepth}
-use Rattle.expr.specs.Expr.{Expr, Call, Paren, Exprs, many, words, wordsAll}
+use Rattle.expr.specs.Expr.{Expr, Call, Exprs, many, words, wordsAll}
 use Rattle.expr.specs.Stands as E
-use Rattle.expr.proofs.Parts.{wrote-first, wrote-cat, pay-is}
-use Rattle.tree.specs.Sorts.{Kind, sorts, numberOf}
-use Rattle.tree.specs.Tree.{strings, row, Tree, Stmt, depthT, wordsT}
-use Rattle.tree.specs.Stands.{Stands, SomeTree}
-use Rattle.plans.specs.Pieces.{written}
-use Rattle.plans.specs.Plans.{InsideAt}
-use Rattle.plans.specs.Items.{Item, exprItem, exprsItem, treeItem, StandsAll, quietI, wordsI, wordsIs, RightI, RightIs, writtenI, writtenIs, eachE}
-use Rattle.plans.proofs.Front.{WordsAt, ParenAt, CallAt, StmtAt, FrontAt, overAt, wordAt, rawAt, rawsAt, parenAt, callAt, stmtAt, front-at, at-raw, at-raws, at-paren, at-call, at-stmt, at-end, items-tree, items-inside, quiet-kind}
+use Rattle.expr.proofs.Parts.{wrote-cat, pay-is}
+use Rattle.tree.specs.Sorts.{numberOf}
+use Rattle.tree.specs.Tree.{strings, wordsT}
+use Rattle.plans.specs.Pieces.{stmtPiece, written}
+use Rattle.plans.specs.Items.{Item, exprItem, exprsItem, treeItem, StandsAll, wordsI, wordsIs, RightI, RightIs, writtenI, writtenIs}
+use Rattle.plans.proofs.Front.{WordsAt, CallAt, StmtAt, FrontAt, overAt, wordAt, rawAt, rawsAt, parenAt, callAt, stmtAt, front-at, at-raw, at-raws, at-paren, at-call, at-stmt, items-inside}
 use Rattle.plans.proofs.Walk.{head-kind, fields}
 use Rattle.table.specs.Rows.{Row, Holds}
 use Rattle.entries.specs.Entries.{has}
 use Rattle.resolve.specs.Tables.{Tables, nowhere, places, element}
 use Rattle.resolve.specs.FromRows.{tablesOf}
 use Rattle.resolve.specs.Resolve.{resolveExpr, resolveArgs, resolveTree, first, inside}
-use Rattle.resolve.specs.Keeps.{shorter, shorter-args, shorter-tree}
+use Rattle.resolve.specs.Keeps.{shorter, shorter-args}
 use Rattle.resolver.specs.Post.{Room, Ready, ReadyAll, Put, Resolved, ResolvedArgs}
 use Rattle.resolver.proofs.Nodes as N
-use Rattle.resolver.proofs.Writing.{sets-append, call-words}
-use Rattle.accesses.specs.Post.{resolved, Moved, ReadyToken, DoneToken, ReadyScan, DoneScan, PastStmt}
-use Rattle.accesses.proofs.Resolved.{no-places, each-args, parted, paren-is, tree-is}
-use Rattle.accesses.proofs.Statements.{stmt-words, view-inside, InCall, in-call, inside-other}
+use Rattle.resolver.proofs.Writing.{sets-append, call-words, pair-words}
+use Rattle.accesses.specs.Post.{resolved, Moved, ReadyToken, DoneToken}
+use Rattle.accesses.proofs.Resolved.{no-places, each-args, parted, tree-is}
+use Rattle.accesses.proofs.Statements.{stmt-words, in-call, inside-other}
 
 -- ---- places
 
@@ -70,10 +68,6 @@ module _ {ns ws : List ℕ} {xs : List Item} {at end c : ℕ} (W : WordsAt ws ns
       record { left = W .rest; there = rw p (W .there); wrote = take c (drop at ws); upto = omega arith; short = omega arith; is = e; rest = W .writes (resolved T σ) (parted T σ) }
 
 -- c words there, and room for them
-record Taking (ws : List ℕ) (at to size c : ℕ) : Type 0 where
-  inside : at + c ≤ length ws
-  room : to + c ≤ size
-
 taking : {ns ws buf : List ℕ} {count scope at to size c : ℕ} (r : ReadyToken ns ws buf count scope at to size) → WordsAt ws ns (length ns) maxDepth at (r .items) (r .end) c → (at + c ≤ length ws) × (to + c ≤ size)
 taking {ws = ws} {at = at} {c = c} r W =
     let h : at + c ≤ length ws = words-inside W in
@@ -108,16 +102,18 @@ unfolding writtenI writtenIs
 paren-done {scope = scope} {at} {to} h = record {
   gives = λ rs H xs end s z.
       let P = at-paren s z h in
-      let T : Tables = tablesOf rs in
-      (record {
-        left = exprItem (P .inner) ∷ P .rest;
-        there = P .there;
-        wrote = [];
-        upto = sym (add-zero to);
-        short = omega arith;
-        is = refl;
-        rest = P .writes (resolved T scope) (parted T scope) ∙ ap (λ (l : List ℕ). l ++ writtenIs (resolved T scope) (P .rest)) (paren-is T scope (P .inner));
-      }, omega arith);
+      let T : Tables = tablesOf rs in (
+        record {
+          left = exprItem (P .inner) ∷ P .rest;
+          there = P .there;
+          wrote = [];
+          upto = sym (add-zero to);
+          short = omega arith;
+          is = refl;
+          rest = P .writes (resolved T scope) (parted T scope) ∙ ap (λ (l : List ℕ). l ++ writtenIs (resolved T scope) (P .rest)) (pair-words T scope (P .inner));
+        },
+        omega arith,
+      );
 }
 
 -- ---- a plain word, a statement's head among them
@@ -136,6 +132,7 @@ is-plain k a b c d e f g h i = record { no-call = a; no-raw = λ x y. five x y (
   where
     five : 23 ≤ k → k < 28 → 28 ≤ k → ⊥
     five x y z = omega (arith, y, z)
+
     three : 84 ≤ k → k < 87 → 87 ≤ k → ⊥
     three x y z = omega (arith, y, z)
 
@@ -148,10 +145,10 @@ stmt-moved {ws = ws} {xs} {at} S p T σ {to} out =
     let a : numberOf (S .kind) ≡ 20 → ⊥ = λ q. p (omega arith) (omega arith) in
     let b : numberOf (S .kind) ≡ 21 → ⊥ = λ q. p (omega arith) (omega arith) in
     let g = resolved T σ in
-    let is : g (Rattle.plans.specs.Pieces.stmtPiece (S .kind) (S .line) (S .fields)) ≡ getD ws at 0 ∷ written g (S .fields) =
-        stmt-words s (λ q. p (omega arith) (omega arith)) T σ
-        ∙ ap (λ (i : ℕ). getD ws at 0 ∷ wordsT (resolveTree T i nowhere (S .fields))) (inside-other σ (S .kind) (first (S .fields)) a b)
-        ∙ ap (λ (l : List ℕ). getD ws at 0 ∷ l) (tree-is T σ (S .fields)) in
+    let is : g (stmtPiece (S .kind) (S .line) (S .fields)) ≡ getD ws at 0 ∷ written g (S .fields) =
+    stmt-words s (λ q. p (omega arith) (omega arith)) T σ
+    ∙ ap (λ (i : ℕ). getD ws at 0 ∷ wordsT (resolveTree T i nowhere (S .fields))) (inside-other σ (S .kind) (first (S .fields)) a b)
+    ∙ ap (λ (l : List ℕ). getD ws at 0 ∷ l) (tree-is T σ (S .fields)) in
     record {
       left = treeItem (S .fields) ∷ S .rest;
       there = S .there;

@@ -68,13 +68,7 @@ fn call(
     if lookup::has(rows, count, 135, f, 0) {
         return resolver::resolve_expr(words, rows, count, scope, out, at, to);
     }
-    three(
-        words,
-        out,
-        at,
-        to,
-        resolver::head(rows, count, scope, f),
-    )
+    three(words, out, at, to, resolver::head(rows, count, scope, f))
 }
 
 // A CALL, in the same way: it never turns into an element.
@@ -117,17 +111,7 @@ fn procedure(
     out[to] = words[at];
     let end = past(words, names, at);
     let inner = plans::inside(words, at, scope);
-    let t = scan(
-        words,
-        names,
-        rows,
-        count,
-        inner,
-        out,
-        at + 1,
-        end,
-        to + 1,
-    );
+    let t = scan(words, names, rows, count, inner, out, at + 1, end, to + 1);
     Spot { at: end, to: t }
 }
 

@@ -17,7 +17,7 @@ pub struct Spot {
 }
 
 // Copies n words.
-pub fn copy(words: &[u32], out: &mut [u32], at: usize, to: usize, n: usize)
+fn copy(words: &[u32], out: &mut [u32], at: usize, to: usize, n: usize)
     requires { ⌜ (at + n ≤ length (now words)) × (to + n ≤ length (now out)) ⌝ }
     ensures { λ _. ⌜ now (out .exit) ≡ sets (now (out .entry)) to (take n (drop at (now (words .entry)))) ⌝ }
 {

@@ -1,9 +1,8 @@
 -- The cycle of `procedure`, `scan` and `token`: each cites the laws of `Steps` and `Scanning`. The measure is three times the words left from the
 -- reading place, one more for a token and two more for a scan. Assumes nothing.
 use Prim.Native.Nat.{ℕ, _+_, _-_, _*_, _<_}
-use mathlib.Core.Path.{_≡_, refl, sym, ap, _∙_}
+use mathlib.Core.Path.{_≡_, refl, _∙_}
 use native.Mathlib.Omega.{arith}
-use borrow.Author.Needs.{needs}
 use lib.ListN.{length, length-set}
 use Rattle.accesses.proofs.Steps.{token-inside, raw-room, raws-room, raw-done, raws-done, paren-done, is-plain, plain-done}
 use Rattle.accesses.proofs.Scanning.{some-stmt, ready-inner, procedure-done, Scanned, scan-start, scan-from, scan-next, scan-less, scan-step, scan-done}

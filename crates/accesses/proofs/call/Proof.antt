@@ -7,12 +7,6 @@ use Rattle.accesses.proofs.Steps.{call-room, ready-call, not-procedure,
 use borrow.Author.Needs.{needs}
 use Rattle.accesses.proofs.call.Statement.{statement}
 use Rattle.accesses.proofs.call.Tie as tie
-use Rattle.accesses.proofs.call.Reads as reads
-use Rattle.accesses.proofs.call.Lts as lts
-use Rattle.accesses.proofs.three.Reads as three-reads
-use Rattle.lookup.proofs.has.Reads as has-reads
-use Rattle.resolver.proofs.head.Reads as head-reads
-use Rattle.resolver.proofs.resolve_expr.Reads as resolve-expr-reads
 
 add-f : tie.Need-add-f
 add-f c = search needs

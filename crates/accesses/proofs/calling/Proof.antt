@@ -7,11 +7,6 @@ use Rattle.accesses.proofs.Steps.{calling-room, ready-args, not-procedu
 use borrow.Author.Needs.{needs}
 use Rattle.accesses.proofs.calling.Statement.{statement}
 use Rattle.accesses.proofs.calling.Tie as tie
-use Rattle.accesses.proofs.calling.Reads as reads
-use Rattle.accesses.proofs.calling.Lts as lts
-use Rattle.accesses.proofs.three.Reads as three-reads
-use Rattle.lookup.proofs.has.Reads as has-reads
-use Rattle.resolver.proofs.resolve_args.Reads as resolve-args-reads
 
 add-f : tie.Need-add-f
 add-f c = search needs

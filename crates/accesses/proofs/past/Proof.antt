@@ -3,9 +3,6 @@ use Rattle.accesses.proofs.Scanning.{past-read, past-wrong, past-deep}
 use borrow.Author.Needs.{needs}
 use Rattle.accesses.proofs.past.Statement.{statement}
 use Rattle.accesses.proofs.past.Tie as tie
-use Rattle.accesses.proofs.past.Reads as reads
-use Rattle.accesses.proofs.past.Lts as lts
-use Rattle.tree.proofs.stmt.Reads as stmt-reads
 
 cast-n : tie.Need-cast-n
 cast-n c = search needs

@@ -3,9 +3,6 @@ use Rattle.accesses.proofs.Scanning.{ready-scan, program-done}
 use borrow.Author.Needs.{needs}
 use Rattle.accesses.proofs.resolve_array_accesses.Statement.{statement}
 use Rattle.accesses.proofs.resolve_array_accesses.Tie as tie
-use Rattle.accesses.proofs.resolve_array_accesses.Reads as reads
-use Rattle.accesses.proofs.resolve_array_accesses.Lts as lts
-use Rattle.accesses.proofs.scan.Reads as scan-reads
 
 scan-requires : tie.Need-scan-requires
 scan-requires c κs = ready-scan (c .before .before .before .before .before .pre)

@@ -1,13 +1,11 @@
 -- `two` makes two stores. Assumes nothing.
-use mathlib.Core.Path.{_≡_, refl}
+use mathlib.Core.Path.{refl}
 use native.Mathlib.Numerals.{add-one}
 use native.Mathlib.Omega.{arith}
 use lib.ListN.{length-set}
 use borrow.Author.Needs.{needs}
 use Rattle.accesses.proofs.two.Statement.{statement}
 use Rattle.accesses.proofs.two.Tie as tie
-use Rattle.accesses.proofs.two.Reads as reads
-use Rattle.accesses.proofs.two.Lts as lts
 
 mul-out : tie.Need-mul-out
 mul-out c = search needs

@@ -3,9 +3,12 @@ use reader::Accepted;
 use steps::Counts;
 use strings::Verdict;
 use words::Refusal;
+ghost use mathlib.Core.Path.{_≡_};
+ghost use mathlib.Core.Bool.{true};
 ghost use Prim.Native.Nat.{_≤_};
 ghost use lib.ListN.{length};
 ghost use Rattle.words.specs.Sizes.{maxStrings};
+ghost use Rattle.strings.specs.Table.{sound};
 ghost use Rattle.collect.specs.Code.{Named};
 ghost use Rattle.collect.specs.Passed.{Passed};
 ghost use Rattle.analyse.specs.Analyse.{Tells, Analyses, work};
@@ -94,6 +97,32 @@ fn checked(
     }
 }
 
+// Room for the marks of all strings that a table may have.
+fn room() -> [u8; 1024]
+    ensures { λ r. ⌜ length r ≡ 1024 ⌝ }
+{
+    [0u8; 1024]
+}
+
+// Where the strings are sound: their marks, in an array of its own, which nothing copies; and then the checks of the tree.
+fn marked(
+    words: &[u32],
+    bytes: &[u8],
+    ends: &[u32],
+    erased: &[u32],
+    notes: &mut [u32],
+    rows: &mut [u32],
+    out: &mut [u32],
+) -> Answer
+    requires { ⌜ (sound (now bytes) (now ends) ≡ true) × (length (now ends) ≤ maxStrings) ⌝ }
+    ensures { λ r. ⌜ Tells r (now (notes .entry)) (now (rows .entry)) (now (out .entry)) (now (notes .exit)) (now (rows .exit)) (now (out .exit)) (work (length (now (rows .entry))) (length (now (notes .entry))) (length (now (out .entry))) (now (bytes .entry)) (now (ends .entry)) (now (erased .entry)) (now (words .entry))) ⌝ }
+{
+    let n = ends.len();
+    let mut names = room();
+    strings::mark_names(bytes, ends, &mut names[..n]);
+    checked(words, &names[..n], bytes, ends, erased, notes, rows, out)
+}
+
 // A refusal leaves the buffers as they came, but for 7, 8 and 9, which leave rows and diagnostics zero.
 pub fn analyse(
     bytes: &[u8],
@@ -113,7 +142,5 @@ pub fn analyse(
     if let Verdict::Breaks(p) = v {
         return Answer::Refused(Refusal::Strings(p));
     }
-    let names = strings::names_of(bytes, ends);
-    let n = ends.len();
-    checked(words, &names[..n], bytes, ends, erased, notes, rows, out)
+    marked(words, bytes, ends, erased, notes, rows, out)
 }

@@ -128,16 +128,16 @@ pub no-image : {b c : List ℕ} {i j : ℕ} (l : List ℕ) → decode l ≡ none
 unfolding listing listed
 no-image l e p = rw e p
 
-pub image-text : {b c : List ℕ} {i j s w x k : ℕ} (l : List ℕ) → Shaped l s w x k → (bytes ends words erased : List ℕ)
+pub image-text : {s w x k : ℕ} (l : List ℕ) → Shaped l s w x k → (bytes ends words erased : List ℕ)
     → bytes ≡ take k (drop (12 + 4 * s + 4 * w + 4 * x) l) → ends ≡ wordsAt l 12 s → words ≡ wordsAt l (12 + 4 * s) w → erased ≡ wordsAt l (12 + 4 * s + 4 * w) x
-    → Wrote (programText bytes ends erased words) b c i j → Wrote (listing l) b c i j
+    → programText bytes ends erased words ≡ listing l
 unfolding programText listing listed analysed parts treeFrom erasedFrom bytesFrom
-image-text l h bytes ends words erased e₁ e₂ e₃ e₄ p =
+image-text l h bytes ends words erased e₁ e₂ e₃ e₄ =
     let f₁ : bytes ≡ parts l .bytes = e₁ ∙ rw (h .strings-are, h .words-are, h .erased-are, h .bytes-are) in
     let f₂ : ends ≡ parts l .ends = e₂ ∙ rw (h .strings-are) in
     let f₃ : words ≡ parts l .words = e₃ ∙ rw (h .strings-are, h .words-are) in
     let f₄ : erased ≡ parts l .erased = e₄ ∙ rw (h .strings-are, h .words-are, h .erased-are) in
-    rw (h .is) (rw (f₁, f₂, f₃, f₄) at p)
+    rw (h .is, f₁, f₂, f₃, f₄) refl
 
 -- a part of a slice, from its start and its size
 pub from-to : (l : List ℕ) (from size : ℕ) → take (from + size - from) (drop from l) ≡ take size (drop from l)

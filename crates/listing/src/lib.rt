@@ -70,27 +70,8 @@ fn too_short(a: Answer) -> bool
     }
 }
 
-// The text of what the passes give, with the room that is promised.
-fn put_full(
-    out: &mut [u8],
-    bytes: &[u8],
-    ends: &[u32],
-    words: &[u32],
-    erased: &[u32],
-    resolved: &mut [u32],
-) -> usize
-    requires { ⌜ length (now words) ≤ length (now resolved) ⌝ }
-    ensures { λ r. ⌜ Wrote (programText (now (bytes .entry)) (now (ends .entry)) (now (erased .entry)) (now (words .entry))) (now (out .entry)) (now (out .exit)) 0 r ⌝ }
-{
-    let mut notes = [0u32; 12288];
-    let mut rows = [0u32; 12288];
-    let a = analyse(bytes, ends, words, erased, &mut notes, &mut rows, resolved);
-    put_answer(out, bytes, ends, &notes, &rows, resolved, a)
-}
-
-// The same, by a first run in shorter buffers: to clear all the room costs more than a small program does. Where they are too short the run begins again
-// with all of it, and at once where many names or words make many rows likely.
-fn put_first(
+// The text of what the passes give, with the rows and diagnostics that are promised.
+fn put_all(
     out: &mut [u8],
     bytes: &[u8],
     ends: &[u32],
@@ -100,18 +81,63 @@ fn put_first(
     rows: &mut [u32],
     resolved: &mut [u32],
 ) -> usize
-    requires { ⌜ (length (now words) ≤ length (now resolved)) × (length (now rows) ≤ 2048 * width) × (length (now notes) ≤ 2048 * noteWidth) ⌝ }
+    requires { ⌜ (length (now words) ≤ length (now resolved)) × (length (now rows) ≡ 2048 * width) × (length (now notes) ≡ 2048 * noteWidth) ⌝ }
     ensures { λ r. ⌜ Wrote (programText (now (bytes .entry)) (now (ends .entry)) (now (erased .entry)) (now (words .entry))) (now (out .entry)) (now (out .exit)) 0 r ⌝ }
 {
-    if 64 < ends.len() {
-        return put_full(out, bytes, ends, words, erased, resolved);
-    }
-    if 2048 < words.len() {
-        return put_full(out, bytes, ends, words, erased, resolved);
-    }
+    let a = analyse(bytes, ends, words, erased, notes, rows, resolved);
+    put_answer(out, bytes, ends, notes, rows, resolved, a)
+}
+
+// In all the room. It reads the image itself and so stays a function of its own: the stack of one that calls it is touched only as far as that one needs.
+fn put_full(out: &mut [u8], image: &[u8], s: Shape) -> usize
+    requires { ⌜ Shaped (now image) (s .strings) (s .words) (s .erased) (s .bytes) ⌝ }
+    ensures { λ r. ⌜ Wrote (listingOf (now (image .entry))) (now (out .entry)) (now (out .exit)) 0 r ⌝ }
+{
+    let mut ends = [0u32; 1024];
+    let mut words = [0u32; 8192];
+    let mut erased = [0u32; 1024];
+    let mut notes = [0u32; 12288];
+    let mut rows = [0u32; 12288];
+    let mut resolved = [0u32; 8192];
+    let tree_from = 12 + 4 * s.strings;
+    let erased_from = tree_from + 4 * s.words;
+    let from = erased_from + 4 * s.erased;
+    let to = from + s.bytes;
+    read_words(image, 12, s.strings, &mut ends);
+    read_words(image, tree_from, s.words, &mut words);
+    read_words(image, erased_from, s.erased, &mut erased);
+    put_all(
+        out,
+        &image[from..to],
+        &ends[..s.strings],
+        &words[..s.words],
+        &erased[..s.erased],
+        &mut notes,
+        &mut rows,
+        &mut resolved,
+    )
+}
+
+// The text of an image's parts by a first run in shorter buffers: to clear all the room costs more than a small program does. Where they are too short
+// the run begins again with all of it.
+fn put_first(
+    out: &mut [u8],
+    image: &[u8],
+    s: Shape,
+    bytes: &[u8],
+    ends: &[u32],
+    words: &[u32],
+    erased: &[u32],
+    notes: &mut [u32],
+    rows: &mut [u32],
+    resolved: &mut [u32],
+) -> usize
+    requires { ⌜ Shaped (now image) (s .strings) (s .words) (s .erased) (s .bytes) × (programText (now bytes) (now ends) (now erased) (now words) ≡ listingOf (now image)) × (length (now words) ≤ length (now resolved)) × (length (now rows) ≤ 2048 * width) × (length (now notes) ≤ 2048 * noteWidth) ⌝ }
+    ensures { λ r. ⌜ Wrote (listingOf (now (image .entry))) (now (out .entry)) (now (out .exit)) 0 r ⌝ }
+{
     let a = analyse(bytes, ends, words, erased, notes, rows, resolved);
     if too_short(a) {
-        return put_full(out, bytes, ends, words, erased, resolved);
+        return put_full(out, image, s);
     }
     put_answer(out, bytes, ends, notes, rows, resolved, a)
 }
@@ -140,6 +166,8 @@ fn put_read(
     read_words(image, erased_from, s.erased, erased);
     put_first(
         out,
+        image,
+        s,
         &image[from..to],
         &ends[..s.strings],
         &words[..s.words],
@@ -150,35 +178,20 @@ fn put_read(
     )
 }
 
-// In 7,680 bytes of buffers; 64 rows and 64 diagnostics in the first run.
-fn put_small(out: &mut [u8], image: &[u8], s: Shape) -> usize
-    requires { ⌜ Shaped (now image) (s .strings) (s .words) (s .erased) (s .bytes) × (s .strings ≤ 64) × (s .words ≤ 512) × (s .erased ≤ 64) ⌝ }
-    ensures { λ r. ⌜ Wrote (listingOf (now (image .entry))) (now (out .entry)) (now (out .exit)) 0 r ⌝ }
-{
-    let mut ends = [0u32; 64];
-    let mut words = [0u32; 512];
-    let mut erased = [0u32; 64];
-    let mut notes = [0u32; 384];
-    let mut rows = [0u32; 384];
-    let mut resolved = [0u32; 512];
-    put_read(
-        out,
-        image,
-        s,
-        &mut ends,
-        &mut words,
-        &mut erased,
-        &mut notes,
-        &mut rows,
-        &mut resolved,
-    )
-}
-
-// In 29,184 bytes of buffers; 256 rows and 256 diagnostics.
+// In 29,184 bytes of buffers; 256 rows and 256 diagnostics. Many names or words make many rows likely, so that they get all the room at once.
 fn put_middle(out: &mut [u8], image: &[u8], s: Shape) -> usize
-    requires { ⌜ Shaped (now image) (s .strings) (s .words) (s .erased) (s .bytes) × (s .strings ≤ 64) × (s .words ≤ 2048) × (s .erased ≤ 64) ⌝ }
+    requires { ⌜ Shaped (now image) (s .strings) (s .words) (s .erased) (s .bytes) ⌝ }
     ensures { λ r. ⌜ Wrote (listingOf (now (image .entry))) (now (out .entry)) (now (out .exit)) 0 r ⌝ }
 {
+    if 2048 < s.words {
+        return put_full(out, image, s);
+    }
+    if 64 < s.strings {
+        return put_full(out, image, s);
+    }
+    if 64 < s.erased {
+        return put_full(out, image, s);
+    }
     let mut ends = [0u32; 64];
     let mut words = [0u32; 2048];
     let mut erased = [0u32; 64];
@@ -198,17 +211,26 @@ fn put_middle(out: &mut [u8], image: &[u8], s: Shape) -> usize
     )
 }
 
-// In 86,016 bytes of buffers, for every image.
-fn put_large(out: &mut [u8], image: &[u8], s: Shape) -> usize
+// In 7,680 bytes of buffers; 64 rows and 64 diagnostics in the first run.
+fn put_small(out: &mut [u8], image: &[u8], s: Shape) -> usize
     requires { ⌜ Shaped (now image) (s .strings) (s .words) (s .erased) (s .bytes) ⌝ }
     ensures { λ r. ⌜ Wrote (listingOf (now (image .entry))) (now (out .entry)) (now (out .exit)) 0 r ⌝ }
 {
-    let mut ends = [0u32; 1024];
-    let mut words = [0u32; 8192];
-    let mut erased = [0u32; 1024];
-    let mut notes = [0u32; 1536];
-    let mut rows = [0u32; 1536];
-    let mut resolved = [0u32; 8192];
+    if 512 < s.words {
+        return put_middle(out, image, s);
+    }
+    if 64 < s.strings {
+        return put_middle(out, image, s);
+    }
+    if 64 < s.erased {
+        return put_middle(out, image, s);
+    }
+    let mut ends = [0u32; 64];
+    let mut words = [0u32; 512];
+    let mut erased = [0u32; 64];
+    let mut notes = [0u32; 384];
+    let mut rows = [0u32; 384];
+    let mut resolved = [0u32; 512];
     put_read(
         out,
         image,
@@ -222,31 +244,44 @@ fn put_large(out: &mut [u8], image: &[u8], s: Shape) -> usize
     )
 }
 
-// By the sizes, the buffers.
-fn put_image(out: &mut [u8], image: &[u8], s: Shape) -> usize
+// In 2,368 bytes of buffers; 32 rows and 16 diagnostics.
+fn put_tiny(out: &mut [u8], image: &[u8], s: Shape) -> usize
     requires { ⌜ Shaped (now image) (s .strings) (s .words) (s .erased) (s .bytes) ⌝ }
     ensures { λ r. ⌜ Wrote (listingOf (now (image .entry))) (now (out .entry)) (now (out .exit)) 0 r ⌝ }
 {
-    if 64 < s.strings {
-        return put_large(out, image, s);
+    if 128 < s.words {
+        return put_small(out, image, s);
     }
-    if 64 < s.erased {
-        return put_large(out, image, s);
+    if 32 < s.strings {
+        return put_small(out, image, s);
     }
-    if 2048 < s.words {
-        return put_large(out, image, s);
+    if 16 < s.erased {
+        return put_small(out, image, s);
     }
-    if 512 < s.words {
-        return put_middle(out, image, s);
-    }
-    put_small(out, image, s)
+    let mut ends = [0u32; 32];
+    let mut words = [0u32; 128];
+    let mut erased = [0u32; 16];
+    let mut notes = [0u32; 96];
+    let mut rows = [0u32; 192];
+    let mut resolved = [0u32; 128];
+    put_read(
+        out,
+        image,
+        s,
+        &mut ends,
+        &mut words,
+        &mut erased,
+        &mut notes,
+        &mut rows,
+        &mut resolved,
+    )
 }
 
 fn put_listing(out: &mut [u8], image: &[u8]) -> usize
     ensures { λ r. ⌜ Wrote (listingOf (now (image .entry))) (now (out .entry)) (now (out .exit)) 0 r ⌝ }
 {
     match open(image) {
-        Opened::Whole(s) => put_image(out, image, s),
+        Opened::Whole(s) => put_tiny(out, image, s),
         Opened::Malformed => put_refusal(out, 5),
     }
 }

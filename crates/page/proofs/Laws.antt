@@ -1,10 +1,10 @@
 -- Texts in a row: what a loop has written after i turns, one turn more, and the whole.
-use Prim.Native.Nat.{ℕ, _+_, _*_, _<_}
+use Prim.Native.Nat.{ℕ, _+_, _*_, _≤_, _<_}
 use native.Mathlib.Numerals.{add-one}
 use native.Mathlib.Omega.{arith}
-use mathlib.Core.Path.{_≡_, sym, ap, _∙_}
+use mathlib.Core.Path.{_≡_, refl, sym, ap, _∙_}
 use mathlib.Core.List.{List, [], _∷_, _++_, append-assoc, append-nil, flatMap}
-use lib.ListN.{length, take, drop, getD, length-drop}
+use lib.ListN.{length, take, drop, getD, set, length-drop}
 use lib.Seq.{take-suc, getD-take, getD-drop, take-all}
 use Rattle.text.specs.Text.{ascii, hex8}
 use Rattle.text.specs.Wrote.{Wrote}
@@ -35,6 +35,24 @@ words-more ws from n h p q =
 pub whole-line : {a b c d : List ℕ} {i j k m : ℕ} {letter : ℕ} (ws : List ℕ) → Wrote (letter ∷ []) a b i j → Wrote (flatMap word ws) b c j k → Wrote (10 ∷ []) c d k m → Wrote (line letter ws) a d i m
 unfolding line ascii
 whole-line ws p q r = then p (then q r)
+
+-- one byte, where there is room for it or not
+pub stored : (b : List ℕ) (at v : ℕ) → Wrote (v ∷ []) b (set b at v) at (at + 1)
+stored b at v = record { now = refl; end = refl }
+
+-- a row's line, word by word
+pub whole-row : {a b c d e f g h m : List ℕ} {i j k₁ k₂ k₃ k₄ k₅ k₆ n : ℕ} (ws : List ℕ) (from : ℕ) → from + 6 ≤ length ws → Wrote (84 ∷ []) a b i j
+    → Wrote (32 ∷ hex8 (getD ws from 0)) b c j k₁ → Wrote (32 ∷ hex8 (getD ws (from + 1) 0)) c d k₁ k₂ → Wrote (32 ∷ hex8 (getD ws (from + 2) 0)) d e k₂ k₃
+    → Wrote (32 ∷ hex8 (getD ws (from + 3) 0)) e f k₃ k₄ → Wrote (32 ∷ hex8 (getD ws (from + 4) 0)) f g k₄ k₅ → Wrote (32 ∷ hex8 (getD ws (from + 5) 0)) g h k₅ k₆
+    → Wrote (10 ∷ []) h m k₆ n → Wrote (line 84 (take 6 (drop from ws))) a m i n
+whole-row ws from room p q₁ q₂ q₃ q₄ q₅ q₆ r =
+    let z : from ≡ from + 0 = omega arith in
+    let w₁ = words-more ws from 0 (omega arith) (words-none ws from) (same (ap (λ k. 32 ∷ hex8 (getD ws k 0)) z) q₁) in
+    let w₂ = words-more ws from 1 (omega arith) w₁ q₂ in
+    let w₃ = words-more ws from 2 (omega arith) w₂ q₃ in
+    let w₄ = words-more ws from 3 (omega arith) w₃ q₄ in
+    let w₅ = words-more ws from 4 (omega arith) w₄ q₅ in
+    whole-line (take 6 (drop from ws)) p (words-more ws from 5 (omega arith) w₅ q₆) r
 
 -- ---- rows
 

@@ -119,7 +119,40 @@ fn put_notes(
     next
 }
 
-fn put_rows(out: &mut [u8], at: usize, pairs: &[u8], rows: &[u32], n: usize) -> usize
+// A row's line where there is room for it, word by word: a loop over six words costs more.
+fn lay_row(out: &mut [u8], at: usize, pairs: &[u8], rows: &[u32], from: usize)
+    requires { ⌜ (at + 56 ≤ length (now out)) × (from + width ≤ length (now rows)) × (now pairs ≡ hexPairs 256) ⌝ }
+    ensures { λ _. ⌜ Wrote (line 84 (take width (drop from (now (rows .entry))))) (now (out .entry)) (now (out .exit)) at (at + 56) ⌝ }
+{
+    out[at] = b'T';
+    let first = at + 1;
+    lay_word(out, first, pairs, rows[from]);
+    let second = first + 9;
+    lay_word(out, second, pairs, rows[from + 1]);
+    let third = second + 9;
+    lay_word(out, third, pairs, rows[from + 2]);
+    let fourth = third + 9;
+    lay_word(out, fourth, pairs, rows[from + 3]);
+    let fifth = fourth + 9;
+    lay_word(out, fifth, pairs, rows[from + 4]);
+    let sixth = fifth + 9;
+    lay_word(out, sixth, pairs, rows[from + 5]);
+    out[sixth + 9] = b'\n';
+}
+
+fn lay_rows(out: &mut [u8], at: usize, pairs: &[u8], rows: &[u32], n: usize)
+    requires { ⌜ (at + 56 * n ≤ length (now out)) × (n * width ≤ length (now rows)) × (now pairs ≡ hexPairs 256) ⌝ }
+    ensures { λ _. ⌜ Wrote (flatMap (line 84) (chunks width n (now (rows .entry)))) (now (out .entry)) (now (out .exit)) at (at + 56 * n) ⌝ }
+{
+    let mut i = 0;
+    while i < n {
+        lay_row(out, at + 56 * i, pairs, rows, i * WIDTH);
+        i += 1;
+    }
+}
+
+// One by one, as much as fits.
+fn put_each_row(out: &mut [u8], at: usize, pairs: &[u8], rows: &[u32], n: usize) -> usize
     requires { ⌜ (n * width ≤ length (now rows)) × (now pairs ≡ hexPairs 256) ⌝ }
     ensures { λ r. ⌜ Wrote (flatMap (line 84) (chunks width n (now (rows .entry)))) (now (out .entry)) (now (out .exit)) at r ⌝ }
 {
@@ -130,6 +163,21 @@ fn put_rows(out: &mut [u8], at: usize, pairs: &[u8], rows: &[u32], n: usize) -> 
         i += 1;
     }
     next
+}
+
+// At once where there is room for all.
+fn put_rows(out: &mut [u8], at: usize, pairs: &[u8], rows: &[u32], n: usize) -> usize
+    requires { ⌜ (n * width ≤ length (now rows)) × (now pairs ≡ hexPairs 256) ⌝ }
+    ensures { λ r. ⌜ Wrote (flatMap (line 84) (chunks width n (now (rows .entry)))) (now (out .entry)) (now (out .exit)) at r ⌝ }
+{
+    if out.len() <= at {
+        return put_each_row(out, at, pairs, rows, n);
+    }
+    if (out.len() - at) / 56 < n {
+        return put_each_row(out, at, pairs, rows, n);
+    }
+    lay_rows(out, at, pairs, rows, n);
+    at + 56 * n
 }
 
 // How many diagnostics and rows stand in their buffers.

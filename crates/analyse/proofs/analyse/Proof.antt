@@ -1,10 +1,8 @@
 -- 5, then 1, and then the checks of the tree. Assumes nothing.
 use mathlib.Core.Path.{sym, _∙_, refl}
-use native.Mathlib.Omega.{arith}
 use borrow.Author.Tests.{not-true, not-false}
 use Rattle.strings.specs.OpenLaws.{said-sound, answers-size, answers-breaks, answers-inner}
-use Rattle.reader.proofs.Laws.{few-strings′, as-many, few-marks}
-use Rattle.collect.specs.PassedLaws.{marks-named}
+use Rattle.reader.proofs.Laws.{few-strings′}
 use Rattle.analyse.proofs.Laws.{entry-tells, size-tells, breaks-tells}
 use borrow.Author.Needs.{needs}
 use Rattle.analyse.proofs.analyse.Statement.{statement}
@@ -28,17 +26,8 @@ returns-2 c = entry-tells (answers-breaks (sym (c .before .before .before .befor
 enum-told : tie.Need-enum-told
 enum-told c = search needs
 
-names-of-requires : tie.Need-names-of-requires
-names-of-requires c κs = (said-sound (c .before .before .check .ensures) (c .enum-told .given .1), few-strings′ (c .before .before .before .before .before .before .before .before .before .before .before .before .args .bytes .now) (c .before .before .before .before .before .before .before .before .before .before .before .before .args .ends .now) (c .before .before .before .before .before .before .before .before .before .before .before .before .args .words .now) (c .before .before .before .before .before .before .before .before .before .before .before .before .args .erased .now) (sym (c .before .before .before .before .sized-program .ensures) ∙ not-false _ (c .before .before .before .if1 .left)))
-
-array-share-prefix-names : tie.Need-array-share-prefix-names
-array-share-prefix-names c = omega (arith, c .names-of .ensures .long, few-strings′ (c .before .before .before .before .before .before .before .before .before .before .before .before .before .args .bytes .now) (c .before .before .before .before .before .before .before .before .before .before .before .before .before .args .ends .now) (c .before .before .before .before .before .before .before .before .before .before .before .before .before .args .words .now) (c .before .before .before .before .before .before .before .before .before .before .before .before .before .args .erased .now) (sym (c .before .before .before .before .before .sized-program .ensures) ∙ not-false _ (c .before .before .before .before .if1 .left)))
-
-slice-aggregate-checked : tie.Need-slice-aggregate-checked
-slice-aggregate-checked c = as-many (c .before .names-of .ensures) (few-strings′ (c .before .before .before .before .before .before .before .before .before .before .before .before .before .before .args .bytes .now) (c .before .before .before .before .before .before .before .before .before .before .before .before .before .before .args .ends .now) (c .before .before .before .before .before .before .before .before .before .before .before .before .before .before .args .words .now) (c .before .before .before .before .before .before .before .before .before .before .before .before .before .before .args .erased .now) (sym (c .before .before .before .before .before .before .sized-program .ensures) ∙ not-false _ (c .before .before .before .before .before .if1 .left)))
-
-checked-requires : tie.Need-checked-requires
-checked-requires c κs = (marks-named (said-sound (c .before .before .before .before .before .before .before .check .ensures) (c .before .before .before .before .before .enum-told .given .1)) (c .before .before .before .before .names-of .ensures), few-marks (c .before .before .before .before .names-of .ensures) (few-strings′ (c .before .before .before .before .before .before .before .before .before .before .before .before .before .before .before .before .before .args .bytes .now) (c .before .before .before .before .before .before .before .before .before .before .before .before .before .before .before .before .before .args .ends .now) (c .before .before .before .before .before .before .before .before .before .before .before .before .before .before .before .before .before .args .words .now) (c .before .before .before .before .before .before .before .before .before .before .before .before .before .before .before .before .before .args .erased .now) (sym (c .before .before .before .before .before .before .before .before .before .sized-program .ensures) ∙ not-false _ (c .before .before .before .before .before .before .before .before .if1 .left))))
+marked-requires : tie.Need-marked-requires
+marked-requires c κs = (said-sound (c .before .before .before .before .before .check .ensures) (c .before .before .before .enum-told .given .1), few-strings′ (c .before .before .before .before .before .before .before .before .before .before .before .before .before .before .before .args .bytes .now) (c .before .before .before .before .before .before .before .before .before .before .before .before .before .before .before .args .ends .now) (c .before .before .before .before .before .before .before .before .before .before .before .before .before .before .before .args .words .now) (c .before .before .before .before .before .before .before .before .before .before .before .before .before .before .before .args .erased .now) (sym (c .before .before .before .before .before .before .before .sized-program .ensures) ∙ not-false _ (c .before .before .before .before .before .before .if1 .left)))
 
 same-length : tie.Need-same-length
 same-length c = search needs
@@ -50,7 +39,7 @@ same-length-3 : tie.Need-same-length-3
 same-length-3 c = search needs
 
 returns-3 : tie.Need-returns-3
-returns-3 c = entry-tells (answers-inner (sym (c .before .before .before .before .before .before .before .before .before .before .before .before .before .before .before .before .sized-program .ensures) ∙ not-false _ (c .before .before .before .before .before .before .before .before .before .before .before .before .before .before .before .if1 .left)) (said-sound (c .before .before .before .before .before .before .before .before .before .before .before .before .before .before .check .ensures) (c .before .before .before .before .before .before .before .before .before .before .before .before .enum-told .given .1)) refl) (c .before .before .before .before .before .before .checked .ensures)
+returns-3 c = entry-tells (answers-inner (sym (c .before .before .before .before .before .before .before .before .before .before .before .before .before .before .sized-program .ensures) ∙ not-false _ (c .before .before .before .before .before .before .before .before .before .before .before .before .before .if1 .left)) (said-sound (c .before .before .before .before .before .before .before .before .before .before .before .before .check .ensures) (c .before .before .before .before .before .before .before .before .before .before .enum-told .given .1)) refl) (c .before .before .before .before .before .before .marked .ensures)
 
 pub analyse-spec : {M : Type 1} → statement M
 analyse-spec =
@@ -62,10 +51,7 @@ analyse-spec =
     enum-known-v
     returns-2
     enum-told
-    names-of-requires
-    array-share-prefix-names
-    slice-aggregate-checked
-    checked-requires
+    marked-requires
     same-length
     same-length-2
     same-length-3

@@ -6,6 +6,12 @@ use borrow.Author.Needs.{needs}
 use Rattle.listing.proofs.put_first.Statement.{statement}
 use Rattle.listing.proofs.put_first.Tie as tie
 
+analyse-requires : tie.Need-analyse-requires
+analyse-requires c κs = search needs
+
+too-short-requires : tie.Need-too-short-requires
+too-short-requires c κs = search needs
+
 put-full-requires : tie.Need-put-full-requires
 put-full-requires c κs = search needs
 
@@ -15,29 +21,17 @@ same-length c = search needs
 same-length-2 : tie.Need-same-length-2
 same-length-2 c = search needs
 
-returns : tie.Need-returns
-returns c = c .before .before .before .before .put-full .ensures
-
-put-full-requires-2 : tie.Need-put-full-requires-2
-put-full-requires-2 c κs = search needs
-
 same-length-3 : tie.Need-same-length-3
 same-length-3 c = search needs
 
 same-length-4 : tie.Need-same-length-4
 same-length-4 c = search needs
 
-returns-2 : tie.Need-returns-2
-returns-2 c = c .before .before .before .before .put-full2 .ensures
+returns : tie.Need-returns
+returns c = search needs
 
-analyse-requires : tie.Need-analyse-requires
-analyse-requires c κs = search needs
-
-too-short-requires : tie.Need-too-short-requires
-too-short-requires c κs = search needs
-
-put-full-requires-3 : tie.Need-put-full-requires-3
-put-full-requires-3 c κs = search needs
+put-answer-requires : tie.Need-put-answer-requires
+put-answer-requires c κs = counts-within (c .before .before .before .before .before .before .before .before .before .before .before .before .analyse .ensures)
 
 same-length-5 : tie.Need-same-length-5
 same-length-5 c = search needs
@@ -51,50 +45,24 @@ same-length-7 c = search needs
 same-length-8 : tie.Need-same-length-8
 same-length-8 c = search needs
 
-returns-3 : tie.Need-returns-3
-returns-3 c = c .before .before .before .before .put-full3 .ensures
-
-put-answer-requires : tie.Need-put-answer-requires
-put-answer-requires c κs = counts-within (c .before .before .before .before .before .before .before .before .before .before .before .before .analyse .ensures)
-
-same-length-9 : tie.Need-same-length-9
-same-length-9 c = search needs
-
-same-length-10 : tie.Need-same-length-10
-same-length-10 c = search needs
-
-same-length-11 : tie.Need-same-length-11
-same-length-11 c = search needs
-
-same-length-12 : tie.Need-same-length-12
-same-length-12 c = search needs
-
-returns-4 : tie.Need-returns-4
-returns-4 c = same (text-first (c .before .before .before .before .before .before .before .before .before .before .before .before .before .before .before .analyse .ensures) (c .before .before .before .before .before .before .before .before .before .before .before .before .before .before .before .before .before .before .before .before .before .before .before .before .before .before .before .before .before .pre .0) (sym (c .before .before .before .before .before .before .before .before .too-short .ensures) ∙ c .before .before .before .before .before .before .before .if3 .left) (c .before .before .before .before .before .before .before .before .before .before .before .before .before .before .before .before .before .before .before .before .before .before .before .before .before .before .before .before .before .pre .1) (c .before .before .before .before .before .before .before .before .before .before .before .before .before .before .before .before .before .before .before .before .before .before .before .before .before .before .before .before .before .pre .2)) (c .before .before .put-answer .ensures)
+returns-2 : tie.Need-returns-2
+returns-2 c = same (text-first (c .before .before .before .before .before .before .before .before .before .before .before .before .before .before .before .analyse .ensures) (c .before .before .before .before .before .before .before .before .before .before .before .before .before .before .before .before .before .before .before .before .before .before .before .before .before .before .before .before .pre .2) (sym (c .before .before .before .before .before .before .before .before .too-short .ensures) ∙ c .before .before .before .before .before .before .before .if1 .left) (c .before .before .before .before .before .before .before .before .before .before .before .before .before .before .before .before .before .before .before .before .before .before .before .before .before .before .before .before .pre .3) (c .before .before .before .before .before .before .before .before .before .before .before .before .before .before .before .before .before .before .before .before .before .before .before .before .before .before .before .before .pre .4) ∙ c .before .before .before .before .before .before .before .before .before .before .before .before .before .before .before .before .before .before .before .before .before .before .before .before .before .before .before .before .pre .1) (c .before .before .put-answer .ensures)
 
 pub put-first-spec : {M : Type 1} → statement M
 put-first-spec =
     tie.close
     (tie.spec
+    analyse-requires
+    too-short-requires
     put-full-requires
     same-length
     same-length-2
-    returns
-    put-full-requires-2
     same-length-3
     same-length-4
-    returns-2
-    analyse-requires
-    too-short-requires
-    put-full-requires-3
+    returns
+    put-answer-requires
     same-length-5
     same-length-6
     same-length-7
     same-length-8
-    returns-3
-    put-answer-requires
-    same-length-9
-    same-length-10
-    same-length-11
-    same-length-12
-    returns-4)
+    returns-2)

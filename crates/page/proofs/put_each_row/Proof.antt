@@ -1,4 +1,4 @@
--- put_rows: after i turns the lines of the first i rows are written.
+-- put_each_row: after i turns the lines of the first i rows are written.
 use mathlib.Core.Path.{_≡_, refl, _∙_}
 use mathlib.Core.List.{flatMap}
 use Prim.Native.Nat.{_≤_, _-_}
@@ -9,8 +9,8 @@ use Rattle.table.specs.Rows.{width}
 use Rattle.page.specs.Page.{line}
 use Rattle.page.specs.Chunks.{chunks}
 use Rattle.page.proofs.Laws.{rows-none, rows-more}
-use Rattle.page.proofs.put_rows.Statement.{statement}
-use Rattle.page.proofs.put_rows.Tie as tie
+use Rattle.page.proofs.put_each_row.Statement.{statement}
+use Rattle.page.proofs.put_each_row.Tie as tie
 
 abbrev Inv-loop : tie.InvT-loop
 Inv-loop out₀ at pairs rows n next₀ i₀ out next i = (i ≤ n) × (length out ≡ length out₀) × Wrote (flatMap (line 84) (chunks width i rows)) out₀ out at next
@@ -42,8 +42,8 @@ same-length c = c .before .loop .inv .1
 returns : tie.Need-returns Inv-loop μ-loop
 returns c = let e : c .before .loop .i ≡ (c .before .before .before .before .before .args .n) = omega arith in rw e at (c .before .loop .inv .2)
 
-pub put-rows-spec : {M : Type 1} → statement M
-put-rows-spec =
+pub put-each-row-spec : {M : Type 1} → statement M
+put-each-row-spec =
     tie.close
     (tie.spec
     Inv-loop

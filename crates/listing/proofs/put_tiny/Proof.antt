@@ -1,0 +1,83 @@
+-- put_tiny: the sizes that are asked have room in these buffers.
+use Prim.Native.Nat.{_≤_}
+use native.Mathlib.Omega.{arith}
+use borrow.Author.Needs.{needs}
+use Rattle.listing.proofs.put_tiny.Statement.{statement}
+use Rattle.listing.proofs.put_tiny.Tie as tie
+
+put-small-requires : tie.Need-put-small-requires
+put-small-requires c κs = search needs
+
+same-length : tie.Need-same-length
+same-length c = search needs
+
+returns : tie.Need-returns
+returns c = search needs
+
+put-small-requires-2 : tie.Need-put-small-requires-2
+put-small-requires-2 c κs = search needs
+
+same-length-2 : tie.Need-same-length-2
+same-length-2 c = search needs
+
+returns-2 : tie.Need-returns-2
+returns-2 c = search needs
+
+put-small-requires-3 : tie.Need-put-small-requires-3
+put-small-requires-3 c κs = search needs
+
+same-length-3 : tie.Need-same-length-3
+same-length-3 c = search needs
+
+returns-3 : tie.Need-returns-3
+returns-3 c = search needs
+
+slice-aggregate-put-read : tie.Need-slice-aggregate-put-read
+slice-aggregate-put-read c = search needs
+
+slice-aggregate-put-read-2 : tie.Need-slice-aggregate-put-read-2
+slice-aggregate-put-read-2 c = search needs
+
+slice-aggregate-put-read-3 : tie.Need-slice-aggregate-put-read-3
+slice-aggregate-put-read-3 c = search needs
+
+slice-aggregate-put-read-4 : tie.Need-slice-aggregate-put-read-4
+slice-aggregate-put-read-4 c = search needs
+
+slice-aggregate-put-read-5 : tie.Need-slice-aggregate-put-read-5
+slice-aggregate-put-read-5 c = search needs
+
+slice-aggregate-put-read-6 : tie.Need-slice-aggregate-put-read-6
+slice-aggregate-put-read-6 c = search needs
+
+put-read-requires : tie.Need-put-read-requires
+put-read-requires c κs = (c .before .before .before .before .before .before .before .before .before .before .before .before .before .before .before .pre, c .before .before .before .before .before .before .before .before .before .if2 .left, c .before .before .before .before .before .before .before .before .before .before .before .if1 .left, c .before .before .before .before .before .before .before .if3 .left, (let h : 192 ≤ 12288 = omega arith in h), (let h : 96 ≤ 12288 = omega arith in h), c .before .before .before .before .before .before .before .before .before .before .before .if1 .left)
+
+same-length-4 : tie.Need-same-length-4
+same-length-4 c = search needs
+
+returns-4 : tie.Need-returns-4
+returns-4 c = search needs
+
+pub put-tiny-spec : {M : Type 1} → statement M
+put-tiny-spec =
+    tie.close
+    (tie.spec
+    put-small-requires
+    same-length
+    returns
+    put-small-requires-2
+    same-length-2
+    returns-2
+    put-small-requires-3
+    same-length-3
+    returns-3
+    slice-aggregate-put-read
+    slice-aggregate-put-read-2
+    slice-aggregate-put-read-3
+    slice-aggregate-put-read-4
+    slice-aggregate-put-read-5
+    slice-aggregate-put-read-6
+    put-read-requires
+    same-length-4
+    returns-4)

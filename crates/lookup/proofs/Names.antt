@@ -1,6 +1,6 @@
 -- The code's table of builtins is the definition's, cell by cell, and comparing two names goes byte by byte. Assumes nothing.
 use mathlib.Core.Path.{_≡_, refl, sym, ap, _∙_}
-use mathlib.Core.Bool.{Bool, true, false, _&&_}
+use mathlib.Core.Bool.{Bool, true, false, _&&_, false≢true}
 use mathlib.Core.List.{List, [], _∷_, _++_, map}
 use mathlib.Core.Option.{none, some}
 use Prim.Native.Nat.{ℕ, zero, suc, _+_, _*_, _-_, _≤_, _<_}
@@ -14,7 +14,7 @@ use borrow.Author.Tests.{leb-true, eq-eqb, ne-eqb, eqb-true}
 use Rattle.words.specs.Word.{pick}
 use Rattle.table.specs.Laws.{pick-true, pick-false}
 use Rattle.text.specs.Text.{ascii}
-use Rattle.lookup.specs.Builtins.{Builtin, takes, builtins, same, entryOf, cellsOf, cells, flat, nameAt}
+use Rattle.lookup.specs.Builtins.{Builtin, takes, builtins, same, entryOf, builtin, cellsOf, cells, flat, nameAt, lengthFits, mayBe}
 
 -- ---- the entries
 
@@ -183,3 +183,41 @@ unfolding entryOf
 entry-end name i h =
     let l : length builtins ≤ i = omega (arith, count) in
     rw (drop-of-length-le builtins l)
+
+-- ---- the quick test
+
+same-is : (a b : List ℕ) → same a b ≡ true → a ≡ b
+unfolding same
+same-is [] [] e = refl
+same-is [] (y ∷ b) e = absurd (false≢true e)
+same-is (x ∷ a) [] e = absurd (false≢true e)
+same-is (x ∷ a) (y ∷ b) e = go (eqb x y) refl e (same-is a b)
+  where
+    go : (t : Bool) → eqb x y ≡ t → (t && same a b) ≡ true → (same a b ≡ true → a ≡ b) → (x ∷ a) ≡ (y ∷ b)
+    go true q r ih = rw (eqb-true x y q, ih r) refl
+    go false q r ih = absurd (false≢true r)
+
+-- each name passes
+passing : List Builtin → Bool
+passing [] = true
+passing (b ∷ bs) = mayBe (b .name) && passing bs
+
+all-pass : passing builtins ≡ true
+unfolding passing mayBe lengthFits builtins takes ascii
+all-pass = refl
+
+none-of : (name : List ℕ) → mayBe name ≡ false → (l : List Builtin) → passing l ≡ true → entryOf name l ≡ none
+unfolding passing entryOf
+none-of name n [] e = refl
+none-of name n (b ∷ bs) e = go (mayBe (b .name)) refl e (same name (b .name)) refl (none-of name n bs)
+  where
+    go : (t : Bool) → mayBe (b .name) ≡ t → (t && passing bs) ≡ true → (u : Bool) → same name (b .name) ≡ u → (passing bs ≡ true → entryOf name bs ≡ none)
+        → pick u (some b) (entryOf name bs) ≡ none
+    go true p e false q ih = ih e
+    go true p e true q ih = absurd (false≢true (sym n ∙ ap mayBe (same-is name (b .name) q) ∙ p))
+    go false p e u q ih = absurd (false≢true e)
+
+-- what fails the test is no builtin
+pub no-builtin : (name : List ℕ) → mayBe name ≡ false → builtin name ≡ none
+unfolding builtin
+no-builtin name n = none-of name n builtins all-pass

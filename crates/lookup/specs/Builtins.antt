@@ -1,10 +1,10 @@
 -- `BUILTINS` of sema.rs, in its order: each builtin function's name, and the least and most arguments that it takes. These are definitions.
 use Prim.Native.String as S
 use Prim.Native.Nat.{ℕ, _-_}
-use mathlib.Core.Bool.{Bool, true, false, _&&_}
+use mathlib.Core.Bool.{Bool, true, false, not, _&&_, _||_}
 use mathlib.Core.List.{List, [], _∷_, _++_, map}
 use mathlib.Core.Option.{Option, none, some}
-use lib.Dec.{eqb}
+use lib.Dec.{leb, eqb}
 use lib.ListN.{length, getD, replicate}
 use Rattle.words.specs.Word.{pick}
 use Rattle.text.specs.Text.{ascii}
@@ -122,3 +122,29 @@ flat (r ∷ rs) = r ++ flat rs
 unfoldable pub nameAt : ℕ → List ℕ
 unfolding builtins
 nameAt i = getD (map (λ (b : Builtin). b .name) builtins) i []
+
+-- ---- a quick test that every builtin's name passes, and few others
+
+-- the lengths from 3 to 7 that go with a first byte
+unfoldable pub lengthFits : (first n : ℕ) → Bool
+lengthFits first n =
+    pick (eqb first 65) (eqb n 3) (
+    pick (eqb first 67) (leb n 4) (
+    pick (eqb first 68) (eqb n 5) (
+    pick (eqb first 69) (eqb n 3) (
+    pick (eqb first 70) (eqb n 3) (
+    pick (eqb first 72) (eqb n 4) (
+    pick (eqb first 73) (eqb n 3 || eqb n 5) (
+    pick (eqb first 76) (not (eqb n 4)) (
+    pick (eqb first 77) (eqb n 4) (
+    pick (eqb first 79) (eqb n 4) (
+    pick (eqb first 80) (eqb n 3) (
+    pick (eqb first 82) (eqb n 3 || eqb n 6) (
+    pick (eqb first 83) (not (eqb n 5)) (
+    pick (eqb first 84) (eqb n 3 || eqb n 5) (
+    pick (eqb first 85) (eqb n 6) (
+    pick (eqb first 86) (eqb n 3) false)))))))))))))))
+
+unfoldable pub mayBe : List ℕ → Bool
+unfolding lengthFits
+mayBe name = leb 3 (length name) && (leb (length name) 7 && lengthFits (getD name 0 0) (length name))

@@ -3,14 +3,16 @@ use entries::bit;
 use entries::entry_key;
 use table::Found;
 ghost use mathlib.Core.Path.{_≡_};
+ghost use mathlib.Core.Bool.{_||_};
 ghost use mathlib.Core.List.{List, []};
 ghost use Prim.Native.Nat.{_*_, _+_, _≤_, _<_};
 ghost use lib.ListN.{length, getD};
+ghost use lib.Dec.{eqb};
 ghost use Rattle.table.specs.Rows.{Row, width, find, Holds};
 ghost use Rattle.table.specs.Answers.{Within};
 ghost use Rattle.entries.specs.Entries.{entryKey, has as hasOf, rowWord};
 ghost use Rattle.lookup.specs.Lookup.{contains as containsOf, shares as sharesOf, isStatic, recordWords, typeWords, typeOf, arrayOf, visible as visibleOf, typedVar, typedVarIn, lookupArray, fromSuffix, fromTypeRef, declaredType};
-ghost use Rattle.lookup.specs.Builtins.{cells, flat, nameAt, same, builtin as builtinOf};
+ghost use Rattle.lookup.specs.Builtins.{cells, flat, nameAt, same, lengthFits, mayBe, builtin as builtinOf};
 ghost use Rattle.lookup.specs.Answers.{rowAt, typed, array as arrayOf′, class, argumentsOf};
 
 // The row of an entry.
@@ -347,10 +349,63 @@ fn search(name: &[u8], table: &[u8]) -> Arguments
     Arguments::Unknown
 }
 
-// The builtin function of that name. The table is made once for all entries: a constant costs its length wherever it is named.
+// Whether a length is one of two.
+fn is_either(n: usize, a: usize, b: usize) -> bool
+    ensures { λ r. ⌜ r ≡ (eqb n a || eqb n b) ⌝ }
+{
+    if n == a {
+        return true;
+    }
+    n == b
+}
+
+// Whether a builtin's name of 3 to 7 bytes that begins with this one may have this length.
+fn length_fits(first: u8, n: usize) -> bool
+    ensures { λ r. ⌜ r ≡ lengthFits first n ⌝ }
+{
+    match first {
+        65 => n == 3,
+        67 => n <= 4,
+        68 => n == 5,
+        69 => n == 3,
+        70 => n == 3,
+        72 => n == 4,
+        73 => is_either(n, 3, 5),
+        76 => n != 4,
+        77 => n == 4,
+        79 => n == 4,
+        80 => n == 3,
+        82 => is_either(n, 3, 6),
+        83 => n != 5,
+        84 => is_either(n, 3, 5),
+        85 => n == 6,
+        86 => n == 3,
+        _ => false,
+    }
+}
+
+// Whether a name has a length and a first byte that a builtin's may have.
+fn may_be(name: &[u8]) -> bool
+    ensures { λ r. ⌜ r ≡ mayBe (now (name .entry)) ⌝ }
+{
+    let n = name.len();
+    if n < 3 {
+        return false;
+    }
+    if 7 < n {
+        return false;
+    }
+    length_fits(name[0], n)
+}
+
+// The builtin function of that name. The table is made once for all entries, and only for a name that may be one: a constant costs its length
+// wherever it is named.
 pub fn builtin(name: &[u8]) -> Arguments
     ensures { λ r. ⌜ r ≡ argumentsOf (builtinOf (now (name .entry))) ⌝ }
 {
+    if !may_be(name) {
+        return Arguments::Unknown;
+    }
     let table = BUILTINS;
     search(name, &table)
 }

@@ -15,7 +15,7 @@ use Rattle.reader.specs.Sized.{sizedTree}
 use Rattle.table.specs.Rows.{Row}
 use Rattle.lent.specs.Lent.{lentRows}
 use Rattle.consteval.specs.ConstEval.{constEval}
-use Rattle.consteval.specs.RowLaws.{strings}
+use Rattle.tree.specs.Tree.{strings}
 use Rattle.evaluate.specs.Outcome.{Outcome, outcomeOf}
 use Rattle.evaluate.specs.declared.Answer.{Answer}
 use Rattle.evaluate.specs.declared.Answer.the-variants.{Folded, Refused}
@@ -40,7 +40,7 @@ readUnder ns buf (deep p) = stops 3 p
 -- ns: for each string 1 where it is a name. The expression there has depth 1, and words may follow it.
 unfoldable pub evalOf : (ns ws : List ℕ) (at : ℕ) (buf : List ℕ) → Told Past
 unfolding readUnder
-evalOf ns ws at buf = readUnder ns buf (exprAt ws (strings ns) maxDepth at)
+evalOf ns ws at buf = readUnder ns buf (exprAt ws (strings ns (length ns)) maxDepth at)
 
 -- document 01's number and values for each case of the answer, with the place that comes back
 unfoldable pub toldAs : ℕ → Answer → Told Past

@@ -3,6 +3,7 @@
 use Prim.Native.Nat.{ℕ}
 use mathlib.Core.Path.{_≡_}
 use mathlib.Core.List.{List}
+use lib.ListN.{length}
 use Rattle.words.specs.Sizes.{maxDepth}
 use Rattle.words.specs.Told.{Told, stops, gives, after}
 use Rattle.words.specs.Refusals.{refused}

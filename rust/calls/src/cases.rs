@@ -49,9 +49,12 @@ const OVER_ROWS: [Entry; 12] = [
 /// What a buffer holds that was used before.
 const DIRT: u32 = 0xdead_beef;
 
+/// A word of a kind that is none.
+const WRONG: u32 = 99 << 24 | 1;
 const LITERAL: [u32; 3] = [16 << 24, 24 << 24, 5];
 const PAREN: u32 = 23 << 24;
 const LOOP: u32 = 73 << 24;
+const CLS: u32 = 107 << 24;
 
 pub fn all() -> Vec<Case> {
     let mut to = Vec::new();
@@ -166,26 +169,35 @@ fn cause(case: &mut Case, cause: u32) -> bool {
     match cause {
         // equal strings, the second and third of the table
         1 => case.raw.bytes[1..3].copy_from_slice(b"BB"),
-        2 if tree => *case.raw.tree.last_mut().expect("words") = 99 << 24,
+        // the statement's head, or the literal's
+        2 if tree => {
+            let last = case.raw.tree.len() - 1;
+            let literal = case.raw.tree.ends_with(&LITERAL);
+            case.raw.tree[last - usize::from(literal)] = WRONG;
+        }
         // a hundred levels and a right head below, before the wrong word if there is one
         3 if tree => {
             let list = matches!(entry, ResolveArgs);
             let expr = [vec![PAREN; 100], LITERAL.to_vec()].concat();
-            let wrong = case.raw.tree.last() == Some(&(99 << 24));
+            let wrong = case.raw.tree.contains(&WRONG);
             case.raw.tree = match entry {
                 ReadExpression | Expression | ConstEval | ResolveExpr => expr,
                 _ if list => [vec![1 << 24 | 1], expr].concat(),
-                _ => [vec![1 << 24 | 1], nested(100), vec![101 << 24]].concat(),
+                _ => [vec![1 << 24 | 1], nested(100), vec![CLS]].concat(),
             };
             if wrong {
-                case.raw.tree.push(99 << 24);
+                case.raw.tree.push(WRONG);
             }
         }
         4 if whole => case.raw.erased = vec![1, 1],
         6 if rows => case.rows[0] = 1,
         7 if matches!(entry, Collect | Analyse) => case.rows.truncate(5),
         8 if matches!(entry, Collect | Analyse) => case.notes.truncate(5),
-        10 if matches!(entry, ResolveExpr | ResolveArgs | ResolveArrayAccesses | Analyse) => {
+        10 if matches!(
+            entry,
+            ResolveExpr | ResolveArgs | ResolveArrayAccesses | Analyse
+        ) =>
+        {
             case.out.truncate(1);
         }
         11 if lookup || matches!(entry, SubscriptCount | Builtin | TypeWords) => {
@@ -241,27 +253,46 @@ fn pairs_of_causes(to: &mut Vec<Case>) {
 fn sizes(to: &mut Vec<Case>) {
     for over in [0, 1] {
         let mut raw = table(&["A"]);
-        raw.tree = vec![101 << 24; 8192 + over];
+        raw.tree = vec![CLS; 8192 + over];
         raw.tree[0] = 1 << 24 | (8191 + over as u32);
-        to.push(Case::new(format!("{} words", 8192 + over), Entry::Accept, &[], &raw));
+        to.push(Case::new(
+            format!("{} words", 8192 + over),
+            Entry::Accept,
+            &[],
+            &raw,
+        ));
         let texts: Vec<String> = (0..1024 + over).map(|i| format!("A{i:05}")).collect();
         let mut raw = table(&texts.iter().map(String::as_str).collect::<Vec<_>>());
         raw.tree = vec![1 << 24];
-        to.push(Case::new(format!("{} strings", 1024 + over), Entry::Builtin, &[5], &raw));
+        to.push(Case::new(
+            format!("{} strings", 1024 + over),
+            Entry::Builtin,
+            &[5],
+            &raw,
+        ));
         raw.erased = (0..1024 + over as u32).collect();
         raw.ends.truncate(1024);
         raw.bytes.truncate(6 * 1024);
         if over == 1 {
             raw.erased.push(7);
         }
-        to.push(Case::new(format!("{} erased", 1024 + over), Entry::Accept, &[], &raw));
+        to.push(Case::new(
+            format!("{} erased", 1024 + over),
+            Entry::Accept,
+            &[],
+            &raw,
+        ));
         let mut raw = Raw::default();
         raw.set_strings(&[vec![b'A'; 16384 + over]]);
         let label = format!("{} bytes", 16384 + over);
         to.push(Case::new(label, Entry::TypeWords, &[41, 0], &raw));
     }
     // rows, diagnostics and outputs have no limit
-    let mut case = right("2000 rows of zeros".to_string(), Entry::Shares, &table(&["A"]));
+    let mut case = right(
+        "2000 rows of zeros".to_string(),
+        Entry::Shares,
+        &table(&["A"]),
+    );
     case.rows = vec![0; 8200];
     to.push(case);
 }
@@ -273,10 +304,7 @@ fn places(to: &mut Vec<Case>) {
         "(program
           (Let line=3 name=X value=(Binary op=Add left=(Paren A) right=(FnCall name=F args=[1 \"T\"])))
           (While line=4 condition=1.5 body=[(Cls line=5) (Const line=6 name=K value=(Unary op=Neg operand=2&))])
-          (Data line=7 [(Literal 3)]))
-        "
-        .replace("(Data line=7 [(Literal 3)])", "(End line=7)")
-        .as_str(),
+          (End line=7))",
     );
     let entries = [
         Entry::ReadStatement,
@@ -343,15 +371,33 @@ fn depths(to: &mut Vec<Case>) {
             }
         }
     }
+    // the first fault decides: a wrong word before the deep head, and after it
+    let deep = [vec![PAREN; 100], LITERAL.to_vec()].concat();
+    for (label, sides) in [
+        ("wrong before deep", [vec![WRONG], deep.clone()]),
+        ("deep before wrong", [deep, vec![WRONG]]),
+    ] {
+        let mut raw = table(&["A"]);
+        raw.tree = [vec![20 << 24, 9 << 24], sides.concat()].concat();
+        for (entry, numbers) in [
+            (Entry::ReadExpression, [0; 3]),
+            (Entry::Expression, [0; 3]),
+            (Entry::ConstEval, [0; 3]),
+            (Entry::ResolveExpr, [0; 3]),
+        ] {
+            to.push(Case::new(
+                format!("{label}, {entry:?}"),
+                entry,
+                &numbers,
+                &raw,
+            ));
+        }
+    }
     for levels in [98, 99, 100] {
-        let last = [[101 << 24].to_vec(), vec![DIRT; 2]].concat();
+        let last = [[CLS].to_vec(), vec![DIRT; 2]].concat();
         let mut raw = table(&["A"]);
         raw.tree = [vec![DIRT; 4], nested(levels), last].concat();
-        for entry in [
-            Entry::ReadStatement,
-            Entry::Statement,
-            Entry::PastStatement,
-        ] {
+        for entry in [Entry::ReadStatement, Entry::Statement, Entry::PastStatement] {
             for at in [4, 9] {
                 let label = format!("{levels} loops at {at}, {entry:?}");
                 to.push(Case::new(label, entry, &[at], &raw));
@@ -440,7 +486,11 @@ fn rules(to: &mut Vec<Case>) {
         for payload in [0, 1, 2, 4, 5, 0x00ff_ffff] {
             let rows = row(kind, payload, words).to_vec();
             let entry = *entries.next().expect("a cycle");
-            to.push(over(format!("row {kind} of {payload}, {entry:?}"), entry, rows));
+            to.push(over(
+                format!("row {kind} of {payload}, {entry:?}"),
+                entry,
+                rows,
+            ));
         }
         for j in 1..6 {
             for value in VALUES {
@@ -475,7 +525,11 @@ fn rules(to: &mut Vec<Case>) {
     // 139 and 141 have the rules of 138 and 140
     for (kind, word) in [(139, 0), (139, 1), (139, 3), (139, 4), (141, 0), (141, 1)] {
         let rows = row(kind, 1, &[if kind == 139 { 2 } else { 0 }, word]).to_vec();
-        to.push(over(format!("row {kind} word 2 {word}"), Entry::IsStatic, rows));
+        to.push(over(
+            format!("row {kind} word 2 {word}"),
+            Entry::IsStatic,
+            rows,
+        ));
     }
 }
 
@@ -495,8 +549,14 @@ fn orders_and_tails(to: &mut Vec<Case>) {
         ("a row after a zero row", [a, zero, c].concat()),
         ("a zero row first", [zero, a].concat()),
         ("zero rows behind", [a, zero, zero].concat()),
-        ("a first word of 0, others not", [a, [0, 0, 0, 0, 0, 1]].concat()),
-        ("a field without its TYPE", row(131, 1, &[0, 2, 0, 40, 0]).to_vec()),
+        (
+            "a first word of 0, others not",
+            [a, [0, 0, 0, 0, 0, 1]].concat(),
+        ),
+        (
+            "a field without its TYPE",
+            row(131, 1, &[0, 2, 0, 40, 0]).to_vec(),
+        ),
         (
             "a parameter without its procedure",
             row(136, 1, &[0, 2, 0, 0, 0]).to_vec(),
@@ -520,7 +580,11 @@ fn orders_and_tails(to: &mut Vec<Case>) {
             let mut words = a.to_vec();
             words.extend(vec![0; more - 1]);
             words.push(last);
-            let label = if last == 0 { "zeros too few for a row" } else { "a tail that isn't zero" };
+            let label = if last == 0 {
+                "zeros too few for a row"
+            } else {
+                "a tail that isn't zero"
+            };
             tables.push((label, words));
         }
         tables.push(("too few words for one row, zero", vec![0; more]));
@@ -654,7 +718,9 @@ fn visible(to: &mut Vec<Case>) {
 // ---- R-LK-02, R-LK-08: sizes of types, and the type that a name holds by each suffix and each AS
 
 fn types(to: &mut Vec<Case>) {
-    let raw = table(&["A", "A!", "A#", "A$", "A%", "A&", "BIG", "EMPTY", "P", "REC"]);
+    let raw = table(&[
+        "A", "A!", "A#", "A$", "A%", "A&", "BIG", "EMPTY", "P", "REC",
+    ]);
     let n = |s: &str| number(&raw, s);
     let records = vec![
         row(130, n("BIG"), &[0, 65_535, 1]),
@@ -684,9 +750,23 @@ fn types(to: &mut Vec<Case>) {
     }
     for name in ["A", "A!", "A#", "A$", "A%", "A&"] {
         let a = n(name);
-        let mut case = Case::new(format!("suffix of {name}"), Entry::DeclaredType, &[0, a], &raw);
+        let mut case = Case::new(
+            format!("suffix of {name}"),
+            Entry::DeclaredType,
+            &[0, a],
+            &raw,
+        );
         to.push(case.clone());
-        for (head, arg) in [(40, 0), (41, 0), (42, 0), (43, 0), (44, 0), (44, 8), (45, 9), (45, 0)] {
+        for (head, arg) in [
+            (40, 0),
+            (41, 0),
+            (42, 0),
+            (43, 0),
+            (44, 0),
+            (44, 8),
+            (45, 9),
+            (45, 0),
+        ] {
             case.label = format!("{name} AS {head} {arg}");
             case.rows = row(134, a, &[0, head, arg]).to_vec();
             to.push(case.clone());
@@ -717,11 +797,20 @@ fn builtins(to: &mut Vec<Case>) {
             format!("Z{name}"),
             bare[..bare.len() - 1].to_string(),
         ];
-        tries.push(if bare == name { format!("{name}$") } else { bare.to_string() });
+        tries.push(if bare == name {
+            format!("{name}$")
+        } else {
+            bare.to_string()
+        });
         let raw = table(&tries.iter().map(String::as_str).collect::<Vec<_>>());
         for i in 0..raw.ends.len() as u32 {
             let s = raw.strings().expect("a right table").all[i as usize].to_string();
-            to.push(Case::new(format!("builtin {s}"), Entry::Builtin, &[i], &raw));
+            to.push(Case::new(
+                format!("builtin {s}"),
+                Entry::Builtin,
+                &[i],
+                &raw,
+            ));
         }
     }
 }
@@ -766,7 +855,9 @@ fn folds(to: &mut Vec<Case>) {
         binary("Add", "\"text\"", &binary("Add", "30000", "30000")),
         binary("IntDiv", "3000000000.0", "0"),
     ];
-    for op in ["Add", "Sub", "Mul", "Div", "IntDiv", "Mod", "Pow", "Lt", "And"] {
+    for op in [
+        "Add", "Sub", "Mul", "Div", "IntDiv", "Mod", "Pow", "Lt", "And",
+    ] {
         exprs.push(binary(op, "K", "1"));
         exprs.push(binary(op, "K", "L"));
         exprs.push(binary(op, "1.5", "K"));
@@ -794,7 +885,12 @@ fn folds(to: &mut Vec<Case>) {
         }
         for (i, (kind, [low, high])) in values.iter().enumerate() {
             let (other, [l, h]) = values[(i + 1) % values.len()];
-            let mut case = Case::new(format!("{expr}, K {kind} {low}"), Entry::ConstEval, &[3], &raw);
+            let mut case = Case::new(
+                format!("{expr}, K {kind} {low}"),
+                Entry::ConstEval,
+                &[3],
+                &raw,
+            );
             case.rows = laid(vec![
                 row(132, number(&raw, "K"), &[0, *kind, *low, *high]),
                 row(132, number(&raw, "L"), &[0, other, l, h]),
@@ -819,14 +915,25 @@ fn subscripts(to: &mut Vec<Case>) {
         format!("(Let name=A indices=[1 2] value={})", use_of("A", 3)),
         "(Let name=A indices=[] value=1)".to_string(),
         format!("(Let name=X value={})", use_of("A", 0)),
-        format!("(Let name=X value=(ArrayAccess name=B indices=[{}]))", use_of("A", 1)),
-        format!("(Swap {{name=B indices=[1]}} {{name=A indices=[{}]}})", use_of("A", 3)),
-        format!("(While condition={} body=[(Let name=A indices=[1] value=1)])", use_of("B", 2)),
+        format!(
+            "(Let name=X value=(ArrayAccess name=B indices=[{}]))",
+            use_of("A", 1)
+        ),
+        format!(
+            "(Swap {{name=B indices=[1]}} {{name=A indices=[{}]}})",
+            use_of("A", 3)
+        ),
+        format!(
+            "(While condition={} body=[(Let name=A indices=[1] value=1)])",
+            use_of("B", 2)
+        ),
         format!("(Sub name=S body=[(Let name=X value={})])", use_of("A", 2)),
         format!("(Call name=A args=[{}])", use_of("B", 2)),
     ];
     for body in &bodies {
-        let raw = program(&format!("(strings \"A\" \"B\" \"no name\") (program {body})"));
+        let raw = program(&format!(
+            "(strings \"A\" \"B\" \"no name\") (program {body})"
+        ));
         for name in ["A", "B", "no name"] {
             let n = number(&raw, name);
             to.push(Case::new(
@@ -933,7 +1040,11 @@ fn collecting(to: &mut Vec<Case>) {
     // 9, alone and where a buffer is too short as well
     let doubled: Vec<String> = (1..=16)
         .map(|i| {
-            let ty = if i == 1 { "Long".to_string() } else { format!("(Record T{})", i - 1) };
+            let ty = if i == 1 {
+                "Long".to_string()
+            } else {
+                format!("(Record T{})", i - 1)
+            };
             format!("(TypeDef line={i} name=T{i} fields=[{{name=X ty={ty}}} {{name=Y ty={ty}}}])")
         })
         .collect();

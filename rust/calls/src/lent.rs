@@ -46,9 +46,7 @@ fn right(strings: &Strings<'_>, row: &Row) -> bool {
         128 => one == 0 && scoped(two) && [three, four, five] == [0; 3],
         129 => named && one == 0 && scoped(two) && [three, four, five] == [0; 3],
         130 => named && one == 0 && two <= 65_535 && three < SMALL && [four, five] == [0; 2],
-        131 => {
-            named && one < SMALL && name(strings, two) && three <= 65_535 && typed(four, five)
-        }
+        131 => named && one < SMALL && name(strings, two) && three <= 65_535 && typed(four, five),
         132 => named && one == 0 && constant(strings, two, three, four) && five == 0,
         133 => named && scoped(one) && two < SMALL && three < SMALL && four <= 1 && five == 0,
         134 => named && scoped(one) && typed(two, three) && [four, five] == [0; 2],

@@ -16,7 +16,10 @@ pub fn line(case: &Case) -> String {
     let mut after = case.clone();
     let answer = answer(&mut after);
     let mut out = case.label.clone();
-    let reads = matches!(case.entry, Entry::Statement | Entry::Expression | Entry::ConstEval);
+    let reads = matches!(
+        case.entry,
+        Entry::Statement | Entry::Expression | Entry::ConstEval
+    );
     match answer {
         Ok(text) => write!(out, " {text}"),
         // The reading place stays.
@@ -256,7 +259,10 @@ fn collisions(case: &mut Case, strings: &Strings<'_>) -> Answer {
         case.notes.fill(0);
         return refused(8);
     }
-    let words: Vec<Row> = found.iter().map(|d| oracle::words_of(d, &numbers)).collect();
+    let words: Vec<Row> = found
+        .iter()
+        .map(|d| oracle::words_of(d, &numbers))
+        .collect();
     fill(&mut case.notes, &words);
     Ok(format!("0 {}", words.len()))
 }
@@ -280,8 +286,7 @@ fn emptied(case: &mut Case, r: Refusal) -> Refusal {
 fn collect(case: &mut Case) -> Answer {
     let raw = case.raw.clone();
     let input = oracle::input(&raw)?;
-    let (rows, notes) =
-        oracle::collected(&input, lent_by(case)).map_err(|r| emptied(case, r))?;
+    let (rows, notes) = oracle::collected(&input, lent_by(case)).map_err(|r| emptied(case, r))?;
     let notes: Vec<Row> = notes
         .iter()
         .map(|d| oracle::words_of(d, &input.numbers))

@@ -105,11 +105,7 @@ pub fn expression_at(words: &[u32], at: usize, strings: &Strings<'_>) -> Read<(E
 }
 
 /// A list of expressions at a place.
-pub fn expressions_at(
-    words: &[u32],
-    at: usize,
-    strings: &Strings<'_>,
-) -> Read<(Vec<Expr>, usize)> {
+pub fn expressions_at(words: &[u32], at: usize, strings: &Strings<'_>) -> Read<(Vec<Expr>, usize)> {
     at_place(words, at, strings, |r| r.exprs(1))
 }
 

@@ -7,8 +7,8 @@ use crate::limits::{Stepper, may_stop};
 use crate::raw::{MAX_DIAGNOSTICS, MAX_ROWS, Raw, Refusal};
 use crate::sema::{Diagnostic, Original, Scope, Symbols};
 pub use crate::table::Row;
-pub use crate::table::{Numbers, scope_of, symbols};
 use crate::table::rows;
+pub use crate::table::{Numbers, scope_of, symbols};
 use std::collections::HashSet;
 use std::fmt::Write;
 
@@ -72,10 +72,7 @@ pub fn stepwise(mut input: Input<'_>, lent: Lent) -> Result<Analysis, Refusal> {
 }
 
 /// `collect` alone: its rows and diagnostics, or number 7, 8 or 9.
-pub fn collected(
-    input: &Input<'_>,
-    lent: Lent,
-) -> Result<(Vec<Row>, Vec<Diagnostic>), Refusal> {
+pub fn collected(input: &Input<'_>, lent: Lent) -> Result<(Vec<Row>, Vec<Diagnostic>), Refusal> {
     let mut stepper = Stepper::new(input.erased.clone(), lent);
     stepper.collect(&input.program, &Scope::Module)?;
     let diagnostics = std::mem::take(stepper.original.diagnostics_mut());

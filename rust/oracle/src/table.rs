@@ -214,7 +214,10 @@ pub fn symbols(rows: &[Row], strings: &[&str]) -> Symbols {
                     record.fields.push((field, FieldInfo { word, ty }));
                 }
             }
-            132 => drop(s.consts.insert(name(), literal_of(r[2], r[3], r[4], strings))),
+            132 => drop(
+                s.consts
+                    .insert(name(), literal_of(r[2], r[3], r[4], strings)),
+            ),
             133 => {
                 let info = ArrayInfo {
                     rank: r[2] as usize,

@@ -342,7 +342,7 @@ fn by_expression(at: usize, bytes: &[u8], ends: &[u32], words: &[u32]) {
     tell_moved(past.at, answer);
 }
 
-// Entries 0 to 5: reading at a place, and the check of a program.
+// Entries 0 to 6: reading at a place, and the check of a program.
 fn read(ask: Ask, bytes: &[u8], ends: &[u32], words: &[u32], erased: &[u32]) {
     let at = place_of(ask.a);
     let entry = ask.entry;
@@ -352,29 +352,30 @@ fn read(ask: Ask, bytes: &[u8], ends: &[u32], words: &[u32], erased: &[u32]) {
         2 => by_statement(at, bytes, ends, words),
         3 => by_expression(at, bytes, ends, words),
         4 => tell_accepted(reader::accept(bytes, ends, words, erased)),
-        _ => place(cursor::past_statement(at, bytes, ends, words)),
+        5 => place(cursor::past_statement(at, bytes, ends, words)),
+        _ => place(cursor::past_expression(at, bytes, ends, words)),
     }
 }
 
-// Entries 6 to 13: the lookups.
+// Entries 7 to 14: the lookups.
 fn look(ask: Ask, bytes: &[u8], ends: &[u32], rows: &[u32]) {
     let a = ask.a;
     let b = ask.b;
     let array = ask.c == 1;
     let entry = ask.entry;
     match entry {
-        6 => tell_flag(leaves::shares(bytes, ends, rows, a, b, array)),
-        7 => tell_flag(leaves::is_static(bytes, ends, rows, a, b, array)),
-        8 => tell_count(leaves::type_words(bytes, ends, rows, a, b)),
-        9 => tell_type(leaves::typed_var(bytes, ends, rows, a, b)),
-        10 => tell_type(leaves::typed_var_in(bytes, ends, rows, a, b)),
-        11 => tell_array(leaves::lookup_array(bytes, ends, rows, a, b)),
-        12 => tell_class(leaves::declared_type(bytes, ends, rows, a, b)),
+        7 => tell_flag(leaves::shares(bytes, ends, rows, a, b, array)),
+        8 => tell_flag(leaves::is_static(bytes, ends, rows, a, b, array)),
+        9 => tell_count(leaves::type_words(bytes, ends, rows, a, b)),
+        10 => tell_type(leaves::typed_var(bytes, ends, rows, a, b)),
+        11 => tell_type(leaves::typed_var_in(bytes, ends, rows, a, b)),
+        12 => tell_array(leaves::lookup_array(bytes, ends, rows, a, b)),
+        13 => tell_class(leaves::declared_type(bytes, ends, rows, a, b)),
         _ => tell_taking(leaves::builtin(bytes, ends, a)),
     }
 }
 
-// Entries 14 to 17: what collecting asks, and collecting.
+// Entries 15 to 18: what collecting asks, and collecting.
 fn gather(
     ask: Ask,
     bytes: &[u8],
@@ -387,29 +388,32 @@ fn gather(
     let a = ask.a;
     let entry = ask.entry;
     match entry {
-        14 => tell_evaluation(evaluate::const_eval(place_of(a), bytes, ends, words, rows)),
-        15 => tell_use(uses::subscript_count(bytes, ends, words, a)),
-        16 => tell_collided(collisions::check_name_collisions(bytes, ends, rows, notes)),
+        15 => tell_evaluation(evaluate::const_eval(place_of(a), bytes, ends, words, rows)),
+        16 => tell_use(uses::subscript_count(bytes, ends, words, a)),
+        17 => tell_collided(collisions::check_name_collisions(bytes, ends, rows, notes)),
         _ => tell_collected(collection::collect(bytes, ends, words, erased, rows, notes)),
     }
 }
 
-// Entries 18 to 20: resolving.
+// Entries 19 to 21: resolving.
 fn rewrite(ask: Ask, bytes: &[u8], ends: &[u32], words: &[u32], rows: &[u32], out: &mut [u32]) {
     let scope = ask.a;
     let name = ask.b;
     let at = place_of(ask.c);
     let entry = ask.entry;
     match entry {
-        18 => tell_resolution(resolution::resolve_expr(
-            bytes, ends, words, rows, scope, at, out,
+        19 => tell_resolution(resolution::resolve_expr(bytes, ends, words, rows, scope, at, out)),
+        20 => tell_resolution(resolution::resolve_args(
+            bytes,
+            ends,
+            words,
+            rows,
+            scope,
+            name,
+            at,
+            out,
         )),
-        19 => tell_resolution(resolution::resolve_args(
-            bytes, ends, words, rows, scope, name, at, out,
-        )),
-        _ => tell_resolution(resolution::resolve_array_accesses(
-            bytes, ends, words, rows, out,
-        )),
+        _ => tell_resolution(resolution::resolve_array_accesses(bytes, ends, words, rows, out)),
     }
 }
 
@@ -425,19 +429,17 @@ fn answer(
 ) {
     let entry = ask.entry;
     match entry {
-        0..=5 => read(ask, bytes, ends, words, erased),
-        6..=13 => look(ask, bytes, ends, rows),
-        14..=17 => gather(ask, bytes, ends, words, erased, rows, notes),
-        18..=20 => rewrite(ask, bytes, ends, words, rows, out),
-        _ => tell_analysis(analyse::analyse(
-            bytes, ends, words, erased, notes, rows, out,
-        )),
+        0..=6 => read(ask, bytes, ends, words, erased),
+        7..=14 => look(ask, bytes, ends, rows),
+        15..=18 => gather(ask, bytes, ends, words, erased, rows, notes),
+        19..=21 => rewrite(ask, bytes, ends, words, rows, out),
+        _ => tell_analysis(analyse::analyse(bytes, ends, words, erased, notes, rows, out)),
     }
 }
 
-// What stands in the buffers afterwards; entries below 16 write none.
+// What stands in the buffers afterwards; entries below 17 write none.
 fn left(entry: u32, rows: &[u32], notes: &[u32], out: &[u32]) {
-    if entry < 16 {
+    if entry < 17 {
         return;
     }
     show(b" rows", rows);

@@ -13,6 +13,7 @@ pub enum Entry {
     Expression,
     Accept,
     PastStatement,
+    PastExpression,
     Shares,
     IsStatic,
     TypeWords,

@@ -5,13 +5,14 @@ use image::raw::Raw;
 use oracle::Row;
 use oracle::sema::builtin_names;
 
-const EVERY: [Entry; 22] = [
+const EVERY: [Entry; 23] = [
     Entry::ReadStatement,
     Entry::ReadExpression,
     Entry::Statement,
     Entry::Expression,
     Entry::Accept,
     Entry::PastStatement,
+    Entry::PastExpression,
     Entry::Shares,
     Entry::IsStatic,
     Entry::TypeWords,
@@ -120,9 +121,11 @@ fn right(label: String, entry: Entry, strings: &Raw) -> Case {
     let mut raw = strings.clone();
     let mut numbers = [0; 3];
     raw.tree = match entry {
-        Entry::ReadExpression | Entry::Expression | Entry::ConstEval | Entry::ResolveExpr => {
-            LITERAL.to_vec()
-        }
+        Entry::ReadExpression
+        | Entry::Expression
+        | Entry::PastExpression
+        | Entry::ConstEval
+        | Entry::ResolveExpr => LITERAL.to_vec(),
         Entry::ResolveArgs => [&[1 << 24 | 1], &LITERAL[..]].concat(),
         _ => program("(program (Cls line=7))").tree,
     };
@@ -181,7 +184,7 @@ fn cause(case: &mut Case, cause: u32) -> bool {
             let expr = [vec![PAREN; 100], LITERAL.to_vec()].concat();
             let wrong = case.raw.tree.contains(&WRONG);
             case.raw.tree = match entry {
-                ReadExpression | Expression | ConstEval | ResolveExpr => expr,
+                ReadExpression | Expression | PastExpression | ConstEval | ResolveExpr => expr,
                 _ if list => [vec![1 << 24 | 1], expr].concat(),
                 _ => [vec![1 << 24 | 1], nested(100), vec![CLS]].concat(),
             };
@@ -312,6 +315,7 @@ fn places(to: &mut Vec<Case>) {
         Entry::Statement,
         Entry::Expression,
         Entry::PastStatement,
+        Entry::PastExpression,
         Entry::ConstEval,
     ];
     for entry in entries {
@@ -357,6 +361,8 @@ fn depths(to: &mut Vec<Case>) {
                 (Entry::ReadExpression, [at, 0, 0]),
                 (Entry::Expression, [at, 0, 0]),
                 (Entry::Expression, [at + 1, 0, 0]),
+                (Entry::PastExpression, [at, 0, 0]),
+                (Entry::PastExpression, [at + 1, 0, 0]),
                 (Entry::ConstEval, [at, 0, 0]),
                 (Entry::ConstEval, [at + 2, 0, 0]),
                 (Entry::ResolveExpr, [0, 0, at]),
@@ -382,6 +388,7 @@ fn depths(to: &mut Vec<Case>) {
         for (entry, numbers) in [
             (Entry::ReadExpression, [0; 3]),
             (Entry::Expression, [0; 3]),
+            (Entry::PastExpression, [0; 3]),
             (Entry::ConstEval, [0; 3]),
             (Entry::ResolveExpr, [0; 3]),
         ] {

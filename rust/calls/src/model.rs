@@ -20,11 +20,12 @@ pub fn line(case: &Case) -> String {
         case.entry,
         Entry::Statement | Entry::Expression | Entry::ConstEval
     );
+    let past = matches!(case.entry, Entry::PastStatement | Entry::PastExpression);
     match answer {
         Ok(text) => write!(out, " {text}"),
         // The reading place stays.
         Err(r) if reads => write!(out, " {} {} at {}", r.number, r.place, case.numbers[0]),
-        Err(_) if case.entry == Entry::PastStatement => write!(out, " {}", case.numbers[0]),
+        Err(_) if past => write!(out, " {}", case.numbers[0]),
         Err(r) => write!(out, " {} {}", r.number, r.place),
     }
     .expect("a String takes all");
@@ -88,9 +89,8 @@ fn answer(case: &mut Case) -> Answer {
     let raw = case.raw.clone();
     let strings = raw.strings()?;
     match case.entry {
-        ReadStatement | ReadExpression | Statement | Expression | Accept | PastStatement => {
-            reading(case, &strings)
-        }
+        ReadStatement | ReadExpression | Statement | Expression | Accept | PastStatement
+        | PastExpression => reading(case, &strings),
         Shares | IsStatic | TypeWords | TypedVar | TypedVarIn | LookupArray | DeclaredType => {
             lookup(case, &strings)
         }
@@ -134,7 +134,7 @@ fn reading(case: &Case, strings: &Strings<'_>) -> Answer {
         _ => codec::expression_at(tree, at, strings)?.1,
     };
     Ok(match case.entry {
-        Entry::PastStatement => format!("{end}"),
+        Entry::PastStatement | Entry::PastExpression => format!("{end}"),
         Entry::Statement | Entry::Expression => format!("0 {} {at} {end} at {end}", tree[at]),
         _ => format!("0 {} {at} {end}", tree[at]),
     })

@@ -1,7 +1,8 @@
-// Calls the public entries on cases from standard input and prints a line for each: its label, the number and place or 0 and what was answered, and every
-// word of the buffers lent to be written, afterwards. The expected lines are made in Rust, by the original and by models of document 01 (docs/ORACLE.md says how).
-// A case is a label, the entry and its four numbers, string bytes, ends, tree words, erased names, rows, diagnostics and output; each of them begins with
-// its length, in 32 bits, little-endian, but for the entry and its numbers, which are five words.
+// Calls the public entries on cases from standard input and prints a line for each: its label, then the refusal's number and place, or 0 and what was answered;
+// for an entry that writes, then every word of rows, diagnostics and output afterwards. The lines that must come are made in Rust, by the original and from
+// document 01, and not by this program (docs/ORACLE.md).
+// A case is its label, the entry and three numbers, the string bytes, ends, tree words, erased names, rows, diagnostics and output. All are words of 32 bits,
+// little-endian, but label and string bytes; each part but the four words of the entry begins with its length.
 use analyse::Given;
 use collection::Sizes;
 use collisions::Collided;

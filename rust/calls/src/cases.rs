@@ -438,7 +438,7 @@ fn over(label: String, entry: Entry, rows: Vec<u32>) -> Case {
 }
 
 fn rules(to: &mut Vec<Case>) {
-    let rights: [(u32, u32, &[u32]); 22] = [
+    let rights: [(u32, u32, &[u32]); 24] = [
         (128, 0, &[0, 2, 0, 0, 0]),
         (129, 1, &[0, 0, 0, 0, 0]),
         (130, 1, &[0, 8, 3, 0, 0]),
@@ -458,7 +458,9 @@ fn rules(to: &mut Vec<Case>) {
         (136, 1, &[0, 2, 3, 0, 0]),
         (137, 1, &[1, 0, 0, 0, 0]),
         (138, 1, &[2, 3, 0, 0, 0]),
+        (139, 1, &[2, 3, 0, 0, 0]),
         (140, 1, &[0, 0, 0, 0, 0]),
+        (141, 1, &[0, 0, 0, 0, 0]),
         (142, 1, &[2, 0, 0, 0, 0]),
         (143, 0, &[0, 1, 0, 0, 0]),
     ];
@@ -528,15 +530,6 @@ fn rules(to: &mut Vec<Case>) {
     for kind in [0, 127, 144, 255] {
         let rows = row(kind, 1, &[]).to_vec();
         to.push(over(format!("a row of kind {kind}"), Entry::TypedVar, rows));
-    }
-    // 139 and 141 have the rules of 138 and 140
-    for (kind, word) in [(139, 0), (139, 1), (139, 3), (139, 4), (141, 0), (141, 1)] {
-        let rows = row(kind, 1, &[if kind == 139 { 2 } else { 0 }, word]).to_vec();
-        to.push(over(
-            format!("row {kind} word 2 {word}"),
-            Entry::IsStatic,
-            rows,
-        ));
     }
 }
 
@@ -1095,7 +1088,7 @@ fn resolving(to: &mut Vec<Case>) {
             to.push(case);
         }
     }
-    // the value of the first statement, at 5, and the list of the CALL's arguments
+    // the value of the first statement, and the list of the CALL's arguments
     let strings = raw.strings().expect("a right table");
     let at = 4;
     let (_, end) = oracle::codec::expression_at(&raw.tree, at, &strings).expect("the value");

@@ -7,10 +7,6 @@ use lib.Seq.{length-take-le}
 use borrow.Author.Needs.{needs}
 use Rattle.calls.proofs.read_bytes.Statement.{statement}
 use Rattle.calls.proofs.read_bytes.Tie as tie
-use Rattle.calls.proofs.read_bytes.Reads as reads
-use Rattle.calls.proofs.read_bytes.Lts as lts
-use Rattle.calls.proofs.read_length.Reads as read-length-reads
-use Rattle.calls.proofs.read_part.Reads as read-part-reads
 
 read-length-requires : tie.Need-read-length-requires
 read-length-requires c κs = search needs

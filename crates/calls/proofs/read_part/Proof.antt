@@ -4,27 +4,19 @@ use lib.Seq.{length-take-le}
 use borrow.Author.Needs.{needs}
 use Rattle.calls.proofs.read_part.Statement.{statement}
 use Rattle.calls.proofs.read_part.Tie as tie
-use Rattle.calls.proofs.read_part.Reads as reads
-use Rattle.calls.proofs.read_part.Lts as lts
-use Rattle.io.proofs.read_full.Reads as read-full-reads
 
--- src/main.rt:56:33
 slice-relend-prefix-read-full : tie.Need-slice-relend-prefix-read-full
 slice-relend-prefix-read-full c = search needs
 
--- src/main.rt:56:33
 slice-aggregate-read-full : tie.Need-slice-aggregate-read-full
 slice-aggregate-read-full c = sym (length-take-le _ _ (c .before .before .pre))
 
--- src/main.rt:56:5
 read-full-requires : tie.Need-read-full-requires
 read-full-requires c κs = search needs
 
--- src/main.rt:53:1
 same-length : tie.Need-same-length
 same-length c = search needs
 
--- src/main.rt:53:1
 returns : tie.Need-returns
 returns c = search needs
 

@@ -7,10 +7,6 @@ use lib.Seq.{length-take-le}
 use borrow.Author.Needs.{needs}
 use Rattle.calls.proofs.read_words.Statement.{statement}
 use Rattle.calls.proofs.read_words.Tie as tie
-use Rattle.calls.proofs.read_words.Reads as reads
-use Rattle.calls.proofs.read_words.Lts as lts
-use Rattle.calls.proofs.read_length.Reads as read-length-reads
-use Rattle.calls.proofs.read_word.Reads as read-word-reads
 
 abbrev Inv-loop : tie.InvT-loop
 Inv-loop w₀ n i₀ w i = (length w ≡ length w₀) × (n ≤ length w)

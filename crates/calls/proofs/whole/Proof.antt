@@ -11,8 +11,6 @@ use mir.Syntax.{w64}
 use mir.Val.{toZ, ofZ}
 use Rattle.calls.proofs.whole.Statement.{statement}
 use Rattle.calls.proofs.whole.Tie as tie
-use Rattle.calls.proofs.whole.Reads as reads
-use Rattle.calls.proofs.whole.Lts as lts
 
 small : (z : ℤ) → ltZ z (negsuc 4294967294) ≡ false → ltZ (pos 4294967295) z ≡ false → natAbs z < 4294967296
 small (pos a) l h = let k : a ≤ 4294967295 = ltb-false 4294967295 a h in omega arith

@@ -60,3 +60,12 @@ pub fn past_statement(at: usize, bytes: &[u8], ends: &[u32], words: &[u32]) -> u
     next_statement(&mut c, bytes, ends, words);
     c.at
 }
+
+// The same of an expression.
+pub fn past_expression(at: usize, bytes: &[u8], ends: &[u32], words: &[u32]) -> usize
+    ensures { λ r. ⌜ Past expressionOf (now (bytes .entry)) (now (ends .entry)) (now (words .entry)) at r ⌝ }
+{
+    let mut c = Reader { at };
+    next_expression(&mut c, bytes, ends, words);
+    c.at
+}

@@ -82,6 +82,33 @@ pub fn decode(words: &[u32], strings: &Strings<'_>) -> Read<Vec<Stmt>> {
     Ok(program)
 }
 
+/// What stands at a place, at depth 1, and the place past it. Words after it are allowed.
+fn at_place<T>(
+    words: &[u32],
+    at: usize,
+    strings: &Strings<'_>,
+    read: impl FnOnce(&mut Reader<'_>) -> Read<T>,
+) -> Read<(T, usize)> {
+    let mut reader = Reader { words, at, strings };
+    let node = read(&mut reader)?;
+    Ok((node, reader.at))
+}
+
+/// One statement at a place.
+pub fn statement_at(words: &[u32], at: usize, strings: &Strings<'_>) -> Read<(Stmt, usize)> {
+    at_place(words, at, strings, |r| r.stmt(1))
+}
+
+/// One expression at a place.
+pub fn expression_at(words: &[u32], at: usize, strings: &Strings<'_>) -> Read<(Expr, usize)> {
+    at_place(words, at, strings, |r| r.expr(1))
+}
+
+/// A list of expressions at a place.
+pub fn expressions_at(words: &[u32], at: usize, strings: &Strings<'_>) -> Read<(Vec<Expr>, usize)> {
+    at_place(words, at, strings, |r| r.exprs(1))
+}
+
 struct Reader<'a> {
     words: &'a [u32],
     at: usize,
@@ -575,6 +602,16 @@ pub fn encode(program: &[Stmt], numbers: &HashMap<&str, u32>) -> Vec<u32> {
         number: |s| numbers[s],
     };
     writer.body(program);
+    writer.words
+}
+
+/// The words of a list of expressions.
+pub fn encode_exprs(exprs: &[Expr], numbers: &HashMap<&str, u32>) -> Vec<u32> {
+    let mut writer = Writer {
+        words: Vec::new(),
+        number: |s| numbers[s],
+    };
+    writer.exprs(exprs);
     writer.words
 }
 

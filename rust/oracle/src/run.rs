@@ -7,7 +7,8 @@ use crate::limits::{Stepper, may_stop};
 use crate::raw::{MAX_DIAGNOSTICS, MAX_ROWS, Raw, Refusal};
 use crate::sema::{Diagnostic, Original, Scope, Symbols};
 pub use crate::table::Row;
-use crate::table::{Numbers, rows};
+use crate::table::rows;
+pub use crate::table::{Numbers, scope_of, symbols};
 use std::collections::HashSet;
 use std::fmt::Write;
 
@@ -70,6 +71,14 @@ pub fn stepwise(mut input: Input<'_>, lent: Lent) -> Result<Analysis, Refusal> {
     Ok(finish(stepper.original, collected, input))
 }
 
+/// `collect` alone: its rows and diagnostics, or number 7, 8 or 9.
+pub fn collected(input: &Input<'_>, lent: Lent) -> Result<(Vec<Row>, Vec<Diagnostic>), Refusal> {
+    let mut stepper = Stepper::new(input.erased.clone(), lent);
+    stepper.collect(&input.program, &Scope::Module)?;
+    let diagnostics = std::mem::take(stepper.original.diagnostics_mut());
+    Ok((rows(&stepper.original, &input.numbers), diagnostics))
+}
+
 fn finish(mut original: Original, collected: usize, mut input: Input<'_>) -> Analysis {
     let rows = rows(&original, &input.numbers);
     let collisions = original.diagnostics_mut().split_off(collected);
@@ -87,7 +96,7 @@ fn finish(mut original: Original, collected: usize, mut input: Input<'_>) -> Ana
 /// The collisions, which the original pushes in its hash map's order, in the order of the array rows.
 ///
 /// Two that agree in name and line are the same text, so either may come first.
-fn in_row_order(
+pub fn in_row_order(
     collisions: Vec<Diagnostic>,
     rows: &[Row],
     numbers: &Numbers<'_>,
@@ -163,6 +172,33 @@ fn words(out: &mut String, letter: char, words: &[u32]) {
         }
     }
     out.push('\n');
+}
+
+/// Document 01's six words of a diagnostic, by the original's text: code, line, the names in the message's order, the number shown, the note's line.
+pub fn words_of(d: &Diagnostic, numbers: &Numbers<'_>) -> Row {
+    let code = code(d);
+    // What stands between apostrophes and is no name is a possessive's end.
+    let mut names = d.message.split('\'').skip(1).step_by(2);
+    let mut name = || names.find_map(|n| numbers.get(n)).map_or(0, |n| n + 1);
+    let names = [name(), name()];
+    let after = |text: &str, mark: &str| {
+        let at = text.find(mark).expect("the number's mark") + mark.len();
+        let digits = text[at..].split(|c: char| !c.is_ascii_digit()).next();
+        digits.and_then(|n| n.parse().ok()).expect("a number")
+    };
+    let number = match code {
+        1 => after(&d.message, "number "),
+        13 => u32::from(d.message.starts_with("STATIC")),
+        20 | 21 => after(&d.message, "must keep its "),
+        22 | 23 => after(&d.message, "STRING * "),
+        27 => u32::from(d.message.ends_with("FUNCTION")),
+        _ => 0,
+    };
+    let note = match (code, &d.note) {
+        (3 | 25 | 27, Some(note)) => after(note, "is on line "),
+        _ => 0,
+    };
+    [code, d.line, names[0], names[1], number, note]
 }
 
 /// Document 01's code of a diagnostic, by the original's text.

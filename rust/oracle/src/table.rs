@@ -1,7 +1,7 @@
 //! Document 01's rows, from the original's hash maps.
 
-use crate::ast::{Literal, TypeRef};
-use crate::sema::{NameSets, Original, Scope};
+use crate::ast::{Literal, Param, TypeRef};
+use crate::sema::{ArrayInfo, FieldInfo, NameSets, Original, ProcInfo, RecordInfo, Scope, Symbols};
 use std::collections::HashMap;
 
 pub type Row = [u32; 6];
@@ -142,6 +142,139 @@ pub fn rows(original: &Original, numbers: &Numbers<'_>) -> Vec<Row> {
     debug_assert!(rows.windows(2).all(|w| w[0][..2] < w[1][..2]));
     rows
 }
+
+fn type_of(head: u32, arg: u32, strings: &[&str]) -> Option<TypeRef> {
+    Some(match head {
+        0 => return None,
+        40 => TypeRef::Integer,
+        41 => TypeRef::Long,
+        42 => TypeRef::Single,
+        43 => TypeRef::Double,
+        44 => TypeRef::FixedString(arg as usize),
+        _ => TypeRef::Record(strings[arg as usize].to_string()),
+    })
+}
+
+fn literal_of(kind: u32, low: u32, high: u32, strings: &[&str]) -> Literal {
+    let bits = u64::from(high) << 32 | u64::from(low);
+    match kind {
+        24 => Literal::Integer(bits as i64),
+        25 => Literal::Long(bits as i64),
+        26 => Literal::Single(f64::from_bits(bits)),
+        27 => Literal::Float(f64::from_bits(bits)),
+        _ => Literal::String(strings[low as usize].to_string()),
+    }
+}
+
+/// Names of items with these marks.
+fn put_items(sets: &mut NameSets, name: &str, mark: u32) {
+    if mark & 1 != 0 {
+        sets.vars.insert(name.to_string());
+    }
+    if mark & 2 != 0 {
+        sets.arrays.insert(name.to_string());
+    }
+}
+
+/// The scope of a word: 0 the module, else a string's number plus 1.
+pub fn scope_of(word: u32, strings: &[&str]) -> Scope {
+    match word {
+        0 => Scope::Module,
+        n => Scope::Proc(strings[n as usize - 1].to_string()),
+    }
+}
+
+/// The original's tables, from rows that meet the rule of a lent table.
+///
+/// A field without its TYPE, a parameter without its procedure, and an item of the module's scope have no place in the original's tables and can't be
+/// asked there. An ordinal that no row has becomes a BYVAL parameter, which keeps no parentheses either.
+pub fn symbols(rows: &[Row], strings: &[&str]) -> Symbols {
+    let mut s = Symbols::default();
+    for r in rows {
+        let payload = r[0] & 0x00ff_ffff;
+        let name = || strings[payload as usize].to_string();
+        let scope = |w: u32| scope_of(w, strings);
+        match r[0] >> 24 {
+            128 => drop(s.lines.insert(payload, scope(r[2]))),
+            129 => drop(s.labels.insert(name(), scope(r[2]))),
+            130 => {
+                let record = RecordInfo {
+                    fields: Vec::new(),
+                    words: r[2] as i32,
+                    line: r[3],
+                };
+                s.records.insert(name(), record);
+            }
+            131 => {
+                if let (Some(record), Some(ty)) =
+                    (s.records.get_mut(&name()), type_of(r[4], r[5], strings))
+                {
+                    let word = r[3] as i32;
+                    let field = strings[r[2] as usize].to_string();
+                    record.fields.push((field, FieldInfo { word, ty }));
+                }
+            }
+            132 => drop(
+                s.consts
+                    .insert(name(), literal_of(r[2], r[3], r[4], strings)),
+            ),
+            133 => {
+                let info = ArrayInfo {
+                    rank: r[2] as usize,
+                    line: r[3],
+                    has_lower: r[4] == 1,
+                    implicit: false,
+                };
+                s.arrays.insert((scope(r[1]), name()), info);
+            }
+            134 => {
+                let ty = type_of(r[2], r[3], strings).expect("a typed variable has a type");
+                s.typed_vars.insert((scope(r[1]), name()), ty);
+            }
+            135 => {
+                let info = ProcInfo {
+                    is_function: r[2] == 1,
+                    params: Vec::new(),
+                    ret_ty: type_of(r[4], r[5], strings),
+                    line: r[3],
+                };
+                s.procs.insert(name(), info);
+            }
+            136 => {
+                if let Some(info) = s.procs.get_mut(&name()) {
+                    let param = |name: &str, mark: u32, ty| Param {
+                        name: name.to_string(),
+                        byval: mark & 1 != 0,
+                        array: mark & 2 != 0,
+                        ty,
+                    };
+                    let ordinal = (r[1] as usize).min(MOST_ORDINALS);
+                    info.params.resize_with(ordinal, || param("", 1, None));
+                    let ty = type_of(r[4], r[5], strings);
+                    info.params.push(param(strings[r[2] as usize], r[3], ty));
+                }
+            }
+            137 => put_items(&mut s.shared_all, &name(), 1 + r[1]),
+            138 | 139 if r[1] == 0 => {}
+            138 => {
+                let proc = strings[r[1] as usize - 1].to_string();
+                put_items(s.proc_shared.entry(proc).or_default(), &name(), r[2]);
+            }
+            139 => {
+                let proc = strings[r[1] as usize - 1].to_string();
+                put_items(s.proc_static.entry(proc).or_default(), &name(), r[2]);
+            }
+            140 => drop(s.static_procs.insert(name())),
+            141 => drop(s.def_fns.insert(name())),
+            142 => {}
+            _ => s.option_base = i64::from(r[2]),
+        }
+    }
+    s
+}
+
+/// No list has so many members that a greater ordinal could be asked for.
+const MOST_ORDINALS: usize = 8_192;
 
 /// How many rows there are, without building them.
 pub fn row_count(original: &Original) -> usize {

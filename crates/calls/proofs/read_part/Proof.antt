@@ -1,0 +1,31 @@
+-- `calls::read_part` meets its contract: the part that is read into is within the buffer. Assumes nothing.
+use mathlib.Core.Path.{sym}
+use lib.Seq.{length-take-le}
+use borrow.Author.Needs.{needs}
+use Rattle.calls.proofs.read_part.Statement.{statement}
+use Rattle.calls.proofs.read_part.Tie as tie
+
+slice-relend-prefix-read-full : tie.Need-slice-relend-prefix-read-full
+slice-relend-prefix-read-full c = search needs
+
+slice-aggregate-read-full : tie.Need-slice-aggregate-read-full
+slice-aggregate-read-full c = sym (length-take-le _ _ (c .before .before .pre))
+
+read-full-requires : tie.Need-read-full-requires
+read-full-requires c κs = search needs
+
+same-length : tie.Need-same-length
+same-length c = search needs
+
+returns : tie.Need-returns
+returns c = search needs
+
+pub read-part-spec : {M : Type 1} → statement M
+read-part-spec =
+    tie.close
+    (tie.spec
+    slice-relend-prefix-read-full
+    slice-aggregate-read-full
+    read-full-requires
+    same-length
+    returns)

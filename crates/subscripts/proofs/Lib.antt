@@ -4,3 +4,4 @@ pub mod Lists
 pub mod Targets
 pub mod Statements
 pub mod Walk
+pub mod Bodies

@@ -233,6 +233,10 @@ list-done {ss} {f} {g} {ws} {at} {a} {i} {u} {w} R h ns n rs end s c = let L = R
     go none t z p q = (sym (p ∙ orElse-none u), sym (q ∙ orElse-none w), omega (arith, t .wrote .span))
     go (more r rs) t z p q = absurd (omega arith)
 
+-- an answer is the list's, whatever the rows after it are
+pub list-found : {ss : Sorts} {f g : Tree Expr (row ss) → Option ℕ} {ws : List ℕ} {at a i : ℕ} {u w : Option ℕ} → ListRead f g ws at a i u w → ((o : Option ℕ) → orElse u o ≡ u) → (ns : List ℕ) (n : ℕ) (rs : Tree Expr (rows ss)) (end : ℕ) → Stands ws ns n (at + 1) rs end → count rs ≡ payOf (getD ws at 0) → u ≡ foldRows f rs
+list-found {f = f} R h ns n rs end s c = let L = R .gives ns n rs end s c in sym (L .first-is ∙ h (foldRows f (L .left)))
+
 -- ---- the items of PRINT
 
 -- i of n items sought

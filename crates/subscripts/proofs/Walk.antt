@@ -7,14 +7,14 @@ use mathlib.Core.Option.{none as nothing}
 use lib.ListN.{getD}
 use Rattle.words.specs.Word.{kindOf}
 use Rattle.expr.specs.Expr.{Expr}
-use Rattle.tree.specs.Sorts.{expr, stmt, body, Sorts, numberOf}
+use Rattle.tree.specs.Sorts.{expr, stmt, Sorts, numberOf}
 use Rattle.tree.specs.Tree.{strings, Shape, one, row, Tree, word, value, Stmt, list, part, this, that, done, cons, none, more}
 use Rattle.tree.specs.Stands.{Stands, SomeTree}
 use Rattle.tree.specs.Codes.{codes, sortAt, rowOf}
 use Rattle.skip.specs.Shape.{SomeExpr}
 use Rattle.plans.specs.Pieces.{Piece, exprPiece, stmtPiece, pieces}
 use Rattle.plans.specs.Plans.{Walks}
-use Rattle.plans.proofs.Walk.{walks-as, in-value, value-done, WalkedRows, rows-step, WalkedRow, row-step, head-kind, stmt-row, fields, body-sort}
+use Rattle.plans.proofs.Walk.{walks-as, in-value, value-done, WalkedRows, rows-step, WalkedRow, row-step, head-kind, stmt-row, fields}
 use Rattle.views.specs.Uses.{own, plain, uses}
 use Rattle.subscripts.specs.Subscripts.{orElse, firstOf, inExpr, inStmt, subscriptCount}
 use Rattle.subscripts.specs.Code.{useOf, SeeksExpr, SeeksStmt, targeted, ownUse, nestedUse, Counted, Joins}
@@ -115,7 +115,3 @@ stmt-done {ws} {at} {name} {w} {u} z W q = record { gives = λ ns n v end s. go 
         let t : targeted (64 + numberOf k) ≡ false = ap targeted (sym (head-kind s)) ∙ z in
         let p : inStmt usedIn name (uses k r) ≡ firstOf (inExpr name) (own r) = ap (inStmt usedIn name) (plain-uses k r t) in
         (q ∙ ap₂ orElse (g .1 .own-is ∙ own-pieces name r ∙ sym p) (g .1 .nested-is ∙ nested-pieces name r), g .0)
-
--- a body
-pub body-done : {ws : List ℕ} {at to name : ℕ} {o m : Use} → Walks (one (sortAt 68)) ws at to (Counted name o m) → (ns : List ℕ) (n : ℕ) (v : Tree Expr (one body)) (end : ℕ) → Stands ws ns n at v end → useOf m ≡ subscriptCount usedIn name v
-body-done {name = name} {o} {m} W ns n v end s = walks-as {P = Counted name o m} (ap one (sym body-sort)) W .gives ns n v end s .1 .nested-is ∙ nested-pieces name v

@@ -448,12 +448,21 @@ fn row(words: &[u32], at: usize, name: u32, r: usize) -> Walked
     w
 }
 
-// How many subscripts the name is given first in the body at `at`.
+// How many subscripts the name is given first in the body at `at`. No statement after the one with that use is looked at.
 pub fn subscript_count(words: &[u32], at: usize, name: u32) -> Use
     requires { ⌜ SomeTree (one body) (now words) at ⌝ }
     ensures { λ r. ⌜ ((ns : List ℕ) (n : ℕ) (v : Tree Expr (one body)) (end : ℕ) → Stands (now (words .entry)) ns n at v end → useOf r ≡ subscriptCount (λ name (e : Expr). inExpr name e) name v) ⌝ }
 {
-    let w = field(words, at, name, 68);
-    let first = w.nested;
-    first
+    let n = words[at] % 16777216;
+    let mut m = at + 1;
+    let mut i = 0;
+    while i < n {
+        let s = stmt(words, m, name);
+        if s.first.found {
+            return s.first;
+        }
+        m = s.next;
+        i += 1;
+    }
+    no_use()
 }

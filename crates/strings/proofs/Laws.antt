@@ -14,7 +14,7 @@ use borrow.Author.Tests.{lt-ltb, le-ltb, le-leb, lt-leb, eq-eqb, ne-eqb, ltb-tru
 use Rattle.words.specs.Word.{pick}
 use Rattle.strings.specs.Order.{order, isBelow}
 use Rattle.strings.specs.Name.{between, inner, suffix, rest, isName}
-use Rattle.strings.specs.Table.{Names, part, startOf, stringAt, allPrintable, endRight, rises, lastRight, rightAt, allBelow, sound, breaksAt, marksBelow, namesOf, Bounds}
+use Rattle.strings.specs.Table.{Names, part, startOf, stringAt, allPrintable, endRight, rises, lastRight, rightAt, isPlain, allBelow, sound, breaksAt, marksBelow, namesOf, Bounds}
 use Rattle.strings.specs.Open.{Said, verdictOf}
 use Rattle.strings.specs.declared.Verdict.the-variants.{Sound, Breaks}
 use Rattle.strings.specs.declared.Order.{Order}
@@ -61,6 +61,22 @@ and-true a b e = rw e refl
 pub and-false : (a b : Bool) → a ≡ false → (a && b) ≡ false
 and-false a b e = rw e refl
 
+pub and-left : (a b : Bool) → (a && b) ≡ true → a ≡ true
+and-left true b e = refl
+and-left false b e = e
+
+pub and-right : (a b : Bool) → (a && b) ≡ true → b ≡ true
+and-right true b e = e
+and-right false b e = absurd (false≢true e)
+
+pub and-true-right : (a b : Bool) → b ≡ true → (a && b) ≡ a
+and-true-right true b e = e
+and-true-right false b e = refl
+
+pub and-none : (a b : Bool) → b ≡ false → (a && b) ≡ false
+and-none true b e = e
+and-none false b e = refl
+
 module _ (s : List ℕ) (i : ℕ) where
   -- a byte that another follows
   pub rest-more : i + 1 < length s → rest (drop i s) ≡ (inner (getD s i 0) && rest (drop (i + 1) s))
@@ -83,6 +99,21 @@ module _ (s : List ℕ) (i : ℕ) where
   unfolding allPrintable
   printable-none p = rw (drop-of-length-le s p) refl
 
+-- what is printable is so in each part
+printable-drop : (s : List ℕ) (n : ℕ) → allPrintable s ≡ true → allPrintable (drop n s) ≡ true
+unfolding allPrintable
+printable-drop s zero e = e
+printable-drop [] (suc n) e = e
+printable-drop (b ∷ bs) (suc n) e = printable-drop bs n (and-right (between 32 126 b) _ e)
+
+printable-take : (s : List ℕ) (n : ℕ) → allPrintable s ≡ true → allPrintable (take n s) ≡ true
+unfolding allPrintable
+printable-take s zero e = refl
+printable-take [] (suc n) e = refl
+printable-take (b ∷ bs) (suc n) e =
+    and-true (between 32 126 b) (allPrintable (take n bs)) (and-left (between 32 126 b) (allPrintable bs) e)
+    ∙ printable-take bs n (and-right (between 32 126 b) _ e)
+
 -- ---- the table
 
 pub start-zero : (ends : List ℕ) (i : ℕ) → i ≡ 0 → startOf ends i ≡ 0
@@ -95,15 +126,11 @@ unfolding startOf
 start-suc ends zero p = absurd (omega arith)
 start-suc ends (suc i) p = ap (λ (j : ℕ). getD ends j 0) (omega arith)
 
+pub start-next : (ends : List ℕ) (i : ℕ) → getD ends i 0 ≡ startOf ends (i + 1)
+unfolding startOf
+start-next ends i = rw (add-one i) refl
+
 -- ---- the rule
-
-pub and-left : (a b : Bool) → (a && b) ≡ true → a ≡ true
-and-left true b e = refl
-and-left false b e = e
-
-pub and-right : (a b : Bool) → (a && b) ≡ true → b ≡ true
-and-right true b e = e
-and-right false b e = absurd (false≢true e)
 
 pub name-empty : (s : List ℕ) → length s ≡ 0 → isName s ≡ false
 unfolding isName
@@ -118,11 +145,7 @@ name-long (b ∷ bs) p = and-false _ _ (lt-leb (length (b ∷ bs)) 40 p)
 pub name-first : (s : List ℕ) → between 65 90 (getD s 0 0) ≡ false → isName s ≡ false
 unfolding isName
 name-first [] e = refl
-name-first (b ∷ bs) e = ap (λ (x : Bool). leb (length (b ∷ bs)) 40 && x) (and-false _ _ e) ∙ and-none (leb (length (b ∷ bs)) 40)
-  where
-    and-none : (a : Bool) → (a && false) ≡ false
-    and-none true = refl
-    and-none false = refl
+name-first (b ∷ bs) e = and-none (leb (length (b ∷ bs)) 40) _ (and-false _ _ e)
 
 pub name-is : (s : List ℕ) → 0 < length s → length s ≤ 40 → between 65 90 (getD s 0 0) ≡ true → isName s ≡ rest (drop 1 s)
 unfolding isName
@@ -182,13 +205,19 @@ module _ (bytes ends : List ℕ) where
   unfolding rightAt endRight
   right-end-past i p q = and-false _ _ (and-true _ _ (le-leb (startOf ends i) (getD ends i 0) p) ∙ lt-leb (getD ends i 0) (length bytes) q)
 
-  -- the ends are right: the rest of the rule decides
-  pub right-is : (i a e : ℕ) → a ≡ startOf ends i → e ≡ getD ends i 0 → a ≤ e → e ≤ length bytes → rightAt bytes ends i ≡ (allPrintable (part a e bytes) && (rises bytes ends i && lastRight bytes ends i))
+  -- not above the string before it
+  pub right-not : (i : ℕ) → rises bytes ends i ≡ false → rightAt bytes ends i ≡ false
+  unfolding rightAt
+  right-not i h = and-none (endRight bytes ends i) _ (and-none (allPrintable (stringAt bytes ends i)) _ (and-false (rises bytes ends i) _ h))
+
+  -- ends and order are right: the bytes and the last end decide
+  pub right-is : (i a e : ℕ) → a ≡ startOf ends i → e ≡ getD ends i 0 → a ≤ e → e ≤ length bytes → rises bytes ends i ≡ true → rightAt bytes ends i ≡ (allPrintable (part a e bytes) && lastRight bytes ends i)
   unfolding rightAt endRight stringAt
-  right-is i a e x y p q =
+  right-is i a e x y p q h =
       rw (x, y)
       (and-true _ _
-      (and-true _ _ (le-leb (startOf ends i) (getD ends i 0) (omega arith)) ∙ le-leb (getD ends i 0) (length bytes) (omega arith)))
+      (and-true _ _ (le-leb (startOf ends i) (getD ends i 0) (omega arith)) ∙ le-leb (getD ends i 0) (length bytes) (omega arith))
+      ∙ ap (λ (t : Bool). allPrintable (part (startOf ends i) (getD ends i 0) bytes) && t) (and-true _ _ h))
 
   pub last-is : (i : ℕ) → i + 1 ≡ length ends → lastRight bytes ends i ≡ eqb (getD ends i 0) (length bytes)
   unfolding lastRight
@@ -197,6 +226,32 @@ module _ (bytes ends : List ℕ) where
   pub last-not : (i : ℕ) → (i + 1 ≡ length ends → ⊥) → lastRight bytes ends i ≡ true
   unfolding lastRight
   last-not i e = rw (ne-eqb (i + 1) (length ends) e) refl
+
+  pub plain-not : (startOf ends (length ends) ≡ length bytes → ⊥) → isPlain bytes ends ≡ false
+  unfolding isPlain
+  plain-not n = and-false _ _ (ne-eqb (startOf ends (length ends)) (length bytes) n)
+
+  pub plain-is : startOf ends (length ends) ≡ length bytes → isPlain bytes ends ≡ allPrintable bytes
+  unfolding isPlain
+  plain-is e = and-true _ _ (eq-eqb (startOf ends (length ends)) (length bytes) e)
+
+  -- of a plain table the bytes and the last end are right
+  plain-part : isPlain bytes ends ≡ true → (a e : ℕ) → allPrintable (part a e bytes) ≡ true
+  unfolding isPlain
+  plain-part p a e = printable-take (drop a bytes) (e - a) (printable-drop bytes a (and-right (eqb (startOf ends (length ends)) (length bytes)) _ p))
+
+  plain-last : isPlain bytes ends ≡ true → (i : ℕ) → lastRight bytes ends i ≡ true
+  unfolding isPlain lastRight
+  plain-last p i = go (eqb (i + 1) (length ends)) refl
+    where
+      go : (t : Bool) → eqb (i + 1) (length ends) ≡ t → pick t (eqb (getD ends i 0) (length bytes)) true ≡ true
+      go true q =
+          let s : getD ends i 0 ≡ startOf ends (length ends) = start-next ends i ∙ ap (startOf ends) (eqb-true (i + 1) (length ends) q) in
+          rw s (and-left _ _ p)
+      go false q = refl
+
+  pub right-plain : (i a e : ℕ) → a ≡ startOf ends i → e ≡ getD ends i 0 → a ≤ e → e ≤ length bytes → rises bytes ends i ≡ true → isPlain bytes ends ≡ true → rightAt bytes ends i ≡ true
+  right-plain i a e x y p q h s = right-is i a e x y p q h ∙ and-true _ _ (plain-part s a e) ∙ plain-last s i
 
   pub sound-all : 0 < length ends → allBelow (length ends) (rightAt bytes ends) ≡ true → sound bytes ends ≡ true
   unfolding sound
@@ -243,10 +298,6 @@ module _ (bytes ends : List ℕ) where
   pub names-length : length (namesOf bytes ends) ≡ length ends
   unfolding namesOf
   names-length = marks-length (length ends)
-
-pub start-next : (ends : List ℕ) (i : ℕ) → getD ends i 0 ≡ startOf ends (i + 1)
-unfolding startOf
-start-next ends i = rw (add-one i) refl
 
 pub all-none : (ok : ℕ → Bool) → allBelow 0 ok ≡ true
 unfolding allBelow

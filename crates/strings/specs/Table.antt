@@ -46,6 +46,11 @@ unfoldable pub rightAt : List ℕ → List ℕ → ℕ → Bool
 unfolding endRight allPrintable stringAt rises lastRight
 rightAt bytes ends i = endRight bytes ends i && (allPrintable (stringAt bytes ends i) && (rises bytes ends i && lastRight bytes ends i))
 
+-- what can be said of all strings at once: all bytes are printable, and the last end is their count
+unfoldable pub isPlain : List ℕ → List ℕ → Bool
+unfolding startOf allPrintable
+isPlain bytes ends = eqb (startOf ends (length ends)) (length bytes) && allPrintable bytes
+
 -- a test holds of each number below n
 unfoldable pub allBelow : ℕ → (ℕ → Bool) → Bool
 allBelow zero ok = true
@@ -73,12 +78,17 @@ unfoldable pub namesOf : List ℕ → List ℕ → List ℕ
 unfolding marksBelow
 namesOf bytes ends = marksBelow bytes ends (length ends)
 
--- for contracts inside and proofs: string i runs from a to e, within the bytes, and the string before it from an earlier place to a
-pub record Bounds (bytes ends : List ℕ) (i a e : ℕ) : Type 0 where
+-- for contracts inside and proofs: string i runs from a to e, by its ends, and the string before it from b to a
+pub record Reached (ends : List ℕ) (i b a e : ℕ) : Type 0 where
   pub inside : i < length ends
+  pub back : b ≡ startOf ends (i - 1)
   pub from : a ≡ startOf ends i
   pub to : e ≡ getD ends i 0
-  pub before : startOf ends (i - 1) ≤ a
+  pub before : b ≤ a
+
+-- and that within the bytes
+pub record Bounds (bytes ends : List ℕ) (i b a e : ℕ) : Type 0 where
+  pub reached : Reached ends i b a e
   pub order : a ≤ e
   pub fits : e ≤ length bytes
 

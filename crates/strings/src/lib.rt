@@ -7,7 +7,7 @@ ghost use Rattle.words.specs.Word.{pick};
 ghost use Rattle.words.specs.Sizes.{maxStrings};
 ghost use Rattle.strings.specs.Order.{order};
 ghost use Rattle.strings.specs.Name.{between, inner, suffix, rest, isName};
-ghost use Rattle.strings.specs.Table.{startOf, allPrintable, rises as risesOf, rightAt, allBelow, sound, namesOf, Bounds, Names};
+ghost use Rattle.strings.specs.Table.{startOf, part, allPrintable, rises as risesOf, lastRight, rightAt, sound, isPlain, namesOf, Reached, Bounds, Names};
 ghost use Rattle.strings.specs.Open.{Said};
 
 // How one string stands to another in byte order.
@@ -110,18 +110,27 @@ pub fn is_name(s: &[u8]) -> bool
     is_rest(s, 1)
 }
 
-// Whether all bytes are from 32 to 126.
+// Whether a byte is from 32 to 126, and all before it are.
+fn is_printable(all: bool, b: u8) -> bool
+    ensures { λ r. ⌜ r ≡ (all && between 32 126 b) ⌝ }
+{
+    if is_between(32, 126, b) {
+        return all;
+    }
+    false
+}
+
+// Whether all bytes are from 32 to 126. The loop has no exit, so that many bytes are tested at once.
 fn all_printable(s: &[u8]) -> bool
     ensures { λ r. ⌜ r ≡ allPrintable (now (s .entry)) ⌝ }
 {
+    let mut all = true;
     let mut i = 0;
     while i < s.len() {
-        if !is_between(32, 126, s[i]) {
-            return false;
-        }
+        all = is_printable(all, s[i]);
         i += 1;
     }
-    true
+    all
 }
 
 // Where string i begins.
@@ -141,15 +150,14 @@ pub enum Verdict {
     Breaks(usize),
 }
 
-// Whether string i, from a to e, is above the one before it.
-fn rises(bytes: &[u8], ends: &[u32], i: usize, a: usize, e: usize) -> bool
-    requires { ⌜ Bounds (now bytes) (now ends) i a e ⌝ }
+// Whether string i, from a to e, is above the one before it, from b to a.
+fn rises(bytes: &[u8], ends: &[u32], i: usize, b: usize, a: usize, e: usize) -> bool
+    requires { ⌜ Bounds (now bytes) (now ends) i b a e ⌝ }
     ensures { λ r. ⌜ r ≡ risesOf (now (bytes .entry)) (now (ends .entry)) i ⌝ }
 {
     if i == 0 {
         return true;
     }
-    let b = start(ends, i - 1);
     let o = compare(&bytes[b..a], &bytes[a..e]);
     match o {
         Order::Below => true,
@@ -158,23 +166,24 @@ fn rises(bytes: &[u8], ends: &[u32], i: usize, a: usize, e: usize) -> bool
     }
 }
 
-// Whether string i meets the rule, where those before it do.
-fn right_at(bytes: &[u8], ends: &[u32], i: usize) -> bool
-    requires { ⌜ (i < length (now ends)) × (allBelow i (rightAt (now bytes) (now ends)) ≡ true) ⌝ }
-    ensures { λ r. ⌜ r ≡ rightAt (now (bytes .entry)) (now (ends .entry)) i ⌝ }
+// Whether all bytes are from 32 to 126 and the last end is their count: of the strings only ends and order are then in doubt.
+fn is_plain(bytes: &[u8], ends: &[u32]) -> bool
+    requires { ⌜ 0 < length (now ends) ⌝ }
+    ensures { λ r. ⌜ r ≡ isPlain (now (bytes .entry)) (now (ends .entry)) ⌝ }
 {
-    let a = start(ends, i);
-    let e = ends[i] as usize;
-    if e < a {
+    let last = start(ends, ends.len());
+    if last != bytes.len() {
         return false;
     }
-    if bytes.len() < e {
-        return false;
-    }
+    all_printable(bytes)
+}
+
+// Whether the bytes of string i, from a to e, are right, and its end if it is the last.
+fn right_bytes(bytes: &[u8], ends: &[u32], i: usize, a: usize, e: usize) -> bool
+    requires { ⌜ (i < length (now ends)) × (e ≡ getD (now ends) i 0) × (a ≤ e) × (e ≤ length (now bytes)) ⌝ }
+    ensures { λ r. ⌜ r ≡ (allPrintable (part a e (now (bytes .entry))) && lastRight (now (bytes .entry)) (now (ends .entry)) i) ⌝ }
+{
     if !all_printable(&bytes[a..e]) {
-        return false;
-    }
-    if !rises(bytes, ends, i, a, e) {
         return false;
     }
     if i + 1 == ends.len() {
@@ -183,7 +192,27 @@ fn right_at(bytes: &[u8], ends: &[u32], i: usize) -> bool
     true
 }
 
-// Tests a string table. Of a table that breaks the rule it names a string where it breaks.
+// Whether string i, from a to e, meets the rule.
+fn right_at(bytes: &[u8], ends: &[u32], plain: bool, i: usize, b: usize, a: usize, e: usize) -> bool
+    requires { ⌜ Reached (now ends) i b a e × (plain ≡ isPlain (now bytes) (now ends)) ⌝ }
+    ensures { λ r. ⌜ r ≡ rightAt (now (bytes .entry)) (now (ends .entry)) i ⌝ }
+{
+    if e < a {
+        return false;
+    }
+    if bytes.len() < e {
+        return false;
+    }
+    if !rises(bytes, ends, i, b, a, e) {
+        return false;
+    }
+    if plain {
+        return true;
+    }
+    right_bytes(bytes, ends, i, a, e)
+}
+
+// Tests a string table. Of a table that breaks the rule it names a string where it breaks: the first.
 pub fn check(bytes: &[u8], ends: &[u32]) -> Verdict
     ensures { λ r. ⌜ Said (now (bytes .entry)) (now (ends .entry)) r ⌝ }
 {
@@ -193,11 +222,17 @@ pub fn check(bytes: &[u8], ends: &[u32]) -> Verdict
         }
         return Verdict::Breaks(0);
     }
+    let plain = is_plain(bytes, ends);
+    let mut b = 0;
+    let mut a = 0;
     let mut i = 0;
     while i < ends.len() {
-        if !right_at(bytes, ends, i) {
+        let e = ends[i] as usize;
+        if !right_at(bytes, ends, plain, i, b, a, e) {
             return Verdict::Breaks(i);
         }
+        b = a;
+        a = e;
         i += 1;
     }
     Verdict::Sound

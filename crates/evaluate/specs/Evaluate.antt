@@ -67,4 +67,4 @@ pub record Evaluates (bytes ends ws : List ℕ) (at : ℕ) (buf : List ℕ) (r :
 pub record WasRead (ns ws : List ℕ) (at : ℕ) : Type 0 where
   pub expr : Expr
   pub end : ℕ
-  pub reads : exprAt ws (strings ns) maxDepth at ≡ got expr end
+  pub reads : exprAt ws (strings ns (length ns)) maxDepth at ≡ got expr end

@@ -4,17 +4,19 @@ use Prim.Native.Nat.{ℕ, zero, suc, _+_, _-_, _≤_, _<_}
 use native.Mathlib.Numerals.{add-one}
 use native.Mathlib.Omega.{arith}
 use mathlib.Core.Path.{_≡_, refl, sym, ap, _∙_}
+use mathlib.Core.Bool.{Bool, true, false, _||_, false≢true}
 use mathlib.Core.List.{List, [], _∷_, _++_, append-assoc, append-nil, map}
 use borrow.Author.Tests.{ne-eqb}
+use lib.Dec.{eqb}
 use lib.ListN.{length, take, drop, getD, set, length-append, length-drop, List·getD-eq-default}
-use lib.Seq.{sets, take-suc, take-add, getD-drop, take-all, take-nil, drop-nil, drop-drop, drop-append-add, take-append-seam, length-take-le}
+use lib.Seq.{sets, take-suc, take-add, getD-drop, take-all, take-take, take-nil, drop-nil, drop-drop, drop-append-add, take-append-seam, length-take-le}
 use Rattle.text.specs.Text.{ascii, decimal}
 use Rattle.text.specs.Wrote.{Wrote}
 use Rattle.text.specs.Laws.{nothing, then, same, fits, copied-more}
 use Rattle.message.specs.declared.Diag.{Diag}
 use Rattle.message.specs.Message.{Template, error, error-with-note, templates, name, piece, render, messageLine, noteLine, said, lines}
 use Rattle.message.specs.Table.{run, table, flat}
-use Rattle.message.specs.Plain.{Itself, Plain}
+use Rattle.message.specs.Plain.{Itself, Plain, marks}
 
 pub long : length (flat table) ≡ 1325
 unfolding table run templates ascii flat
@@ -85,6 +87,36 @@ plain-one {b} {c} s from most at i x h l r e k p =
       room = omega arith;
       now = ap (λ y. set y (at + i) x) (p .now) ∙ ap (set (sets b at (take i t)) (at + i)) e ∙ copied-more b s at from i h;
       self = λ bytes ends d. rw grown (render-append bytes ends d (take i t) (x ∷ []) ∙ ap (λ y. y ++ render bytes ends d (x ∷ [])) (p .self bytes ends d) ∙ ap (λ y. take i t ++ y) (render-one bytes ends d x ∙ sym (k bytes ends d)));
+    }
+
+neither : (a b : Bool) → (a || b) ≡ false → (a ≡ false) × (b ≡ false)
+neither true b e = absurd (false≢true (sym e))
+neither false b e = (refl, e)
+
+-- bytes without a mark
+unmarked : (xs : List ℕ) → marks xs ≡ false → (n : ℕ) (bytes ends : List ℕ) (d : Diag) → render bytes ends d (take n xs) ≡ take n xs
+unfolding marks render piece
+unmarked xs e zero bytes ends d = refl
+unmarked [] e (suc n) bytes ends d = refl
+unmarked (b ∷ xs) e (suc n) bytes ends d =
+    let h₁ = neither (eqb b 64) _ e in
+    let h₂ = neither (eqb b 38) _ (h₁ .1) in
+    let h₃ = neither (eqb b 35) _ (h₂ .1) in
+    let h₄ = neither (eqb b 37) _ (h₃ .1) in
+    let h₅ = neither (eqb b 36) _ (h₄ .1) in
+    let h₆ = neither (eqb b 33) _ (h₅ .1) in
+    let h₇ = neither (eqb b 94) (marks xs) (h₆ .1) in
+    rw (h₁ .0, h₂ .0, h₃ .0, h₄ .0, h₅ .0, h₆ .0, h₇ .0) (ap (λ y. b ∷ y) (unmarked xs (h₇ .1) n bytes ends d))
+
+-- as many bytes of a run as there is room for
+pub plain-run : {b c : List ℕ} (s : List ℕ) → s ≡ flat table → (from most k n at : ℕ) → n ≤ k → n ≤ most → n ≤ length b - at → marks (take k (drop from (flat table))) ≡ false → c ≡ sets b at (take n (drop from s)) → Plain s from most n b c at
+plain-run s f from most k n at h l r e w =
+    let t = drop from (flat table) in
+    record {
+      few = l;
+      room = r;
+      now = w;
+      self = λ bytes ends d. rw f (rw (take-take n k t h) at (unmarked (take k t) e n bytes ends d));
     }
 
 -- what was written by the i-th byte of the table, from s on

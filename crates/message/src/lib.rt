@@ -7,13 +7,14 @@ ghost use mathlib.Core.Path.{_≡_};
 ghost use mathlib.Core.List.{[], _∷_};
 ghost use mathlib.Core.Bool.{false};
 ghost use Prim.Native.Nat.{_+_, _-_, _≤_, min};
-ghost use lib.ListN.{length, getD, take};
+ghost use lib.ListN.{length, getD, take, drop};
+ghost use lib.Seq.{sets};
 ghost use lib.Dec.{eqb};
 ghost use Rattle.words.specs.Word.{pick};
 ghost use Rattle.text.specs.Wrote.{Wrote};
 ghost use Rattle.message.specs.Message.{name, piece, render, lines};
 ghost use Rattle.message.specs.Table.{table, flat};
-ghost use Rattle.message.specs.Plain.{Itself, Plain};
+ghost use Rattle.message.specs.Plain.{Itself, Plain, marks};
 
 // Document 01's six words; a name is its string's number plus 1.
 pub struct Diag {
@@ -190,16 +191,109 @@ fn less(a: usize, b: usize) -> usize
     if a < b { a } else { b }
 }
 
-// The same up to `to`, so long as there is room.
+// How many bytes from the i-th on have no mark, where more than one has none: at a template's start and after a mark.
+fn early_run(i: usize) -> usize
+    ensures { λ r. ⌜ marks (take r (drop i (flat table))) ≡ false ⌝ }
+{
+    match i {
+        0 => 22,
+        23 => 17,
+        42 => 6,
+        49 => 54,
+        104 => 6,
+        111 => 33,
+        144 => 7,
+        152 => 29,
+        183 => 6,
+        190 => 23,
+        213 => 7,
+        221 => 23,
+        246 => 32,
+        278 => 36,
+        316 => 20,
+        336 => 17,
+        354 => 23,
+        377 => 7,
+        385 => 28,
+        414 => 33,
+        447 => 66,
+        515 => 56,
+        571 => 16,
+        591 => 21,
+        612 => 7,
+        _ => 0,
+    }
+}
+
+fn late_run(i: usize) -> usize
+    ensures { λ r. ⌜ marks (take r (drop i (flat table))) ≡ false ⌝ }
+{
+    match i {
+        620 => 30,
+        650 => 7,
+        658 => 21,
+        679 => 19,
+        699 => 16,
+        716 => 10,
+        727 => 44,
+        771 => 10,
+        782 => 16,
+        799 => 10,
+        810 => 11,
+        822 => 6,
+        829 => 26,
+        856 => 64,
+        921 => 10,
+        931 => 15,
+        947 => 26,
+        974 => 81,
+        1057 => 44,
+        1103 => 54,
+        1158 => 11,
+        1170 => 23,
+        1197 => 40,
+        1238 => 7,
+        1246 => 12,
+        1261 => 64,
+        _ => 0,
+    }
+}
+
+// 0 says only that it isn't known.
+fn run_at(i: usize) -> usize
+    ensures { λ r. ⌜ marks (take r (drop i (flat table))) ≡ false ⌝ }
+{
+    if i < 620 { early_run(i) } else { late_run(i) }
+}
+
+// n bytes of s from `from` on: a loop without tests, which the compiler turns into wide moves.
+fn copy_run(out: &mut [u8], at: usize, s: &[u8], from: usize, n: usize)
+    requires { ⌜ (at + n ≤ length (now out)) × (from + n ≤ length (now s)) ⌝ }
+    ensures { λ _. ⌜ now (out .exit) ≡ sets (now (out .entry)) at (take n (drop from (now (s .entry)))) ⌝ }
+{
+    let mut i = 0;
+    while i < n {
+        out[at + i] = s[from + i];
+        i += 1;
+    }
+}
+
+// Unmarked bytes up to `to`, so long as there is room: a run that is known at once.
 fn put_plain(out: &mut [u8], at: usize, s: &[u8], from: usize, to: usize) -> usize
-    requires { ⌜ (from ≤ to) × (to ≤ length (now s)) ⌝ }
+    requires { ⌜ (from ≤ to) × (to ≤ length (now s)) × (now s ≡ flat table) ⌝ }
     ensures { λ r. ⌜ Plain (now (s .entry)) from (to - from) r (now (out .entry)) (now (out .exit)) at ⌝ }
 {
     if out.len() <= at {
         return 0;
     }
     let n = less(to - from, out.len() - at);
-    copy_plain(out, at, s, from, n)
+    let run = run_at(from);
+    if run == 0 {
+        return copy_plain(out, at, s, from, n);
+    }
+    let most = less(run, n);
+    copy_run(out, at, s, from, most);
+    most
 }
 
 // What the template's bytes stand for, one after the other.

@@ -32,7 +32,7 @@ loop-holds : tie.Need-loop-holds Inv-loop μ-loop
 loop-holds c = (omega arith, bounds ((c .before .before .before .before .before .before .before .args .d) .code) (c .before .start-of .result) (c .start-of2 .result) (c .before .start-of .ensures) (c .start-of2 .ensures) .0, refl, at-start (c .before .before .before .before .before .before .before .args .bytes .now) (c .before .before .before .before .before .before .before .args .ends .now) (c .before .before .before .before .before .before .before .args .d) (c .before .start-of .result), omega (arith, c .before .before .before .before .before .before .before .fits .at))
 
 put-plain-requires : tie.Need-put-plain-requires Inv-loop μ-loop
-put-plain-requires c κs = (c .before .before .loop .inv .1, omega (arith, bounds ((c .before .before .before .before .before .before .before .before .before .before .args .d) .code) (c .before .before .before .before .start-of .result) (c .before .before .before .start-of2 .result) (c .before .before .before .before .start-of .ensures) (c .before .before .before .start-of2 .ensures) .1, long-as (c .before .before .before .before .before .before .before .before .before .before .pre)))
+put-plain-requires c κs = (c .before .before .loop .inv .1, omega (arith, bounds ((c .before .before .before .before .before .before .before .before .before .before .args .d) .code) (c .before .before .before .before .start-of .result) (c .before .before .before .start-of2 .result) (c .before .before .before .before .start-of .ensures) (c .before .before .before .start-of2 .ensures) .1, long-as (c .before .before .before .before .before .before .before .before .before .before .pre)), c .before .before .before .before .before .before .before .before .before .before .pre)
 
 add-i : tie.Need-add-i Inv-loop μ-loop
 add-i c = omega (arith, bounds ((c .before .before .before .before .before .before .before .before .before .before .before .before .before .args .d) .code) (c .before .before .before .before .before .before .before .start-of .result) (c .before .before .before .before .before .before .start-of2 .result) (c .before .before .before .before .before .before .before .start-of .ensures) (c .before .before .before .before .before .before .start-of2 .ensures) .1, c .before .before .put-plain .ensures .few, c .before .before .before .before .before .loop .inv .1)

@@ -1,5 +1,6 @@
--- put_plain: nothing past the end; else what fits is copied.
-use Rattle.message.proofs.Laws.{plain-none}
+-- put_plain: nothing past the end; else what fits is copied, of a run whose length is known without a look at its bytes (`plain-run`).
+use Rattle.message.proofs.Laws.{plain-none, plain-run}
+use native.Mathlib.Omega.{arith}
 use borrow.Author.Needs.{needs}
 use Rattle.message.proofs.put_plain.Statement.{statement}
 use Rattle.message.proofs.put_plain.Tie as tie
@@ -16,6 +17,9 @@ sub-less-2 c = search needs
 less-requires : tie.Need-less-requires
 less-requires c κs = search needs
 
+run-at-requires : tie.Need-run-at-requires
+run-at-requires c κs = search needs
+
 copy-plain-requires : tie.Need-copy-plain-requires
 copy-plain-requires c κs = search needs
 
@@ -25,7 +29,31 @@ same-length c = search needs
 returns-2 : tie.Need-returns-2
 returns-2 c = search needs
 
+less-requires-2 : tie.Need-less-requires-2
+less-requires-2 c κs = search needs
+
+copy-run-requires : tie.Need-copy-run-requires
+copy-run-requires c κs = search needs
+
+same-length-2 : tie.Need-same-length-2
+same-length-2 c = search needs
+
+returns-3 : tie.Need-returns-3
+returns-3 c = plain-run (c .before .before .before .before .before .before .before .before .before .before .before .args .s .now) (c .before .before .before .before .before .before .before .before .before .before .before .pre .2) (c .before .before .before .before .before .before .before .before .before .before .before .args .from) _ (c .before .before .before .before .before .before .run-at .result) (c .before .before .before .before .less2 .result) (c .before .before .before .before .before .before .before .before .before .before .before .args .at) (omega (arith, c .before .before .before .before .less2 .ensures)) (omega (arith, c .before .before .before .before .before .before .before .less .ensures, c .before .before .before .before .less2 .ensures)) (omega (arith, c .before .before .before .before .before .before .before .less .ensures, c .before .before .before .before .less2 .ensures)) (c .before .before .before .before .before .before .run-at .ensures) (c .before .before .copy-run .ensures)
+
 pub put-plain-spec : {M : Type 1} → statement M
 put-plain-spec =
     tie.close
-    (tie.spec returns sub-less sub-less-2 less-requires copy-plain-requires same-length returns-2)
+    (tie.spec
+    returns
+    sub-less
+    sub-less-2
+    less-requires
+    run-at-requires
+    copy-plain-requires
+    same-length
+    returns-2
+    less-requires-2
+    copy-run-requires
+    same-length-2
+    returns-3)

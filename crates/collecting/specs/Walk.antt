@@ -1,4 +1,4 @@
--- What the walk of collecting asks and promises: whatever stands there is collected, and the lent rows stay such that a lent table may have them.
+-- What the scan of collecting asks and promises: whatever stands there is collected, and the lent rows stay such that a lent table may have them.
 -- Definitions only.
 use Prim.Native.Nat.{ℕ, _≤_}
 use mathlib.Core.Path.{_≡_}
@@ -6,7 +6,7 @@ use mathlib.Core.List.{List}
 use mathlib.Core.Option.{some}
 use lib.ListN.{length}
 use Rattle.expr.specs.Expr.{Expr}
-use Rattle.tree.specs.Sorts.{stmt, body, Sorts, Kind, sorts}
+use Rattle.tree.specs.Sorts.{body, Kind, sorts}
 use Rattle.tree.specs.Tree.{Shape, one, row, Tree, Stmt, over}
 use Rattle.tree.specs.Stands.{Stands}
 use Rattle.views.specs.View.{view, inner, walk}
@@ -17,7 +17,8 @@ use Rattle.collect.specs.Seen.{see}
 use Rattle.collect.specs.Collect.{Given, given, statement, collect}
 use Rattle.collect.specs.Code.{Named}
 use Rattle.plans.specs.Pieces.{Piece, exprPiece, stmtPiece}
-use Rattle.plans.specs.Plans.{Shallow, ShallowRows, Walks, WalksRows}
+use Rattle.plans.specs.Plans.{Shallow}
+use Rattle.plans.specs.Items.{Item, StandsAll, outerIs}
 use Rattle.lawful.specs.Good.{Good}
 use Rattle.lawful.specs.Views.{Scope}
 
@@ -45,29 +46,28 @@ pub record Ready (i : Shape) (ws ns bytes ends : List ℕ) (scope at : ℕ) (s :
   pub around : Around bytes ends ns scope
   pub kept : Kept ns (length ends) s b d
 
--- so many rows of fields
-pub record ReadyRows (ss : Sorts) (k : ℕ) (ws ns bytes ends : List ℕ) (scope at : ℕ) (s : Counts) (b d : List ℕ) : Type 0 where
-  pub rows : ShallowRows ss k ns (length ends) 100 ws at
+-- a program's list of statements, up to the words' end
+pub record ReadyWhole (ws ns bytes ends : List ℕ) (scope at : ℕ) (s : Counts) (b d : List ℕ) : Type 0 where
+  pub ready : Ready (one body) ws ns bytes ends scope at s b d
+  pub whole : ready .tree .end ≡ length ws
+
+-- some items stand from a place to another
+pub record Scanning (ws ns bytes ends : List ℕ) (scope at to : ℕ) (s : Counts) (b d : List ℕ) : Type 0 where
+  pub items : List Item
+  pub there : StandsAll ws ns (length ends) 100 at items to
   pub around : Around bytes ends ns scope
   pub kept : Kept ns (length ends) s b d
 
 -- ---- what is promised
 
--- `collect` of what stands in a tree but in no nested statement
+-- `collect` of a statement and its bodies
 unfoldable pub piece : Given → ℕ → Piece Expr → Step
 piece G scope (exprPiece e) = nothing
 piece G scope (stmtPiece k line r) = statement G scope line (view k (over see r)) ⨾ walk (statement G) (inner scope (view k (over see r))) (over see r)
 
--- these pieces are collected, of the program's strings
-abbrev pub Collected : (ns0 bytes ends erased : List ℕ) (scope : ℕ) (s r : Counts) (b d b′ d′ : List ℕ) → List ℕ → ℕ → List (Piece Expr) → Type 0
-Collected ns0 bytes ends erased scope s r b d b′ d′ ns n ps = ns ≡ ns0 → n ≡ length ends → Does (λ N D. each (piece (given (some N) (some D) bytes ends erased) scope) ps) s r b d b′ d′
-
-pub record Walked (i : Shape) (ws ns bytes ends erased : List ℕ) (scope at next : ℕ) (s r : Counts) (b d b′ d′ : List ℕ) : Type 0 where
-  pub walks : Walks i ws at next (Collected ns bytes ends erased scope s r b d b′ d′)
-  pub kept : Kept ns (length ends) r b′ d′
-
-pub record WalkedRows (ss : Sorts) (k : ℕ) (ws ns bytes ends erased : List ℕ) (scope at next : ℕ) (s r : Counts) (b d b′ d′ : List ℕ) : Type 0 where
-  pub walks : WalksRows ss k ws at next (Collected ns bytes ends erased scope s r b d b′ d′)
+-- the statements of whatever items stand there are collected, each with its bodies
+pub record Scanned (ws ns bytes ends erased : List ℕ) (scope at to : ℕ) (s r : Counts) (b d b′ d′ : List ℕ) : Type 0 where
+  pub does : (xs : List Item) → StandsAll ws ns (length ends) 100 at xs to → Does (λ N D. each (piece (given (some N) (some D) bytes ends erased) scope) (outerIs xs)) s r b d b′ d′
   pub kept : Kept ns (length ends) r b′ d′
 
 -- one statement, but for its bodies

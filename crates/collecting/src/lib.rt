@@ -1,11 +1,16 @@
-// The walk of collecting: each statement, then its bodies, those of a procedure in its own scope. By the table of fields, in one pass over the words.
+// The scan of collecting: each statement, then its bodies, those of a procedure in its own scope. Every word tells by its kind what it is, so one pass over the words meets
+// every statement's head in that order.
+use expr::Cursor;
+use expr::Step;
 use steps::Counts;
+ghost use mathlib.Core.Path.{_≡_};
+ghost use Prim.Native.Nat.{ℕ, _≤_};
 ghost use lib.ListN.{length};
-ghost use Rattle.tree.specs.Sorts.{stmt as stmtSort, body};
-ghost use Rattle.tree.specs.Tree.{one, row as rowShape};
-ghost use Rattle.tree.specs.Codes.{sortAt, rowOf};
-ghost use Rattle.plans.specs.Plans.{Listed};
-ghost use Rattle.collecting.specs.Walk.{Ready, ReadyRows, Walked, WalkedRows, Stated, Collects};
+ghost use Rattle.expr.specs.Expr.{Expr};
+ghost use Rattle.tree.specs.Sorts.{stmt as stmtSort};
+ghost use Rattle.tree.specs.Tree.{one, Tree, depthT};
+ghost use Rattle.tree.specs.Stands.{Stands};
+ghost use Rattle.collecting.specs.Walk.{Ready, ReadyWhole, Scanning, Scanned, Stated, Collects};
 
 // The counts, and the place past what was walked.
 pub struct Moved {
@@ -45,49 +50,20 @@ fn statement(
     }
 }
 
-// A field of a sort.
-fn field(
-    words: &[u32],
-    names: &[u8],
-    bytes: &[u8],
-    ends: &[u32],
-    erased: &[u32],
-    b: &mut [u32],
-    d: &mut [u32],
-    s: Counts,
-    scope: u32,
-    at: usize,
-    sort: u8,
-) -> Moved
-    requires { ⌜ Ready (one (sortAt sort)) (now words) (now names) (now bytes) (now ends) scope at s (now b) (now d) × Listed sort ⌝ }
-    ensures { λ r. ⌜ Walked (one (sortAt sort)) (now (words .entry)) (now (names .entry)) (now (bytes .entry)) (now (ends .entry)) (now (erased .entry)) scope at (r .next) s (r .counts) (now (b .entry)) (now (d .entry)) (now (b .exit)) (now (d .exit)) ⌝ }
+// The place past the statement at `at`: it stands there, so that reading never fails.
+fn past(words: &[u32], names: &[u8], n: u32, at: usize) -> usize
+    ensures { λ r. ⌜ ((v : Tree Expr (one stmtSort)) (end : ℕ) → Stands (now (words .entry)) (now (names .entry)) n at v end → depthT v ≤ 100 → r ≡ end) ⌝ }
 {
-    if sort == 9 {
-        let next = skip::expr(words, at);
-        return Moved { counts: s, next };
+    let s = tree::stmt(Cursor { at: at }, words, names, n, 100);
+    match s {
+        Step::Read(c) => c.at,
+        Step::Wrong(p) => p,
+        Step::Deep(p) => p,
     }
-    if sort == 10 {
-        return stmt(words, names, bytes, ends, erased, b, d, s, scope, at);
-    }
-    let p = plans::plan_for(words, at, sort);
-    each(
-        words,
-        names,
-        bytes,
-        ends,
-        erased,
-        b,
-        d,
-        s,
-        scope,
-        at + p.same,
-        p.row,
-        p.times,
-    )
 }
 
-// A statement, then its bodies.
-fn stmt(
+// All statements of the words from one place to another, by one scan: a literal's raw words are passed over, and a procedure's body is scanned in its own scope.
+fn scan(
     words: &[u32],
     names: &[u8],
     bytes: &[u8],
@@ -97,93 +73,36 @@ fn stmt(
     d: &mut [u32],
     s: Counts,
     scope: u32,
-    at: usize,
-) -> Moved
-    requires { ⌜ Ready (one stmtSort) (now words) (now names) (now bytes) (now ends) scope at s (now b) (now d) ⌝ }
-    ensures { λ r. ⌜ Walked (one stmtSort) (now (words .entry)) (now (names .entry)) (now (bytes .entry)) (now (ends .entry)) (now (erased .entry)) scope at (r .next) s (r .counts) (now (b .entry)) (now (d .entry)) (now (b .exit)) (now (d .exit)) ⌝ }
-{
-    let k = words[at] / 16777216;
-    let inner = plans::inside(words, at, scope);
-    let t = statement(words, names, bytes, ends, erased, b, d, s, scope, at);
-    row(
-        words,
-        names,
-        bytes,
-        ends,
-        erased,
-        b,
-        d,
-        t,
-        inner,
-        at + 1,
-        (k - 64) as usize + 39,
-    )
-}
-
-// So many rows, one after another.
-fn each(
-    words: &[u32],
-    names: &[u8],
-    bytes: &[u8],
-    ends: &[u32],
-    erased: &[u32],
-    b: &mut [u32],
-    d: &mut [u32],
-    s: Counts,
-    scope: u32,
-    at: usize,
-    r: usize,
-    n: u32,
-) -> Moved
-    requires { ⌜ ReadyRows (rowOf r) n (now words) (now names) (now bytes) (now ends) scope at s (now b) (now d) ⌝ }
-    ensures { λ m. ⌜ WalkedRows (rowOf r) n (now (words .entry)) (now (names .entry)) (now (bytes .entry)) (now (ends .entry)) (now (erased .entry)) scope at (m .next) s (m .counts) (now (b .entry)) (now (d .entry)) (now (b .exit)) (now (d .exit)) ⌝ }
+    from: usize,
+    to: usize,
+) -> Counts
+    requires { ⌜ Scanning (now words) (now names) (now bytes) (now ends) scope from to s (now b) (now d) ⌝ }
+    ensures { λ r. ⌜ Scanned (now (words .entry)) (now (names .entry)) (now (bytes .entry)) (now (ends .entry)) (now (erased .entry)) scope from to s r (now (b .entry)) (now (d .entry)) (now (b .exit)) (now (d .exit)) ⌝ }
 {
     let mut t = s;
-    let mut a = at;
-    let mut i = 0;
-    while i < n {
-        let m = row(words, names, bytes, ends, erased, b, d, t, scope, a, r);
-        t = m.counts;
-        a = m.next;
-        i += 1;
-    }
-    Moved { counts: t, next: a }
-}
-
-// A row of fields.
-fn row(
-    words: &[u32],
-    names: &[u8],
-    bytes: &[u8],
-    ends: &[u32],
-    erased: &[u32],
-    b: &mut [u32],
-    d: &mut [u32],
-    s: Counts,
-    scope: u32,
-    at: usize,
-    r: usize,
-) -> Moved
-    requires { ⌜ Ready (rowShape (rowOf r)) (now words) (now names) (now bytes) (now ends) scope at s (now b) (now d) ⌝ }
-    ensures { λ m. ⌜ Walked (rowShape (rowOf r)) (now (words .entry)) (now (names .entry)) (now (bytes .entry)) (now (ends .entry)) (now (erased .entry)) scope at (m .next) s (m .counts) (now (b .entry)) (now (d .entry)) (now (b .exit)) (now (d .exit)) ⌝ }
-{
-    let mut t = s;
-    let mut a = at;
-    let mut i = 0;
-    while i < 6 {
-        let k = tree::sort(r, i);
-        if k == 0 {
-            return Moved { counts: t, next: a };
+    let mut at = from;
+    while at < to {
+        match words[at] / 16777216 {
+            24 | 25 => at += 2,
+            26 | 27 => at += 3,
+            84 | 85 => {
+                let e = past(words, names, ends.len() as u32, at);
+                let inner = plans::inside(words, at, scope);
+                t = statement(words, names, bytes, ends, erased, b, d, t, scope, at);
+                t = scan(words, names, bytes, ends, erased, b, d, t, inner, at + 1, e);
+                at = e;
+            }
+            64..=93 => {
+                t = statement(words, names, bytes, ends, erased, b, d, t, scope, at);
+                at += 1;
+            }
+            _ => at += 1,
         }
-        let m = field(words, names, bytes, ends, erased, b, d, t, scope, a, k);
-        t = m.counts;
-        a = m.next;
-        i += 1;
     }
-    Moved { counts: t, next: a }
+    t
 }
 
-// The list of statements at `at`.
+// The list of statements at `at`, which is the last thing in the words.
 pub fn statements(
     words: &[u32],
     names: &[u8],
@@ -196,8 +115,10 @@ pub fn statements(
     scope: u32,
     at: usize,
 ) -> Moved
-    requires { ⌜ Ready (one body) (now words) (now names) (now bytes) (now ends) scope at s (now b) (now d) ⌝ }
+    requires { ⌜ ReadyWhole (now words) (now names) (now bytes) (now ends) scope at s (now b) (now d) ⌝ }
     ensures { λ r. ⌜ Collects (now (words .entry)) (now (names .entry)) (now (bytes .entry)) (now (ends .entry)) (now (erased .entry)) scope at (r .next) s (r .counts) (now (b .entry)) (now (d .entry)) (now (b .exit)) (now (d .exit)) ⌝ }
 {
-    field(words, names, bytes, ends, erased, b, d, s, scope, at, 68)
+    let n = words.len();
+    let c = scan(words, names, bytes, ends, erased, b, d, s, scope, at, n);
+    Moved { counts: c, next: n }
 }

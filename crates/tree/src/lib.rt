@@ -10,6 +10,7 @@ ghost use Rattle.tree.specs.Sorts.{Sort, many, group, opt, nil, body as 
 ghost use Rattle.tree.specs.Tree.{between, strings};
 ghost use Rattle.tree.specs.Codes.{partCodes, stmtCodes, codes, joined, sortAt, rowOf, chain, allRows};
 ghost use Rattle.tree.specs.Reader.{wordAt, neverAt, fieldAt, rowAt, stmtAt, programAt};
+ghost use Rattle.tree.specs.Memo.{Recalled, Remembered, Past};
 ghost use Rattle.expr.specs.Reader.{exprAt};
 ghost use Rattle.expr.specs.Answer.{stepOf};
 
@@ -499,4 +500,61 @@ pub fn body(c: Cursor, words: &[u32], names: &[u8], n: u32, left: usize) -> Step
     ensures { λ r. ⌜ r ≡ stepOf (fieldAt (now (words .entry)) (now (names .entry)) n (exprAt (now (words .entry)) (strings (now (names .entry)) n) left) (stmtAt (now (words .entry)) (now (names .entry)) n left) bodySort (c .at)) ⌝ }
 {
     rows(c, words, names, n, left, 4)
+}
+
+// The place that a slot's two words tell for a place; 0 where they are another's.
+fn slot(place: u32, end: u32, at: usize) -> usize
+    ensures { λ r. ⌜ ((r ≡ 0 → ⊥) → (place ≡ at + 1) × (r ≡ end)) ⌝ }
+{
+    if place == 0 {
+        return 0;
+    }
+    if place as usize - 1 != at {
+        return 0;
+    }
+    end as usize
+}
+
+// The place past the statement at `at` where the memo has it, else 0.
+pub fn recall(memo: &[u32], at: usize) -> usize
+    ensures { λ r. ⌜ Recalled (now (memo .entry)) at r ⌝ }
+{
+    if memo.len() < 128 {
+        return 0;
+    }
+    let i = at % 64;
+    slot(memo[2 * i], memo[2 * i + 1], at)
+}
+
+// Notes in the memo that a statement at `at` ends at `end`, unless a number is too large.
+pub fn remember(memo: &mut [u32], at: usize, end: usize)
+    ensures { λ r. ⌜ Remembered (now (memo .entry)) at end (now (memo .exit)) ⌝ }
+{
+    if memo.len() < 128 {
+        return;
+    }
+    if 4294967294 < at {
+        return;
+    }
+    if 4294967295 < end {
+        return;
+    }
+    let i = at % 64;
+    memo[2 * i] = (at + 1) as u32;
+    memo[2 * i + 1] = end as u32;
+}
+
+// The place past the statement at `at`, which the memo may have; else it is read.
+pub fn past(words: &[u32], names: &[u8], n: u32, memo: &[u32], at: usize) -> usize
+    ensures { λ r. ⌜ Past (now (words .entry)) (now (names .entry)) n (now (memo .entry)) at r ⌝ }
+{
+    let e = recall(memo, at);
+    if e != 0 {
+        return e;
+    }
+    match stmt(Cursor { at }, words, names, n, 100) {
+        Step::Read(c) => c.at,
+        Step::Wrong(p) => p,
+        Step::Deep(p) => p,
+    }
 }

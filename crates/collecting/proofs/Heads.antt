@@ -17,7 +17,8 @@ use Rattle.steps.specs.Compose.{same, nothing-does}
 use Rattle.steps.specs.declared.Counts.{Counts}
 use Rattle.collect.specs.Seen.{see}
 use Rattle.collect.specs.Collect.{Given, given, statement}
-use Rattle.collect.specs.Code.{StmtAt, Collects}
+use Rattle.collect.specs.Code.{Collects}
+use Rattle.procedures.specs.Post.{StmtTo}
 use Rattle.plans.specs.Plans.{Shallow}
 use Rattle.plans.proofs.Walk.{head-kind, head-range, of-number}
 use Rattle.collecting.specs.Walk.{Stated}
@@ -25,12 +26,12 @@ use Rattle.collecting.specs.Walk.{Stated}
 -- ---- which statement it is
 
 -- a statement of the kind j stands there
-pub at-kind : {ns : List ℕ} {n : ℕ} {ws : List ℕ} {at : ℕ} (j : ℕ) → kindOf (getD ws at 0) ≡ 64 + j → Shallow (one stmt) ns n 100 ws at → StmtAt ns n (kindAt j) ws at
+pub at-kind : {ns : List ℕ} {n : ℕ} {ws : List ℕ} {at : ℕ} (j : ℕ) → kindOf (getD ws at 0) ≡ 64 + j → (t : Shallow (one stmt) ns n 100 ws at) → StmtTo ns n (kindAt j) ws at (t .end)
 unfolding depthT
 at-kind {ns} {n} {ws} {at} j q t = go (t .tree) (t .stands) (t .shallow)
   where
-    go : (v : Tree Expr (one stmt)) → Stands ws ns n at v (t .end) → depthT v ≤ 100 → StmtAt ns n (kindAt j) ws at
-    go (Stmt k line r) s h = subst (λ (k : Kind). StmtAt ns n k ws at) (of-number k j (omega (arith, head-kind s, q))) (record { line = line; fields = r; end = t .end; stands = s; shallow = omega arith })
+    go : (v : Tree Expr (one stmt)) → Stands ws ns n at v (t .end) → depthT v ≤ 100 → StmtTo ns n (kindAt j) ws at (t .end)
+    go (Stmt k line r) s h = subst (λ (k : Kind). StmtTo ns n k ws at (t .end)) (of-number k j (omega (arith, head-kind s, q))) (record { stmt = record { line = line; fields = r; end = t .end; stands = s; shallow = omega arith }; ends = refl })
 
 -- what its code did is what its definition says
 pub of-kind : {ns : List ℕ} {n : ℕ} {ws bytes ends erased : List ℕ} {scope at : ℕ} {s r : Counts} {b d b′ d′ : List ℕ} (j : ℕ) → kindOf (getD ws at 0) ≡ 64 + j

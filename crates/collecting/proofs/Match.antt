@@ -1,11 +1,11 @@
 -- What each arm of the match asks of a statement of its kind, and that what it does is what the statement does. Assumes nothing.
-use Prim.Native.Nat.{ℕ, _+_, _≤_, _<_}
+use Prim.Native.Nat.{ℕ, _+_, _≤_}
 use native.Mathlib.Omega.{arith}
-use mathlib.Core.Path.{_≡_, refl, sym, _∙_}
+use mathlib.Core.Path.{_≡_, subst}
 use mathlib.Core.List.{List}
 use lib.ListN.{length, getD}
 use Rattle.words.specs.Word.{kindOf}
-use Rattle.tree.specs.Sorts.{stmt, Kind, kinds, kindAt, label, labelName, dim, shared, static, redim, sub, function, const, optionBase, typeDef}
+use Rattle.tree.specs.Sorts.{stmt, kinds, kindAt, label, labelName, dim, shared, static, redim, sub, function, const, optionBase, typeDef}
 use Rattle.tree.specs.Tree.{one}
 use Rattle.steps.specs.State.{State, running, stopped}
 use Rattle.steps.specs.Held.{Fit, Held}
@@ -15,7 +15,8 @@ use Rattle.labels.specs.Labels.{ConstAt, HeldConsts, ConstsHeld}
 use Rattle.types.specs.Types.{SomeType}
 use Rattle.dims.specs.Declarators.{ReadyStmt}
 use Rattle.lawful.specs.Good.{Good}
-use Rattle.collecting.specs.Walk.{Kept, Ready, Stated}
+use Rattle.procedures.specs.Post.{StmtTo}
+use Rattle.collecting.specs.Walk.{Kept, Ready, ReadyProcedure, Stated}
 use Rattle.collecting.proofs.Heads.{at-kind, of-kind}
 
 -- CONST rows may be folded under
@@ -28,7 +29,7 @@ consts-held {ns} {n} {s} {b} {d} K go = by (K .state) (K .held) (K .good)
 
 module _ {ws ns bytes ends : List ℕ} {scope at : ℕ} {s : Counts} {b d : List ℕ} (R : Ready (one stmt) ws ns bytes ends scope at s b d) (j : ℕ) (q : kindOf (getD ws at 0) ≡ 64 + j) where
   there : StmtAt ns (length ends) (kindAt j) ws at
-  there = at-kind j q (R .tree)
+  there = at-kind j q (R .tree) .stmt
 
   abbrev any-there : SomeStmt (kindAt j) ws at
   any-there = record { names = ns; strings = length ends; stmt = there }
@@ -63,14 +64,6 @@ module _ {ws ns bytes ends : List ℕ} {scope at : ℕ} {s : Counts} {b d : List
   unfolding kindAt kinds
   redim-there q = (declared-there R 19 q, R .kept .fit)
 
-  pub sub-there : kindOf (getD ws at 0) ≡ 84 → StmtAt ns (length ends) sub ws at × Named bytes ends ns × (length ends ≤ 1024) × Fit s (length b) (length d)
-  unfolding kindAt kinds
-  sub-there q = (there R 20 q, R .around .named, R .around .few, R .kept .fit)
-
-  pub function-there : kindOf (getD ws at 0) ≡ 85 → StmtAt ns (length ends) function ws at × Named bytes ends ns × (length ends ≤ 1024) × Fit s (length b) (length d)
-  unfolding kindAt kinds
-  function-there q = (there R 21 q, R .around .named, R .around .few, R .kept .fit)
-
   pub constant-there : kindOf (getD ws at 0) ≡ 89 → ConstAt ws at s b × Fit s (length b) (length d)
   unfolding kindAt kinds
   constant-there q = (record { any = any-there R 25 q; held = consts-held (R .kept) }, R .kept .fit)
@@ -82,6 +75,23 @@ module _ {ws ns bytes ends : List ℕ} {scope at : ℕ} {s : Counts} {b d : List
   pub type-def-there : kindOf (getD ws at 0) ≡ 93 → SomeType ws at × Fit s (length b) (length d)
   unfolding kindAt kinds
   type-def-there q = (record { any = any-there R 29 q; few = omega (arith, R .around .counted, R .around .few) }, R .kept .fit)
+
+-- a procedure, with its end
+module _ {ws ns bytes ends : List ℕ} {scope at end : ℕ} {s : Counts} {b d : List ℕ} (P : ReadyProcedure ws ns bytes ends scope at end s b d) where
+  -- of the kind j
+  ending : (j : ℕ) → kindOf (getD ws at 0) ≡ 64 + j → StmtTo ns (length ends) (kindAt j) ws at end
+  ending j q = subst (StmtTo ns (length ends) (kindAt j) ws at) (P .over-at) (at-kind j q (P .ready .tree))
+
+  pub sub-there : kindOf (getD ws at 0) ≡ 84 → StmtTo ns (length ends) sub ws at end × Named bytes ends ns × (length ends ≤ 1024) × Fit s (length b) (length d)
+  unfolding kindAt kinds
+  sub-there q = (ending 20 q, P .ready .around .named, P .ready .around .few, P .ready .kept .fit)
+
+  pub function-kind : (kindOf (getD ws at 0) ≡ 84 → ⊥) → kindOf (getD ws at 0) ≡ 85
+  function-kind f = omega (arith, P .from, P .upto)
+
+  pub function-there : kindOf (getD ws at 0) ≡ 85 → StmtTo ns (length ends) function ws at end × Named bytes ends ns × (length ends ≤ 1024) × Fit s (length b) (length d)
+  unfolding kindAt kinds
+  function-there q = (ending 21 q, P .ready .around .named, P .ready .around .few, P .ready .kept .fit)
 
 -- what the arm of the kind j does
 module _ {ws ns bytes ends erased : List ℕ} {n scope at : ℕ} {s r : Counts} {b d b′ d′ : List ℕ} where

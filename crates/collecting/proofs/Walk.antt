@@ -32,7 +32,7 @@ use Rattle.plans.proofs.Walk.{head-kind, fields, to-some}
 use Rattle.plans.proofs.Front.{callParts, WordsAt, StmtAt, FrontAt, overAt, wordAt, rawAt, rawsAt, parenAt, callAt, stmtAt, front-at, at-raw, at-raws, at-stmt, at-end, items-tree, items-inside, quiet-body, quiet-kind}
 use Rattle.lawful.specs.Views.{stands-known, Scope, inner-scope, view-fine}
 use Rattle.lawful.specs.Lawful.{statement-good}
-use Rattle.collecting.specs.Walk.{Kept, Ready, ReadyWhole, Scanning, Scanned, piece, Stated, Collects}
+use Rattle.collecting.specs.Walk.{Kept, Ready, Alone, ReadyProcedure, ReadyWhole, Scanning, Scanned, piece, Stated, Collects}
 use Rattle.collecting.proofs.Heads.{Quiet, nothing-said}
 
 -- ---- the walk is the outer statements in turn
@@ -139,13 +139,6 @@ unfolding quietI depthT
 body-items M = items-tree (quiet-kind (M .kind)) (fields (M .whole)) (omega (arith, M .shallow))
 
 -- ---- kinds of words
-
--- a statement that opens no scope
-pub record Alone (k : ℕ) : Type 0 where
-  pub from : 64 ≤ k
-  pub upto : k ≤ 93
-  pub no-sub : k ≡ 84 → ⊥
-  pub no-function : k ≡ 85 → ⊥
 
 -- neither a literal with raw words nor a statement that does anything
 pub record Other (k : ℕ) : Type 0 where
@@ -267,6 +260,10 @@ module _ {ws ns bytes ends erased : List ℕ} {scope from at to : ℕ} {s t : Co
 
       pub stmt-ready : Ready (one stmt) ws ns bytes ends scope at t b′ d′
       stmt-ready = let M = stmt-there in record { tree = record { tree = Stmt (M .kind) (M .line) (M .fields); end = M .mid; stands = M .whole; shallow = M .shallow }; around = R .around; kept = w .kept }
+
+      pub procedure-ready : {e : ℕ} → Ends ws ns (length ends) at e → 84 ≤ kindOf (getD ws at 0) → kindOf (getD ws at 0) < 86 → ReadyProcedure ws ns bytes ends scope at e t b′ d′
+      unfolding stmt-ready stmt-there
+      procedure-ready E p q = let M = stmt-there in record { ready = stmt-ready; over-at = sym (E _ (M .mid) (M .whole) (M .shallow)); from = p; upto = omega arith }
 
       pub stmt-some : SomeTree (one stmt) ws at
       stmt-some = to-some (stmt-ready .tree)

@@ -4,9 +4,10 @@ use Prim.Native.Nat.{ℕ, _≤_}
 use mathlib.Core.Path.{_≡_}
 use mathlib.Core.List.{List}
 use mathlib.Core.Option.{some}
-use lib.ListN.{length}
+use lib.ListN.{length, getD}
+use Rattle.words.specs.Word.{kindOf}
 use Rattle.expr.specs.Expr.{Expr}
-use Rattle.tree.specs.Sorts.{body, Kind, sorts}
+use Rattle.tree.specs.Sorts.{stmt, body, Kind, sorts}
 use Rattle.tree.specs.Tree.{Shape, one, row, Tree, Stmt, over}
 use Rattle.tree.specs.Stands.{Stands}
 use Rattle.views.specs.View.{view, inner, walk}
@@ -45,6 +46,20 @@ pub record Ready (i : Shape) (ws ns bytes ends : List ℕ) (scope at : ℕ) (s :
   pub tree : Shallow i ns (length ends) 100 ws at
   pub around : Around bytes ends ns scope
   pub kept : Kept ns (length ends) s b d
+
+-- a statement that opens no scope and may do something
+pub record Alone (k : ℕ) : Type 0 where
+  pub from : 64 ≤ k
+  pub upto : k ≤ 93
+  pub no-sub : k ≡ 84 → ⊥
+  pub no-function : k ≡ 85 → ⊥
+
+-- a SUB or FUNCTION, with its end
+pub record ReadyProcedure (ws ns bytes ends : List ℕ) (scope at end : ℕ) (s : Counts) (b d : List ℕ) : Type 0 where
+  pub ready : Ready (one stmt) ws ns bytes ends scope at s b d
+  pub over-at : ready .tree .end ≡ end
+  pub from : 84 ≤ kindOf (getD ws at 0)
+  pub upto : kindOf (getD ws at 0) ≤ 85
 
 -- a program's list of statements, up to the words' end
 pub record ReadyWhole (ws ns bytes ends : List ℕ) (scope at : ℕ) (s : Counts) (b d : List ℕ) : Type 0 where

@@ -5,12 +5,14 @@ use expr::Step;
 use steps::Counts;
 ghost use mathlib.Core.Path.{_≡_};
 ghost use Prim.Native.Nat.{ℕ, _≤_};
-ghost use lib.ListN.{length};
+ghost use mathlib.Core.List.{List};
+ghost use lib.ListN.{length, getD};
+ghost use Rattle.words.specs.Word.{kindOf};
 ghost use Rattle.expr.specs.Expr.{Expr};
 ghost use Rattle.tree.specs.Sorts.{stmt as stmtSort};
 ghost use Rattle.tree.specs.Tree.{one, Tree, depthT};
 ghost use Rattle.tree.specs.Stands.{Stands};
-ghost use Rattle.collecting.specs.Walk.{Ready, ReadyWhole, Scanning, Scanned, Stated, Collects};
+ghost use Rattle.collecting.specs.Walk.{Ready, Alone, ReadyProcedure, ReadyWhole, Scanning, Scanned, Stated, Collects};
 
 // The counts, and the place past what was walked.
 pub struct Moved {
@@ -18,7 +20,7 @@ pub struct Moved {
     pub next: usize,
 }
 
-// One statement, but for its bodies.
+// One statement that is no procedure, but for its bodies.
 fn statement(
     words: &[u32],
     names: &[u8],
@@ -31,7 +33,7 @@ fn statement(
     scope: u32,
     at: usize,
 ) -> Counts
-    requires { ⌜ Ready (one stmtSort) (now words) (now names) (now bytes) (now ends) scope at s (now b) (now d) ⌝ }
+    requires { ⌜ Ready (one stmtSort) (now words) (now names) (now bytes) (now ends) scope at s (now b) (now d) × Alone (kindOf (getD (now words) at 0)) ⌝ }
     ensures { λ r. ⌜ Stated (now (words .entry)) (now (names .entry)) (length (now (ends .entry))) (now (bytes .entry)) (now (ends .entry)) (now (erased .entry)) scope at s r (now (b .entry)) (now (d .entry)) (now (b .exit)) (now (d .exit)) ⌝ }
 {
     match words[at] / 16777216 {
@@ -41,13 +43,33 @@ fn statement(
         81 => items::shared(words, b, d, s, scope, at),
         82 => items::statics(words, b, d, s, scope, at),
         83 => dims::redim(words, bytes, ends, erased, b, d, s, scope, at),
-        84 => procedures::sub(words, names, bytes, ends, b, d, s, scope, at),
-        85 => procedures::function(words, names, bytes, ends, b, d, s, scope, at),
         89 => labels::constant(words, b, d, s, at),
         92 => labels::option_base(words, b, d, s, at),
         93 => types::type_def(words, b, d, s, scope, at),
         _ => s,
     }
+}
+
+// A SUB or FUNCTION, but for its body; it ends at `end`.
+fn procedure(
+    words: &[u32],
+    names: &[u8],
+    bytes: &[u8],
+    ends: &[u32],
+    b: &mut [u32],
+    d: &mut [u32],
+    s: Counts,
+    scope: u32,
+    at: usize,
+    end: usize,
+) -> Counts
+    requires { ⌜ ReadyProcedure (now words) (now names) (now bytes) (now ends) scope at end s (now b) (now d) ⌝ }
+    ensures { λ r. ⌜ ((erased : List ℕ) → Stated (now (words .entry)) (now (names .entry)) (length (now (ends .entry))) (now (bytes .entry)) (now (ends .entry)) erased scope at s r (now (b .entry)) (now (d .entry)) (now (b .exit)) (now (d .exit))) ⌝ }
+{
+    if words[at] / 16777216 == 84 {
+        return procedures::sub(words, names, bytes, ends, b, d, s, scope, at, end);
+    }
+    procedures::function(words, names, bytes, ends, b, d, s, scope, at, end)
 }
 
 // The place past the statement at `at`: it stands there, so that reading never fails.
@@ -88,7 +110,7 @@ fn scan(
             84 | 85 => {
                 let e = past(words, names, ends.len() as u32, at);
                 let inner = plans::inside(words, at, scope);
-                t = statement(words, names, bytes, ends, erased, b, d, t, scope, at);
+                t = procedure(words, names, bytes, ends, b, d, t, scope, at, e);
                 t = scan(words, names, bytes, ends, erased, b, d, t, inner, at + 1, e);
                 at = e;
             }

@@ -1,5 +1,5 @@
 -- What the words of a parameter and of a procedure say. Assumes nothing.
-use Prim.Native.Nat.{ℕ, _+_, _<_, _≤_}
+use Prim.Native.Nat.{ℕ, _+_, _-_, _<_, _≤_}
 use native.Mathlib.Omega.{arith}
 use mathlib.Core.Path.{_≡_, refl, sym, ap, ap₂, subst, _∙_}
 use mathlib.Core.Bool.{Bool, true, false}
@@ -11,17 +11,11 @@ use Rattle.words.specs.Word.{wordOf, payOf}
 use Rattle.strings.proofs.Laws.{names-length}
 use Rattle.expr.specs.Expr.{Expr}
 use Rattle.expr.specs.Stands.{Wrote}
-use Rattle.expr.specs.Reader.{exprAt}
-use Rattle.expr.specs.Answer.{stepOf}
-use Rattle.expr.specs.declared.Cursor.{Cursor}
-use Rattle.expr.specs.declared.Step.{Step}
-use Rattle.expr.specs.declared.Step.the-variants.{Read, Wrong, Deep}
 use Rattle.expr.proofs.Parts.{First, wrote-first, wrote-left, wrote-right, pay-is}
 use Rattle.tree.specs.Sorts.{name, Sort, Sorts, TypeRef as TypeSort, opt, nil, _&_, flag, numberOf, Param as ParamRow, body as bodySort, stmt, Kind, sorts, sub, function}
-use Rattle.tree.specs.Tree.{strings, one, row, rows, Tree, word, Stmt, list, done, cons, count, wordsT, Right, depthT, over}
+use Rattle.tree.specs.Tree.{strings, one, row, rows, Tree, word, Stmt, list, done, cons, count, wordsT, Right, over}
 use Rattle.tree.specs.Stands.{Stands, SomeTree}
-use Rattle.tree.specs.Reader.{fieldAt, stmtAt}
-use Rattle.tree.proofs.Complete.{completes, one-tree, clear, clearR}
+use Rattle.tree.proofs.Complete.{one-tree, clear}
 use Rattle.views.specs.View.{TypeRef, Param, headOf, argOf, optional, asType, isSet, param, items, rowsOf, view}
 use Rattle.lent.specs.RuleLaws.{name-below as marked-below}
 use Rattle.parts.specs.Parts.{AsTypeIs}
@@ -30,7 +24,7 @@ use Rattle.parts.specs.declared.TypeAt.{TypeAt}
 use Rattle.collect.specs.Seen.{see}
 use Rattle.collect.specs.Collect.{Given, statement, procedure}
 use Rattle.collect.specs.Code.{StmtAt, Named}
-use Rattle.procedures.specs.Post.{ParamOf, ParamIs, ParamsAt, SomeParams, BodyAt, SomeProc, Shown, ProcIs}
+use Rattle.procedures.specs.Post.{StmtTo, ParamOf, ParamIs, ParamsAt, SomeParams, BodyAt, SomeProc, Shown, ProcIs}
 use Rattle.procedures.specs.declared.ProcAt.{ProcAt}
 
 -- ---- words at a place
@@ -93,27 +87,10 @@ module _ {ws : List ℕ} {at : ℕ} where
           let q = T .is ns n (p .clause) end (p .there) in
           (record { name = p .name; byval = e ∙ p .byval; array = d ∙ p .array; head = q .0 ∙ ap headOf (p .type-is); arg = q .1 ∙ ap argOf (p .type-is) }, q .2)
 
--- ---- a body, and the place past it
+-- ---- a body
 
 pub body-at : {ws : List ℕ} {at : ℕ} (S : SomeTree (one bodySort) ws at) → BodyAt ws at (over see (S .tree))
 body-at S = record { names = S .names; strings = S .strings; tree = S .tree; end = S .end; stands = S .stands; is = refl }
-
-module _ {ws ns : List ℕ} {n at : ℕ} (s : Step) (e : s ≡ stepOf (fieldAt ws ns n (exprAt ws (strings ns n) 100) (stmtAt ws ns n 100) bodySort at)) where
-  body-read : {v : Tree Expr (one bodySort)} {end : ℕ} → Stands ws ns n at v end → depthT v ≤ 100 → s ≡ Read (record { at = end })
-  unfolding stepOf clear clearR
-  body-read {v} {end} S d = e ∙ ap stepOf (completes ws ns n v 100 at end refl d (S .valid) (S .wrote))
-
-  pub body-past : (c : Cursor) → s ≡ Read c → (v : Tree Expr (one bodySort)) (end : ℕ) → Stands ws ns n at v end → depthT v ≤ 100 → c .at ≡ end
-  body-past c q v end S d = ap Cursor.at (the-cursor (sym q ∙ body-read S d))
-    where
-      the-cursor : {c c′ : Cursor} → Read c ≡ Read c′ → c ≡ c′
-      the-cursor q = cc
-
-  pub body-wrong : (p : ℕ) → s ≡ Wrong p → (v : Tree Expr (one bodySort)) (end : ℕ) → Stands ws ns n at v end → depthT v ≤ 100 → p ≡ end
-  body-wrong p q v end S d = let r = body-read S d in let z : _≡_ {A = ℕ} 0 1 = cc in absurd (omega arith)
-
-  pub body-deep : (p : ℕ) → s ≡ Deep p → (v : Tree Expr (one bodySort)) (end : ℕ) → Stands ws ns n at v end → depthT v ≤ 100 → p ≡ end
-  body-deep p q v end S d = let r = body-read S d in let z : _≡_ {A = ℕ} 0 1 = cc in absurd (omega arith)
 
 -- ---- what stands in a statement: its line, a name and a list, a part and the rest, a flag
 
@@ -171,17 +148,21 @@ in-flag (word x) r s =
     let f = wrote-first (s .wrote) in
     (f .inside, flag-is _ x (f .is) (s .valid .0 .1), record { wrote = f .rest; valid = s .valid .1 })
 
--- a place has one statement, so that any that stands there is shallow
-shallow-all : {ns : List ℕ} {n : ℕ} {k : Kind} {ws : List ℕ} {at line end : ℕ} {fields : Tree Expr (row (sorts k))} → StmtAt ns n k ws at → Stands ws ns n at (Stmt k line fields) end → depthT fields ≤ 100
-unfolding depthT clear
-shallow-all {ns} {n} {k} {ws} {at} {line} {end} {fields} S s =
-    let e = one-tree ws ns n (Stmt k line fields) (Stmt k (S .line) (S .fields)) at end (S .end) refl (s .valid) (S .stands .valid) (s .wrote) (S .stands .wrote) .0 in
-    let q : depthT fields + 1 ≡ depthT (S .fields) + 1 = ap (λ (v : Tree Expr (one stmt)). depthT v) e in
-    omega (arith, S .shallow)
+-- nothing is left
+in-done : {ws ns : List ℕ} {n at end : ℕ} → Stands ws ns n at done end → at ≡ end
+unfolding wordsT
+in-done s = omega (arith, s .wrote .span)
+
+-- a place has one statement, so that any that stands there ends where that one does
+same-end : {ns : List ℕ} {n : ℕ} {k : Kind} {ws : List ℕ} {at e line end : ℕ} {fields : Tree Expr (row (sorts k))} → StmtTo ns n k ws at e → Stands ws ns n at (Stmt k line fields) end → end ≡ e
+unfolding clear
+same-end {ns} {n} {k} {ws} {at} {line = line} {end} {fields} S s =
+    let T = S .stmt in
+    one-tree ws ns n (Stmt k line fields) (Stmt k (T .line) (T .fields)) at end (T .end) refl (s .valid) (T .stands .valid) (s .wrote) (T .stands .wrote) .1 ∙ S .ends
 
 -- ---- a SUB
 
-record InSub (ws ns : List ℕ) (n at line : ℕ) (r : Tree Expr (row (sorts sub))) : Type 0 where
+record InSub (ws ns : List ℕ) (n at end line : ℕ) (r : Tree Expr (row (sorts sub))) : Type 0 where
   name : ℕ
   params : Tree Expr (rows ParamRow)
   body : Tree Expr (one bodySort)
@@ -195,14 +176,14 @@ record InSub (ws ns : List ℕ) (n at line : ℕ) (r : Tree Expr (row (sorts sub
   params-there : Stands ws ns n (at + 3) params mid
   past : ℕ
   body-there : Stands ws ns n mid body past
-  shallow : depthT body ≤ depthT r
+  last : past + 1 ≡ end
   flag-inside : past < length ws
   flag-set : eqb (payOf (getD ws past 0)) 1 ≡ isSet keeps
   is : (G : Given) (scope : ℕ) → statement G scope line (view sub (over see r))
       ≡ procedure G scope line (record { name = name; params = rowsOf param params; ret-ty = absent; body = over see body; is-function = false; is-static = isSet keeps; def-fn = false })
 
-in-sub : {ws ns : List ℕ} {n at end : ℕ} (line : ℕ) (r : Tree Expr (row (sorts sub))) → Stands ws ns n at (Stmt sub line r) end → InSub ws ns n at line r
-unfolding sorts view over statement items depthT
+in-sub : {ws ns : List ℕ} {n at end : ℕ} (line : ℕ) (r : Tree Expr (row (sorts sub))) → Stands ws ns n at (Stmt sub line r) end → InSub ws ns n at end line r
+unfolding sorts view over statement items
 in-sub line (cons (word x) (cons (list ps) (cons b (cons f done)))) s =
     let l = stmt-line s in
     let h = in-head x ps (cons b (cons f done)) (l .2) in
@@ -222,7 +203,7 @@ in-sub line (cons (word x) (cons (list ps) (cons b (cons f done)))) s =
       params-there = h .there;
       past = c .mid;
       body-there = c .there;
-      shallow = omega arith;
+      last = in-done (g .2);
       flag-inside = g .0;
       flag-set = g .1;
       is = λ G scope.
@@ -230,15 +211,15 @@ in-sub line (cons (word x) (cons (list ps) (cons b (cons f done)))) s =
           (param-rows-over see ps) (set-over see f);
     }
 
--- what the code knows of the places past the parameters and past the body
+-- what the code knows of the place past the parameters
 module _ {ws ns : List ℕ} {n : ℕ} (at : ℕ) {m : ℕ}
     (past-params : (ps : List Param) (T : ParamsAt ws (at + 3) (payOf (getD ws (at + 2) 0)) ps) → m ≡ T .end) where
   params-end : {ps : Tree Expr (rows ParamRow)} {end : ℕ} → count ps ≡ payOf (getD ws (at + 2) 0) → Stands ws ns n (at + 3) ps end → m ≡ end
   params-end {ps} {end} c s = past-params (rowsOf param ps) (record { names = ns; strings = n; tree = ps; end = end; stands = s; counted = c; are = refl })
 
-module _ {ws ns : List ℕ} {n at : ℕ} (S : StmtAt ns n sub ws at) where
-  here : InSub ws ns n at (S .line) (S .fields)
-  here = in-sub (S .line) (S .fields) (S .stands)
+module _ {ws ns : List ℕ} {n at end : ℕ} (S : StmtTo ns n sub ws at end) where
+  here : InSub ws ns n at (S .stmt .end) (S .stmt .line) (S .stmt .fields)
+  here = in-sub (S .stmt .line) (S .stmt .fields) (S .stmt .stands)
 
   pub sub-inside : at + 2 < length ws
   sub-inside = here .inside
@@ -248,46 +229,39 @@ module _ {ws ns : List ℕ} {n at : ℕ} (S : StmtAt ns n sub ws at) where
       let h = here in
       record { params = rowsOf param (h .params); there = record { names = ns; strings = n; tree = h .params; end = h .mid; stands = h .params-there; counted = h .counted; are = refl } }
 
-  module _ {m e : ℕ} (past-params : (ps : List Param) (T : ParamsAt ws (at + 3) (payOf (getD ws (at + 2) 0)) ps) → m ≡ T .end)
-      (past-body : (v : Tree Expr (one bodySort)) (end : ℕ) → Stands ws ns n m v end → depthT v ≤ 100 → e ≡ end) where
-    -- of whatever SUB stands there
-    ends : {line : ℕ} {r : Tree Expr (row (sorts sub))} (h : InSub ws ns n at line r) → depthT r ≤ 100 → (m ≡ h .mid) × (e ≡ h .past)
-    ends h d =
-        let p = params-end at past-params (h .counted) (h .params-there) in
-        let s = h .shallow in
-        (p, past-body (h .body) (h .past) (subst (λ (x : ℕ). Stands ws ns n x (h .body) (h .past)) (sym p) (h .body-there)) (omega arith))
+  -- the flag is the last word
+  pub last-flag : (1 ≤ end) × (end - 1 < length ws)
+  last-flag = (omega (arith, here .last, S .ends), omega (arith, here .last, here .flag-inside, S .ends))
 
-    pub sub-flag : e < length ws
-    sub-flag = omega (arith, here .flag-inside, ends here (S .shallow) .1)
-
-    pub sub-is : (keeps : Bool) → keeps ≡ eqb (payOf (getD ws e 0)) 1
-        → ProcIs ns n sub ws at (record { line = payOf (getD ws at 0); name = payOf (getD ws (at + 1) 0); params = at + 3; count = payOf (getD ws (at + 2) 0); head = 0; arg = 0; body = m; function = false; keeps = keeps; deffn = false })
-    sub-is keeps q = record { shows = by; named = subst (λ (x : ℕ). eqb (getD ns x 0) 1 ≡ true) (sym (here .name-is)) (here .named) }
-      where
-        by : (line : ℕ) (r : Tree Expr (row (sorts sub))) (end : ℕ) → Stands ws ns n at (Stmt sub line r) end
-            → Shown ws sub (record { line = payOf (getD ws at 0); name = payOf (getD ws (at + 1) 0); params = at + 3; count = payOf (getD ws (at + 2) 0); head = 0; arg = 0; body = m; function = false; keeps = keeps; deffn = false }) line r
-        by line r end s =
-            let h = in-sub line r s in
-            let p = ends h (shallow-all S s) in
-            record {
-              proc = record { name = h .name; params = rowsOf param (h .params); ret-ty = absent; body = over see (h .body); is-function = false; is-static = isSet (h .keeps); def-fn = false };
-              is = h .is;
-              of = record {
-                name = h .name-is;
-                params = record { names = ns; strings = n; tree = h .params; end = h .mid; stands = h .params-there; counted = h .counted; are = refl };
-                head = refl;
-                arg = refl;
-                body = record { names = ns; strings = n; tree = h .body; end = h .past; stands = subst (λ (x : ℕ). Stands ws ns n x (h .body) (h .past)) (sym (p .0)) (h .body-there); is = refl };
-                function = refl;
-                static = q ∙ ap (λ (x : ℕ). eqb (payOf (getD ws x 0)) 1) (p .1) ∙ h .flag-set;
-                def-fn = refl;
-              };
-              line-is = h .line-is;
-            }
+  pub sub-is : {m : ℕ} → ((ps : List Param) (T : ParamsAt ws (at + 3) (payOf (getD ws (at + 2) 0)) ps) → m ≡ T .end) → (keeps : Bool) → keeps ≡ eqb (payOf (getD ws (end - 1) 0)) 1
+      → ProcIs ns n sub ws at (record { line = payOf (getD ws at 0); name = payOf (getD ws (at + 1) 0); params = at + 3; count = payOf (getD ws (at + 2) 0); head = 0; arg = 0; body = m; function = false; keeps = keeps; deffn = false })
+  sub-is {m} past-params keeps q = record { shows = by; named = subst (λ (x : ℕ). eqb (getD ns x 0) 1 ≡ true) (sym (here .name-is)) (here .named) }
+    where
+      by : (line : ℕ) (r : Tree Expr (row (sorts sub))) (end′ : ℕ) → Stands ws ns n at (Stmt sub line r) end′
+          → Shown ws sub (record { line = payOf (getD ws at 0); name = payOf (getD ws (at + 1) 0); params = at + 3; count = payOf (getD ws (at + 2) 0); head = 0; arg = 0; body = m; function = false; keeps = keeps; deffn = false }) line r
+      by line r end′ s =
+          let h = in-sub line r s in
+          let p = params-end at past-params (h .counted) (h .params-there) in
+          let e : end - 1 ≡ h .past = omega (arith, h .last, same-end S s) in
+          record {
+            proc = record { name = h .name; params = rowsOf param (h .params); ret-ty = absent; body = over see (h .body); is-function = false; is-static = isSet (h .keeps); def-fn = false };
+            is = h .is;
+            of = record {
+              name = h .name-is;
+              params = record { names = ns; strings = n; tree = h .params; end = h .mid; stands = h .params-there; counted = h .counted; are = refl };
+              head = refl;
+              arg = refl;
+              body = record { names = ns; strings = n; tree = h .body; end = h .past; stands = subst (λ (x : ℕ). Stands ws ns n x (h .body) (h .past)) (sym p) (h .body-there); is = refl };
+              function = refl;
+              static = q ∙ ap (λ (x : ℕ). eqb (payOf (getD ws x 0)) 1) e ∙ h .flag-set;
+              def-fn = refl;
+            };
+            line-is = h .line-is;
+          }
 
 -- ---- a FUNCTION: its AS clause stands before the body, and it has two flags
 
-record InFunction (ws ns : List ℕ) (n at line : ℕ) (r : Tree Expr (row (sorts function))) : Type 0 where
+record InFunction (ws ns : List ℕ) (n at end line : ℕ) (r : Tree Expr (row (sorts function))) : Type 0 where
   name : ℕ
   params : Tree Expr (rows ParamRow)
   clause : Tree Expr (one (opt (TypeSort & nil)))
@@ -305,15 +279,15 @@ record InFunction (ws ns : List ℕ) (n at line : ℕ) (r : Tree Expr (row (sort
   clause-there : Stands ws ns n mid clause next
   past : ℕ
   body-there : Stands ws ns n next body past
-  shallow : depthT body ≤ depthT r
+  last : past + 2 ≡ end
   flag-inside : past + 1 < length ws
   keeps-set : eqb (payOf (getD ws past 0)) 1 ≡ isSet keeps
   deffn-set : eqb (payOf (getD ws (past + 1) 0)) 1 ≡ isSet deffn
   is : (G : Given) (scope : ℕ) → statement G scope line (view function (over see r))
       ≡ procedure G scope line (record { name = name; params = rowsOf param params; ret-ty = optional asType clause; body = over see body; is-function = true; is-static = isSet keeps; def-fn = isSet deffn })
 
-in-function : {ws ns : List ℕ} {n at end : ℕ} (line : ℕ) (r : Tree Expr (row (sorts function))) → Stands ws ns n at (Stmt function line r) end → InFunction ws ns n at line r
-unfolding sorts view over statement items depthT
+in-function : {ws ns : List ℕ} {n at end : ℕ} (line : ℕ) (r : Tree Expr (row (sorts function))) → Stands ws ns n at (Stmt function line r) end → InFunction ws ns n at end line r
+unfolding sorts view over statement items
 in-function line (cons (word x) (cons (list ps) (cons t (cons b (cons f (cons g done)))))) s =
     let l = stmt-line s in
     let h = in-head x ps (cons t (cons b (cons f (cons g done)))) (l .2) in
@@ -339,7 +313,7 @@ in-function line (cons (word x) (cons (list ps) (cons t (cons b (cons f (cons g 
       clause-there = a .there;
       past = c .mid;
       body-there = c .there;
-      shallow = omega arith;
+      last = omega (arith, in-done (d .2));
       flag-inside = d .0;
       keeps-set = k .1;
       deffn-set = d .1;
@@ -350,9 +324,9 @@ in-function line (cons (word x) (cons (list ps) (cons t (cons b (cons f (cons g 
           (set-over see f) (set-over see g);
     }
 
-module _ {ws ns : List ℕ} {n at : ℕ} (S : StmtAt ns n function ws at) where
-  found : InFunction ws ns n at (S .line) (S .fields)
-  found = in-function (S .line) (S .fields) (S .stands)
+module _ {ws ns : List ℕ} {n at end : ℕ} (S : StmtTo ns n function ws at end) where
+  found : InFunction ws ns n at (S .stmt .end) (S .stmt .line) (S .stmt .fields)
+  found = in-function (S .stmt .line) (S .stmt .fields) (S .stmt .stands)
 
   pub function-inside : at + 2 < length ws
   function-inside = found .inside
@@ -362,55 +336,44 @@ module _ {ws ns : List ℕ} {n at : ℕ} (S : StmtAt ns n function ws at) where
       let h = found in
       record { params = rowsOf param (h .params); there = record { names = ns; strings = n; tree = h .params; end = h .mid; stands = h .params-there; counted = h .counted; are = refl } }
 
+  -- the flags are the last two words
+  pub last-flags : (2 ≤ end) × (end - 1 < length ws)
+  last-flags = (omega (arith, found .last, S .ends), omega (arith, found .last, found .flag-inside, S .ends))
+
   module _ {m : ℕ} (past-params : (ps : List Param) (T : ParamsAt ws (at + 3) (payOf (getD ws (at + 2) 0)) ps) → m ≡ T .end) where
     -- the clause stands past the parameters, of whatever FUNCTION stands there
-    clause-at : {line : ℕ} {r : Tree Expr (row (sorts function))} (h : InFunction ws ns n at line r) → Stands ws ns n m (h .clause) (h .next)
+    clause-at : {end line : ℕ} {r : Tree Expr (row (sorts function))} (h : InFunction ws ns n at end line r) → Stands ws ns n m (h .clause) (h .next)
     clause-at h = subst (λ (x : ℕ). Stands ws ns n x (h .clause) (h .next)) (sym (params-end at past-params (h .counted) (h .params-there))) (h .clause-there)
 
     pub function-clause : SomeTree (one (opt (TypeSort & nil))) ws m
     function-clause = record { names = ns; strings = n; tree = found .clause; end = found .next; stands = clause-at found }
 
-    module _ {t : TypeAt} {e : ℕ} (T : AsTypeIs ws m t) (past-body : (v : Tree Expr (one bodySort)) (end : ℕ) → Stands ws ns n (t .next) v end → depthT v ≤ 100 → e ≡ end) where
-      record Ends {line : ℕ} {r : Tree Expr (row (sorts function))} (h : InFunction ws ns n at line r) : Type 0 where
-        head : t .head ≡ headOf (optional asType (h .clause))
-        arg : t .arg ≡ argOf (optional asType (h .clause))
-        body : Stands ws ns n (t .next) (h .body) (h .past)
-        past : e ≡ h .past
-
-      both : {line : ℕ} {r : Tree Expr (row (sorts function))} (h : InFunction ws ns n at line r) → depthT r ≤ 100 → Ends h
-      both h d =
-          let q = T .is ns n (h .clause) (h .next) (clause-at h) in
-          let s = h .shallow in
-          let b = subst (λ (x : ℕ). Stands ws ns n x (h .body) (h .past)) (sym (q .2)) (h .body-there) in
-          record { head = q .0; arg = q .1; body = b; past = past-body (h .body) (h .past) b (omega arith) }
-
-      pub function-flags : e + 1 < length ws
-      function-flags = omega (arith, found .flag-inside, both found (S .shallow) .past)
-
-      pub function-is : (keeps deffn : Bool) → keeps ≡ eqb (payOf (getD ws e 0)) 1 → deffn ≡ eqb (payOf (getD ws (e + 1) 0)) 1
-          → ProcIs ns n function ws at (record { line = payOf (getD ws at 0); name = payOf (getD ws (at + 1) 0); params = at + 3; count = payOf (getD ws (at + 2) 0); head = t .head; arg = t .arg; body = t .next; function = true; keeps = keeps; deffn = deffn })
-      function-is keeps deffn q d = record { shows = by; named = subst (λ (x : ℕ). eqb (getD ns x 0) 1 ≡ true) (sym (found .name-is)) (found .named) }
-        where
-          by : (line : ℕ) (r : Tree Expr (row (sorts function))) (end : ℕ) → Stands ws ns n at (Stmt function line r) end
-              → Shown ws function (record { line = payOf (getD ws at 0); name = payOf (getD ws (at + 1) 0); params = at + 3; count = payOf (getD ws (at + 2) 0); head = t .head; arg = t .arg; body = t .next; function = true; keeps = keeps; deffn = deffn }) line r
-          by line r end s =
-              let h = in-function line r s in
-              let p = both h (shallow-all S s) in
-              record {
-                proc = record { name = h .name; params = rowsOf param (h .params); ret-ty = optional asType (h .clause); body = over see (h .body); is-function = true; is-static = isSet (h .keeps); def-fn = isSet (h .deffn) };
-                is = h .is;
-                of = record {
-                  name = h .name-is;
-                  params = record { names = ns; strings = n; tree = h .params; end = h .mid; stands = h .params-there; counted = h .counted; are = refl };
-                  head = p .head;
-                  arg = p .arg;
-                  body = record { names = ns; strings = n; tree = h .body; end = h .past; stands = p .body; is = refl };
-                  function = refl;
-                  static = q ∙ ap (λ (x : ℕ). eqb (payOf (getD ws x 0)) 1) (p .past) ∙ h .keeps-set;
-                  def-fn = d ∙ ap (λ (x : ℕ). eqb (payOf (getD ws (x + 1) 0)) 1) (p .past) ∙ h .deffn-set;
-                };
-                line-is = h .line-is;
-              }
+    pub function-is : {t : TypeAt} → AsTypeIs ws m t → (keeps deffn : Bool) → keeps ≡ eqb (payOf (getD ws (end - 2) 0)) 1 → deffn ≡ eqb (payOf (getD ws (end - 1) 0)) 1
+        → ProcIs ns n function ws at (record { line = payOf (getD ws at 0); name = payOf (getD ws (at + 1) 0); params = at + 3; count = payOf (getD ws (at + 2) 0); head = t .head; arg = t .arg; body = t .next; function = true; keeps = keeps; deffn = deffn })
+    function-is {t} T keeps deffn q d = record { shows = by; named = subst (λ (x : ℕ). eqb (getD ns x 0) 1 ≡ true) (sym (found .name-is)) (found .named) }
+      where
+        by : (line : ℕ) (r : Tree Expr (row (sorts function))) (end′ : ℕ) → Stands ws ns n at (Stmt function line r) end′
+            → Shown ws function (record { line = payOf (getD ws at 0); name = payOf (getD ws (at + 1) 0); params = at + 3; count = payOf (getD ws (at + 2) 0); head = t .head; arg = t .arg; body = t .next; function = true; keeps = keeps; deffn = deffn }) line r
+        by line r end′ s =
+            let h = in-function line r s in
+            let c = T .is ns n (h .clause) (h .next) (clause-at h) in
+            let e : end - 2 ≡ h .past = omega (arith, h .last, same-end S s) in
+            let f : end - 1 ≡ h .past + 1 = omega (arith, h .last, same-end S s) in
+            record {
+              proc = record { name = h .name; params = rowsOf param (h .params); ret-ty = optional asType (h .clause); body = over see (h .body); is-function = true; is-static = isSet (h .keeps); def-fn = isSet (h .deffn) };
+              is = h .is;
+              of = record {
+                name = h .name-is;
+                params = record { names = ns; strings = n; tree = h .params; end = h .mid; stands = h .params-there; counted = h .counted; are = refl };
+                head = c .0;
+                arg = c .1;
+                body = record { names = ns; strings = n; tree = h .body; end = h .past; stands = subst (λ (x : ℕ). Stands ws ns n x (h .body) (h .past)) (sym (c .2)) (h .body-there); is = refl };
+                function = refl;
+                static = q ∙ ap (λ (x : ℕ). eqb (payOf (getD ws x 0)) 1) e ∙ h .keeps-set;
+                def-fn = d ∙ ap (λ (x : ℕ). eqb (payOf (getD ws x 0)) 1) f ∙ h .deffn-set;
+              };
+              line-is = h .line-is;
+            }
 
 -- ---- a name's number
 

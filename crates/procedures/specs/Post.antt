@@ -19,12 +19,18 @@ use Rattle.steps.specs.Held.{Fit, Sized, Does}
 use Rattle.collect.specs.Seen.{Seen, see}
 use Rattle.collect.specs.Diagnostics.{procInside, procDefined}
 use Rattle.collect.specs.Collect.{Given, given, Proc, paramRows, error, entry, statement, procedure, resultType, checkVariableLengthStrings}
+use Rattle.collect.specs.Code.{StmtAt}
 use Rattle.procedures.specs.declared.ParamAt.{ParamAt}
 use Rattle.procedures.specs.declared.ProcAt.{ProcAt}
 
 -- buffers of so many words, whatever the strings: no step but that of a result's type looks at one
 abbrev pub plain : ℕ → ℕ → Given
 plain N D = given (some N) (some D) [] [] []
+
+-- a statement of the kind stands there, and ends at a place
+pub record StmtTo (ns : List ℕ) (n : ℕ) (k : Kind) (ws : List ℕ) (at end : ℕ) : Type 0 where
+  pub stmt : StmtAt ns n k ws at
+  pub ends : stmt .end ≡ end
 
 -- ---- what was read
 

@@ -1,6 +1,4 @@
 // What collecting does for SUB and FUNCTION, but for their bodies.
-use expr::Cursor;
-use expr::Step;
 use steps::Counts;
 use subscripts::Use;
 ghost use mathlib.Core.Path.{_≡_};
@@ -10,10 +8,9 @@ ghost use Prim.Native.Nat.{ℕ, _+_, _*_, _≤_, _<_};
 ghost use lib.Dec.{eqb};
 ghost use lib.ListN.{length};
 ghost use Rattle.words.specs.Word.{payOf};
-ghost use Rattle.expr.specs.Expr.{Expr};
 ghost use Rattle.tree.specs.Sorts.{Param as ParamRow, body as bodySort, sub as subKind, function as functionKind};
-ghost use Rattle.tree.specs.Tree.{one, row as rowShape, Tree, depthT};
-ghost use Rattle.tree.specs.Stands.{Stands, SomeTree};
+ghost use Rattle.tree.specs.Tree.{one, row as rowShape, Tree};
+ghost use Rattle.tree.specs.Stands.{SomeTree};
 ghost use Rattle.views.specs.View.{TypeRef, Param, head as headIs, headOf, arg as argIs, argOf};
 ghost use Rattle.table.specs.Rows.{width, noteWidth};
 ghost use Rattle.steps.specs.State.{each, when, enter};
@@ -24,8 +21,8 @@ ghost use Rattle.collect.specs.Seen.{Seen};
 ghost use Rattle.entries.specs.Entries.{row};
 ghost use Rattle.collect.specs.Diagnostics.{paramUndefined};
 ghost use Rattle.collect.specs.Collect.{given, paramRows, fixedLength, resultType, paramString, checkVariableLengthStrings, ranked as rankedStep, arrayParam, undefined as undefinedStep, typedParam, procedure as procedureStep};
-ghost use Rattle.collect.specs.Code.{StmtAt, Collects, Named};
-ghost use Rattle.procedures.specs.Post.{plain, ParamOf, ParamIs, ParamsAt, SomeParams, BodyAt, ProcOf, SomeProc, ProcIs, Says, Enters, Acts, definedBefore, beforeEntry, withParams, withMarks};
+ghost use Rattle.collect.specs.Code.{Collects, Named};
+ghost use Rattle.procedures.specs.Post.{StmtTo, plain, ParamOf, ParamIs, ParamsAt, SomeParams, BodyAt, ProcOf, SomeProc, ProcIs, Says, Enters, Acts, definedBefore, beforeEntry, withParams, withMarks};
 
 // A parameter, as it was read: the head of its AS clause, 0 for none, and its argument; and the place past it.
 pub struct ParamAt {
@@ -95,29 +92,16 @@ fn past_params(words: &[u32], from: usize, count: u32) -> usize
     at
 }
 
-// The place past a body: it stands there, so that reading never fails.
-fn past_body(words: &[u32], names: &[u8], n: u32, at: usize) -> usize
-    ensures { λ r. ⌜ ((v : Tree Expr (one bodySort)) (end : ℕ) → Stands (now (words .entry)) (now (names .entry)) n at v end → depthT v ≤ 100 → r ≡ end) ⌝ }
-{
-    let s = tree::body(Cursor { at: at }, words, names, n, 100);
-    match s {
-        Step::Read(c) => c.at,
-        Step::Wrong(p) => p,
-        Step::Deep(p) => p,
-    }
-}
-
-// The SUB at a place: it has no result.
-fn sub_at(words: &[u32], names: &[u8], n: u32, at: usize) -> ProcAt
-    requires { ⌜ StmtAt (now names) n subKind (now words) at ⌝ }
+// The SUB at a place: it has no result, and the last word before its end says whether it is STATIC.
+fn sub_at(words: &[u32], names: &[u8], n: u32, at: usize, end: usize) -> ProcAt
+    requires { ⌜ StmtTo (now names) n subKind (now words) at end ⌝ }
     ensures { λ r. ⌜ ProcIs (now (names .entry)) n subKind (now (words .entry)) at r ⌝ }
 {
     let line = words[at] % 16777216;
     let name = words[at + 1] % 16777216;
     let count = words[at + 2] % 16777216;
     let body = past_params(words, at + 3, count);
-    let end = past_body(words, names, n, body);
-    let keeps = flag(words[end]);
+    let keeps = flag(words[end - 1]);
     ProcAt {
         line: line,
         name: name,
@@ -132,9 +116,9 @@ fn sub_at(words: &[u32], names: &[u8], n: u32, at: usize) -> ProcAt
     }
 }
 
-// The FUNCTION at a place.
-fn function_at(words: &[u32], names: &[u8], n: u32, at: usize) -> ProcAt
-    requires { ⌜ StmtAt (now names) n functionKind (now words) at ⌝ }
+// The FUNCTION at a place: of the last two words before its end the first says whether it is STATIC, the second whether it is a DEF FN.
+fn function_at(words: &[u32], names: &[u8], n: u32, at: usize, end: usize) -> ProcAt
+    requires { ⌜ StmtTo (now names) n functionKind (now words) at end ⌝ }
     ensures { λ r. ⌜ ProcIs (now (names .entry)) n functionKind (now (words .entry)) at r ⌝ }
 {
     let line = words[at] % 16777216;
@@ -142,9 +126,8 @@ fn function_at(words: &[u32], names: &[u8], n: u32, at: usize) -> ProcAt
     let count = words[at + 2] % 16777216;
     let m = past_params(words, at + 3, count);
     let t = parts::as_type(words, m);
-    let end = past_body(words, names, n, t.next);
-    let keeps = flag(words[end]);
-    let deffn = flag(words[end + 1]);
+    let keeps = flag(words[end - 2]);
+    let deffn = flag(words[end - 1]);
     ProcAt {
         line: line,
         name: name,
@@ -469,11 +452,12 @@ pub fn sub(
     s: Counts,
     scope: u32,
     at: usize,
+    end: usize,
 ) -> Counts
-    requires { ⌜ StmtAt (now names) (length (now ends)) subKind (now words) at × Named (now bytes) (now ends) (now names) × (length (now ends) ≤ 1024) × Fit s (length (now b)) (length (now d)) ⌝ }
+    requires { ⌜ StmtTo (now names) (length (now ends)) subKind (now words) at end × Named (now bytes) (now ends) (now names) × (length (now ends) ≤ 1024) × Fit s (length (now b)) (length (now d)) ⌝ }
     ensures { λ r. ⌜ ((erased : List ℕ) → Collects (now (names .entry)) (length (now (ends .entry))) subKind (now (words .entry)) (now (bytes .entry)) (now (ends .entry)) erased scope at s r (now (b .entry)) (now (d .entry)) (now (b .exit)) (now (d .exit))) ⌝ }
 {
-    let p = sub_at(words, names, ends.len() as u32, at);
+    let p = sub_at(words, names, ends.len() as u32, at, end);
     procedure(words, bytes, ends, b, d, s, scope, p)
 }
 
@@ -488,10 +472,11 @@ pub fn function(
     s: Counts,
     scope: u32,
     at: usize,
+    end: usize,
 ) -> Counts
-    requires { ⌜ StmtAt (now names) (length (now ends)) functionKind (now words) at × Named (now bytes) (now ends) (now names) × (length (now ends) ≤ 1024) × Fit s (length (now b)) (length (now d)) ⌝ }
+    requires { ⌜ StmtTo (now names) (length (now ends)) functionKind (now words) at end × Named (now bytes) (now ends) (now names) × (length (now ends) ≤ 1024) × Fit s (length (now b)) (length (now d)) ⌝ }
     ensures { λ r. ⌜ ((erased : List ℕ) → Collects (now (names .entry)) (length (now (ends .entry))) functionKind (now (words .entry)) (now (bytes .entry)) (now (ends .entry)) erased scope at s r (now (b .entry)) (now (d .entry)) (now (b .exit)) (now (d .exit))) ⌝ }
 {
-    let p = function_at(words, names, ends.len() as u32, at);
+    let p = function_at(words, names, ends.len() as u32, at, end);
     procedure(words, bytes, ends, b, d, s, scope, p)
 }

@@ -5,13 +5,15 @@ use mathlib.Core.Logic.{⊎-elim}
 use native.Mathlib.Omega.{arith}
 use lib.ListN.{length}
 use borrow.Author.Needs.{needs}
-use Rattle.collecting.proofs.Walk.{Alone, SoFar, scan-start, scan-end, scan-raw, scan-raws, scan-other, scan-stmt, scan-procedure, scan-fits, raw-fits, raws-fits, stmt-ready, stmt-some, stmt-span, stated-kept, body-ready}
+use Rattle.collecting.specs.Walk.{Alone}
+use Rattle.collecting.proofs.Walk.{SoFar, scan-start, scan-end, scan-raw, scan-raws, scan-other, scan-stmt, scan-procedure, scan-fits, raw-fits, raws-fits, stmt-ready, procedure-ready, stmt-some, stmt-span, stated-kept, body-ready}
 use borrow.Fn.Kinds.{In}
 use borrow.Fn.PlainCycle.{Measures, is, falls, and}
 use Rattle.collecting.proofs.scan.Reads as scan
 use Rattle.collecting.proofs.scan.Kinds as scan-kinds
 use Rattle.collecting.proofs.+scan.Lts-scan as scan-lts
 use Rattle.collecting.proofs.past.Reads as past-reads
+use Rattle.collecting.proofs.procedure.Reads as procedure-reads
 use Rattle.collecting.proofs.statement.Reads as statement-reads
 use Rattle.plans.proofs.inside.Reads as inside-reads
 use Rattle.collecting.proofs.+scan.{statement}
@@ -27,7 +29,7 @@ abbrev scan-below : ℕ → In 7 scan-kinds.ps
 scan-below t = and 7 scan-kinds.ps (falls 7 scan-kinds.ps _<_ μ-scan t) scan.Pre
 
 abbrev K-scan : ℕ → scan-lts.Claims
-K-scan t = (past-reads.Asked, past-reads.Learnt, inside-reads.Asked, inside-reads.Learnt, statement-reads.Asked, statement-reads.Learnt, scan-below t, scan.Post)
+K-scan t = (past-reads.Asked, past-reads.Learnt, inside-reads.Asked, inside-reads.Learnt, procedure-reads.Asked, procedure-reads.Learnt, scan-below t, scan.Post, statement-reads.Asked, statement-reads.Learnt)
 
 abbrev scan-Inv-loop : scan-lts.InvT-loop
 scan-Inv-loop words names bytes ends erased b₀ d₀ scope from to t₀ at₀ b d t at = (length b ≡ length b₀) × (length d ≡ length d₀) × SoFar words names bytes ends erased scope from at to t₀ t b₀ d₀ b d
@@ -71,23 +73,23 @@ scan-past-requires t c κs = search needs
 scan-inside-requires : (t : ℕ) → scan-lts.Need-inside-requires (K-scan t) (scan-at t) scan.Post scan-Inv-loop scan-μ-loop
 scan-inside-requires t c κs = (stmt-some (c .before .before .before .before .before .before .before .before .before .loop .inv .2) (c .before .before .before .before .before .before .before .before .loop-test .taken) (c .before .before .before .before .before .before .before .before .before .before .before .before .before .before .before .before .before .pre .1) (omega (arith, c .before .before .if5 .left)) (omega (arith, c .before .if6 .taken)), c .before .before .before .before .before .before .before .before .before .before .before .before .before .before .before .before .before .pre .1 .around .scoped .fits)
 
-scan-statement-requires : (t : ℕ) → scan-lts.Need-statement-requires (K-scan t) (scan-at t) scan.Post scan-Inv-loop scan-μ-loop
-scan-statement-requires t c κs = stmt-ready (c .before .before .before .before .before .before .before .before .before .before .before .before .loop .inv .2) (c .before .before .before .before .before .before .before .before .before .before .before .loop-test .taken) (c .before .before .before .before .before .before .before .before .before .before .before .before .before .before .before .before .before .before .before .before .pre .1) (omega (arith, c .before .before .before .before .before .if5 .left)) (omega (arith, c .before .before .before .before .if6 .taken))
+scan-procedure-requires : (t : ℕ) → scan-lts.Need-procedure-requires (K-scan t) (scan-at t) scan.Post scan-Inv-loop scan-μ-loop
+scan-procedure-requires t c κs = procedure-ready (c .before .before .before .before .before .before .before .before .before .before .before .before .loop .inv .2) (c .before .before .before .before .before .before .before .before .before .before .before .loop-test .taken) (c .before .before .before .before .before .before .before .before .before .before .before .before .before .before .before .before .before .before .before .before .pre .1) (omega (arith, c .before .before .before .before .before .if5 .left)) (omega (arith, c .before .before .before .before .if6 .taken)) (c .before .before .before .past .ensures) (c .before .before .before .before .before .if5 .left) (c .before .before .before .before .if6 .taken)
 
 scan-add-scan : (t : ℕ) → scan-lts.Need-add-scan (K-scan t) (scan-at t) scan.Post scan-Inv-loop scan-μ-loop
 scan-add-scan t c = omega (arith, scan-fits (c .before .before .before .before .before .before .before .before .before .before .before .before .before .before .before .before .before .before .before .loop .inv .2) (c .before .before .before .before .before .before .before .before .before .before .before .before .before .before .before .before .before .before .loop-test .taken) (c .before .before .before .before .before .before .before .before .before .before .before .before .before .before .before .before .before .before .before .before .before .before .before .before .before .before .before .pre .1), c .before .before .before .before .before .before .before .before .before .before .before .before .before .before .before .before .before .before .before .before .before .before .before .before .before .before .before .fits .to)
 
 scan-scan-requires : (t : ℕ) → scan-lts.Need-scan-requires (K-scan t) (scan-at t) scan.Post scan-Inv-loop scan-μ-loop
-scan-scan-requires t c κs = (omega (arith, c .before .before .before .before .before .before .before .before .before .before .before .before .before .before .before .before .before .before .before .before .before .before .before .before .before .before .before .pre .0, (c .before .before .before .before .before .before .before .before .before .before .before .before .before .before .before .before .before .before .before .loop .inv .2) .ahead, stmt-span (c .before .before .before .before .before .before .before .before .before .before .before .before .before .before .before .before .before .before .before .loop .inv .2) (c .before .before .before .before .before .before .before .before .before .before .before .before .before .before .before .before .before .before .loop-test .taken) (c .before .before .before .before .before .before .before .before .before .before .before .before .before .before .before .before .before .before .before .before .before .before .before .before .before .before .before .pre .1) (omega (arith, c .before .before .before .before .before .before .before .before .before .before .before .before .if5 .left)) (omega (arith, c .before .before .before .before .before .before .before .before .before .before .before .if6 .taken)) (c .before .before .before .before .before .before .before .before .before .before .past .ensures)), body-ready (c .before .before .before .before .before .before .before .before .before .before .before .before .before .before .before .before .before .before .before .loop .inv .2) (c .before .before .before .before .before .before .before .before .before .before .before .before .before .before .before .before .before .before .loop-test .taken) (c .before .before .before .before .before .before .before .before .before .before .before .before .before .before .before .before .before .before .before .before .before .before .before .before .before .before .before .pre .1) (omega (arith, c .before .before .before .before .before .before .before .before .before .before .before .before .if5 .left)) (omega (arith, c .before .before .before .before .before .before .before .before .before .before .before .if6 .taken)) (λ i. c .before .before .before .before .before .before .before .before .before .before .before .before .before .before .before .before .before .before .before .before .before .before .before .before .before .before .shared-slice-known .given i .fits) (c .before .before .before .before .before .before .before .before .before .before .past .ensures) (c .before .before .before .before .before .before .before .before .before .inside .ensures) (stated-kept (c .before .before .before .before .before .before .before .before .before .before .before .before .before .before .before .before .before .before .before .loop .inv .2) (c .before .before .before .before .before .before .before .before .before .before .before .before .before .before .before .before .before .before .loop-test .taken) (c .before .before .before .before .before .before .before .before .before .before .before .before .before .before .before .before .before .before .before .before .before .before .before .before .before .before .before .pre .1) (omega (arith, c .before .before .before .before .before .before .before .before .before .before .before .before .if5 .left)) (omega (arith, c .before .before .before .before .before .before .before .before .before .before .before .if6 .taken)) (λ i. c .before .before .before .before .before .before .before .before .before .before .before .before .before .before .before .before .before .before .before .before .before .before .before .before .before .before .shared-slice-known .given i .fits) (c .before .before .before .before .before .before .statement .ensures)))
+scan-scan-requires t c κs = (omega (arith, c .before .before .before .before .before .before .before .before .before .before .before .before .before .before .before .before .before .before .before .before .before .before .before .before .before .before .before .pre .0, (c .before .before .before .before .before .before .before .before .before .before .before .before .before .before .before .before .before .before .before .loop .inv .2) .ahead, stmt-span (c .before .before .before .before .before .before .before .before .before .before .before .before .before .before .before .before .before .before .before .loop .inv .2) (c .before .before .before .before .before .before .before .before .before .before .before .before .before .before .before .before .before .before .loop-test .taken) (c .before .before .before .before .before .before .before .before .before .before .before .before .before .before .before .before .before .before .before .before .before .before .before .before .before .before .before .pre .1) (omega (arith, c .before .before .before .before .before .before .before .before .before .before .before .before .if5 .left)) (omega (arith, c .before .before .before .before .before .before .before .before .before .before .before .if6 .taken)) (c .before .before .before .before .before .before .before .before .before .before .past .ensures)), body-ready (c .before .before .before .before .before .before .before .before .before .before .before .before .before .before .before .before .before .before .before .loop .inv .2) (c .before .before .before .before .before .before .before .before .before .before .before .before .before .before .before .before .before .before .loop-test .taken) (c .before .before .before .before .before .before .before .before .before .before .before .before .before .before .before .before .before .before .before .before .before .before .before .before .before .before .before .pre .1) (omega (arith, c .before .before .before .before .before .before .before .before .before .before .before .before .if5 .left)) (omega (arith, c .before .before .before .before .before .before .before .before .before .before .before .if6 .taken)) (λ i. c .before .before .before .before .before .before .before .before .before .before .before .before .before .before .before .before .before .before .before .before .before .before .before .before .before .before .shared-slice-known .given i .fits) (c .before .before .before .before .before .before .before .before .before .before .past .ensures) (c .before .before .before .before .before .before .before .before .before .inside .ensures) (stated-kept (c .before .before .before .before .before .before .before .before .before .before .before .before .before .before .before .before .before .before .before .loop .inv .2) (c .before .before .before .before .before .before .before .before .before .before .before .before .before .before .before .before .before .before .loop-test .taken) (c .before .before .before .before .before .before .before .before .before .before .before .before .before .before .before .before .before .before .before .before .before .before .before .before .before .before .before .pre .1) (omega (arith, c .before .before .before .before .before .before .before .before .before .before .before .before .if5 .left)) (omega (arith, c .before .before .before .before .before .before .before .before .before .before .before .if6 .taken)) (λ i. c .before .before .before .before .before .before .before .before .before .before .before .before .before .before .before .before .before .before .before .before .before .before .before .before .before .before .shared-slice-known .given i .fits) (c .before .before .before .before .before .before .procedure .ensures _)))
 
 scan-loop-less-3 : (t : ℕ) → scan-lts.Need-loop-less-3 (K-scan t) (scan-at t) scan.Post scan-Inv-loop scan-μ-loop
 scan-loop-less-3 t c = omega (arith, (c .before .before .before .before .before .before .before .before .before .before .before .before .before .before .before .before .before .before .before .before .before .before .before .loop-test .taken), stmt-span (c .before .before .before .before .before .before .before .before .before .before .before .before .before .before .before .before .before .before .before .before .before .before .before .before .loop .inv .2) (c .before .before .before .before .before .before .before .before .before .before .before .before .before .before .before .before .before .before .before .before .before .before .before .loop-test .taken) (c .before .before .before .before .before .before .before .before .before .before .before .before .before .before .before .before .before .before .before .before .before .before .before .before .before .before .before .before .before .before .before .before .pre .1) (omega (arith, c .before .before .before .before .before .before .before .before .before .before .before .before .before .before .before .before .before .if5 .left)) (omega (arith, c .before .before .before .before .before .before .before .before .before .before .before .before .before .before .before .before .if6 .taken)) (c .before .before .before .before .before .before .before .before .before .before .before .before .before .before .before .past .ensures))
 
 scan-loop-again-3 : (t : ℕ) → scan-lts.Need-loop-again-3 (K-scan t) (scan-at t) scan.Post scan-Inv-loop scan-μ-loop
-scan-loop-again-3 t c = (c .before .before .before .before .scan .kept .1 .1 .1 .1 .1 .0 ∙ c .before .before .before .before .before .before .before .before .before .before .before .statement .kept .1 .1 .1 .1 .1 .0 ∙ c .before .before .before .before .before .before .before .before .before .before .before .before .before .before .before .before .before .before .before .before .before .before .before .before .loop .inv .0, c .before .before .before .before .scan .kept .1 .1 .1 .1 .1 .1 .0 ∙ c .before .before .before .before .before .before .before .before .before .before .before .statement .kept .1 .1 .1 .1 .1 .1 .0 ∙ c .before .before .before .before .before .before .before .before .before .before .before .before .before .before .before .before .before .before .before .before .before .before .before .before .loop .inv .1, scan-procedure (c .before .before .before .before .before .before .before .before .before .before .before .before .before .before .before .before .before .before .before .before .before .before .before .before .loop .inv .2) (c .before .before .before .before .before .before .before .before .before .before .before .before .before .before .before .before .before .before .before .before .before .before .before .loop-test .taken) (c .before .before .before .before .before .before .before .before .before .before .before .before .before .before .before .before .before .if5 .left) (c .before .before .before .before .before .before .before .before .before .before .before .before .before .before .before .before .if6 .taken) (c .before .before .before .before .before .before .before .before .before .before .before .before .before .before .before .past .ensures) (stmt-span (c .before .before .before .before .before .before .before .before .before .before .before .before .before .before .before .before .before .before .before .before .before .before .before .before .loop .inv .2) (c .before .before .before .before .before .before .before .before .before .before .before .before .before .before .before .before .before .before .before .before .before .before .before .loop-test .taken) (c .before .before .before .before .before .before .before .before .before .before .before .before .before .before .before .before .before .before .before .before .before .before .before .before .before .before .before .before .before .before .before .before .pre .1) (omega (arith, c .before .before .before .before .before .before .before .before .before .before .before .before .before .before .before .before .before .if5 .left)) (omega (arith, c .before .before .before .before .before .before .before .before .before .before .before .before .before .before .before .before .if6 .taken)) (c .before .before .before .before .before .before .before .before .before .before .before .before .before .before .before .past .ensures) .0) (c .before .before .before .before .before .before .before .before .before .before .before .before .before .before .inside .ensures) (c .before .before .before .before .before .before .before .before .before .before .before .statement .ensures) (c .before .before .before .before .scan .ensures))
+scan-loop-again-3 t c = (c .before .before .before .before .scan .kept .1 .1 .1 .1 .1 .0 ∙ c .before .before .before .before .before .before .before .before .before .before .before .procedure .kept .1 .1 .1 .1 .0 ∙ c .before .before .before .before .before .before .before .before .before .before .before .before .before .before .before .before .before .before .before .before .before .before .before .before .loop .inv .0, c .before .before .before .before .scan .kept .1 .1 .1 .1 .1 .1 .0 ∙ c .before .before .before .before .before .before .before .before .before .before .before .procedure .kept .1 .1 .1 .1 .1 .0 ∙ c .before .before .before .before .before .before .before .before .before .before .before .before .before .before .before .before .before .before .before .before .before .before .before .before .loop .inv .1, scan-procedure (c .before .before .before .before .before .before .before .before .before .before .before .before .before .before .before .before .before .before .before .before .before .before .before .before .loop .inv .2) (c .before .before .before .before .before .before .before .before .before .before .before .before .before .before .before .before .before .before .before .before .before .before .before .loop-test .taken) (c .before .before .before .before .before .before .before .before .before .before .before .before .before .before .before .before .before .if5 .left) (c .before .before .before .before .before .before .before .before .before .before .before .before .before .before .before .before .if6 .taken) (c .before .before .before .before .before .before .before .before .before .before .before .before .before .before .before .past .ensures) (stmt-span (c .before .before .before .before .before .before .before .before .before .before .before .before .before .before .before .before .before .before .before .before .before .before .before .before .loop .inv .2) (c .before .before .before .before .before .before .before .before .before .before .before .before .before .before .before .before .before .before .before .before .before .before .before .loop-test .taken) (c .before .before .before .before .before .before .before .before .before .before .before .before .before .before .before .before .before .before .before .before .before .before .before .before .before .before .before .before .before .before .before .before .pre .1) (omega (arith, c .before .before .before .before .before .before .before .before .before .before .before .before .before .before .before .before .before .if5 .left)) (omega (arith, c .before .before .before .before .before .before .before .before .before .before .before .before .before .before .before .before .if6 .taken)) (c .before .before .before .before .before .before .before .before .before .before .before .before .before .before .before .past .ensures) .0) (c .before .before .before .before .before .before .before .before .before .before .before .before .before .before .inside .ensures) (c .before .before .before .before .before .before .before .before .before .before .before .procedure .ensures _) (c .before .before .before .before .scan .ensures))
 
-scan-statement-requires-2 : (t : ℕ) → scan-lts.Need-statement-requires-2 (K-scan t) (scan-at t) scan.Post scan-Inv-loop scan-μ-loop
-scan-statement-requires-2 t c κs = stmt-ready (c .before .before .before .before .before .before .before .before .before .loop .inv .2) (c .before .before .before .before .before .before .before .before .loop-test .taken) (c .before .before .before .before .before .before .before .before .before .before .before .before .before .before .before .before .before .pre .1) (c .before .before .before .if4 .left) (let o : Alone _ = (⊎-elim (λ y. record { from = c .before .before .before .if4 .left; upto = omega arith; no-sub = λ e. omega arith; no-function = λ e. omega arith }) (λ y. record { from = c .before .before .before .if4 .left; upto = omega arith; no-sub = λ e. omega arith; no-function = λ e. omega arith }) (c .before .before .if5 .came)) in omega (arith, o .upto))
+scan-statement-requires : (t : ℕ) → scan-lts.Need-statement-requires (K-scan t) (scan-at t) scan.Post scan-Inv-loop scan-μ-loop
+scan-statement-requires t c κs = (stmt-ready (c .before .before .before .before .before .before .before .before .before .loop .inv .2) (c .before .before .before .before .before .before .before .before .loop-test .taken) (c .before .before .before .before .before .before .before .before .before .before .before .before .before .before .before .before .before .pre .1) (c .before .before .before .if4 .left) (let o : Alone _ = (⊎-elim (λ y. record { from = c .before .before .before .if4 .left; upto = omega arith; no-sub = λ e. omega arith; no-function = λ e. omega arith }) (λ y. record { from = c .before .before .before .if4 .left; upto = omega arith; no-sub = λ e. omega arith; no-function = λ e. omega arith }) (c .before .before .if5 .came)) in omega (arith, o .upto)), (⊎-elim (λ y. record { from = c .before .before .before .if4 .left; upto = omega arith; no-sub = λ e. omega arith; no-function = λ e. omega arith }) (λ y. record { from = c .before .before .before .if4 .left; upto = omega arith; no-sub = λ e. omega arith; no-function = λ e. omega arith }) (c .before .before .if5 .came)))
 
 scan-add-at-3 : (t : ℕ) → scan-lts.Need-add-at-3 (K-scan t) (scan-at t) scan.Post scan-Inv-loop scan-μ-loop
 scan-add-at-3 t c = omega (arith, scan-fits (c .before .before .before .before .before .before .before .before .before .before .before .before .before .before .loop .inv .2) (c .before .before .before .before .before .before .before .before .before .before .before .before .before .loop-test .taken) (c .before .before .before .before .before .before .before .before .before .before .before .before .before .before .before .before .before .before .before .before .before .before .pre .1))
@@ -96,7 +98,7 @@ scan-loop-less-4 : (t : ℕ) → scan-lts.Need-loop-less-4 (K-scan t) (scan-at t
 scan-loop-less-4 t c = omega (arith, (c .before .before .before .before .before .before .before .before .before .before .before .before .before .loop-test .taken))
 
 scan-loop-again-4 : (t : ℕ) → scan-lts.Need-loop-again-4 (K-scan t) (scan-at t) scan.Post scan-Inv-loop scan-μ-loop
-scan-loop-again-4 t c = (c .before .before .before .before .statement2 .kept .1 .1 .1 .1 .1 .0 ∙ c .before .before .before .before .before .before .before .before .before .before .before .before .before .before .loop .inv .0, c .before .before .before .before .statement2 .kept .1 .1 .1 .1 .1 .1 .0 ∙ c .before .before .before .before .before .before .before .before .before .before .before .before .before .before .loop .inv .1, scan-stmt (c .before .before .before .before .before .before .before .before .before .before .before .before .before .before .loop .inv .2) (c .before .before .before .before .before .before .before .before .before .before .before .before .before .loop-test .taken) (⊎-elim (λ y. record { from = c .before .before .before .before .before .before .before .before .if4 .left; upto = omega arith; no-sub = λ e. omega arith; no-function = λ e. omega arith }) (λ y. record { from = c .before .before .before .before .before .before .before .before .if4 .left; upto = omega arith; no-sub = λ e. omega arith; no-function = λ e. omega arith }) (c .before .before .before .before .before .before .before .if5 .came)) (c .before .before .before .before .statement2 .ensures) (stated-kept (c .before .before .before .before .before .before .before .before .before .before .before .before .before .before .loop .inv .2) (c .before .before .before .before .before .before .before .before .before .before .before .before .before .loop-test .taken) (c .before .before .before .before .before .before .before .before .before .before .before .before .before .before .before .before .before .before .before .before .before .before .pre .1) (c .before .before .before .before .before .before .before .before .if4 .left) (let o : Alone _ = (⊎-elim (λ y. record { from = c .before .before .before .before .before .before .before .before .if4 .left; upto = omega arith; no-sub = λ e. omega arith; no-function = λ e. omega arith }) (λ y. record { from = c .before .before .before .before .before .before .before .before .if4 .left; upto = omega arith; no-sub = λ e. omega arith; no-function = λ e. omega arith }) (c .before .before .before .before .before .before .before .if5 .came)) in omega (arith, o .upto)) (λ i. c .before .before .before .before .before .before .before .before .before .before .before .before .before .before .before .before .before .before .before .before .before .shared-slice-known .given i .fits) (c .before .before .before .before .statement2 .ensures)))
+scan-loop-again-4 t c = (c .before .before .before .before .statement .kept .1 .1 .1 .1 .1 .0 ∙ c .before .before .before .before .before .before .before .before .before .before .before .before .before .before .loop .inv .0, c .before .before .before .before .statement .kept .1 .1 .1 .1 .1 .1 .0 ∙ c .before .before .before .before .before .before .before .before .before .before .before .before .before .before .loop .inv .1, scan-stmt (c .before .before .before .before .before .before .before .before .before .before .before .before .before .before .loop .inv .2) (c .before .before .before .before .before .before .before .before .before .before .before .before .before .loop-test .taken) (⊎-elim (λ y. record { from = c .before .before .before .before .before .before .before .before .if4 .left; upto = omega arith; no-sub = λ e. omega arith; no-function = λ e. omega arith }) (λ y. record { from = c .before .before .before .before .before .before .before .before .if4 .left; upto = omega arith; no-sub = λ e. omega arith; no-function = λ e. omega arith }) (c .before .before .before .before .before .before .before .if5 .came)) (c .before .before .before .before .statement .ensures) (stated-kept (c .before .before .before .before .before .before .before .before .before .before .before .before .before .before .loop .inv .2) (c .before .before .before .before .before .before .before .before .before .before .before .before .before .loop-test .taken) (c .before .before .before .before .before .before .before .before .before .before .before .before .before .before .before .before .before .before .before .before .before .before .pre .1) (c .before .before .before .before .before .before .before .before .if4 .left) (let o : Alone _ = (⊎-elim (λ y. record { from = c .before .before .before .before .before .before .before .before .if4 .left; upto = omega arith; no-sub = λ e. omega arith; no-function = λ e. omega arith }) (λ y. record { from = c .before .before .before .before .before .before .before .before .if4 .left; upto = omega arith; no-sub = λ e. omega arith; no-function = λ e. omega arith }) (c .before .before .before .before .before .before .before .if5 .came)) in omega (arith, o .upto)) (λ i. c .before .before .before .before .before .before .before .before .before .before .before .before .before .before .before .before .before .before .before .before .before .shared-slice-known .given i .fits) (c .before .before .before .before .statement .ensures)))
 
 scan-add-at-4 : (t : ℕ) → scan-lts.Need-add-at-4 (K-scan t) (scan-at t) scan.Post scan-Inv-loop scan-μ-loop
 scan-add-at-4 t c = omega (arith, scan-fits (c .before .before .before .loop .inv .2) (c .before .before .loop-test .taken) (c .before .before .before .before .before .before .before .before .before .before .before .pre .1))
@@ -134,12 +136,12 @@ pub +scan-spec : {M : Type 1} → statement M
     (scan-cast-past t)
     (scan-past-requires t)
     (scan-inside-requires t)
-    (scan-statement-requires t)
+    (scan-procedure-requires t)
     (scan-add-scan t)
     (scan-scan-requires t)
     (scan-loop-less-3 t)
     (scan-loop-again-3 t)
-    (scan-statement-requires-2 t)
+    (scan-statement-requires t)
     (scan-add-at-3 t)
     (scan-loop-less-4 t)
     (scan-loop-again-4 t)

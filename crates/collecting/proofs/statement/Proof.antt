@@ -1,10 +1,7 @@
 -- The match: each arm asks what its crate asks, and does what the definition says of its kind. Assumes nothing.
 use Rattle.plans.proofs.Walk.{head-range}
-use Prim.Native.Nat.{_-_}
-use mathlib.Core.Path.{_∙_}
-use native.Mathlib.Omega.{arith}
 use Rattle.collecting.proofs.Heads.{nothing-said, head-less}
-use Rattle.collecting.proofs.Match.{label-there, label-done, label-name-there, label-name-done, dim-there, dim-done, shared-there, shared-done, statics-there, statics-done, redim-there, redim-done, sub-there, sub-done, function-there, function-done, constant-there, constant-done, option-base-there, option-base-done, type-def-there, type-def-done}
+use Rattle.collecting.proofs.Match.{label-there, label-done, label-name-there, label-name-done, dim-there, dim-done, shared-there, shared-done, statics-there, statics-done, redim-there, redim-done, constant-there, constant-done, option-base-there, option-base-done, type-def-there, type-def-done}
 use borrow.Author.Needs.{needs}
 use Rattle.collecting.proofs.statement.Statement.{statement}
 use Rattle.collecting.proofs.statement.Tie as tie
@@ -13,40 +10,34 @@ mul-match : tie.Need-mul-match
 mul-match c = search needs
 
 shared-slice-read-match : tie.Need-shared-slice-read-match
-shared-slice-read-match c = head-range (c .before .before .before .before .before .before .before .before .pre .tree .stands) .2
+shared-slice-read-match c = head-range (c .before .before .before .before .before .before .before .before .pre .0 .tree .stands) .2
 
 label-requires : tie.Need-label-requires
-label-requires c κs = label-there (c .before .before .before .before .before .before .before .before .before .before .before .pre) (c .before .before .match .keys1)
+label-requires c κs = label-there (c .before .before .before .before .before .before .before .before .before .before .before .pre .0) (c .before .before .match .keys1)
 
 label-name-requires : tie.Need-label-name-requires
-label-name-requires c κs = label-name-there (c .before .before .before .before .before .before .before .before .before .before .before .pre) (c .before .before .match .keys2)
+label-name-requires c κs = label-name-there (c .before .before .before .before .before .before .before .before .before .before .before .pre .0) (c .before .before .match .keys2)
 
 dim-requires : tie.Need-dim-requires
-dim-requires c κs = dim-there (c .before .before .before .before .before .before .before .before .before .before .before .pre) (c .before .before .match .keys3)
+dim-requires c κs = dim-there (c .before .before .before .before .before .before .before .before .before .before .before .pre .0) (c .before .before .match .keys3)
 
 shared-requires : tie.Need-shared-requires
-shared-requires c κs = shared-there (c .before .before .before .before .before .before .before .before .before .before .before .pre) (c .before .before .match .keys4)
+shared-requires c κs = shared-there (c .before .before .before .before .before .before .before .before .before .before .before .pre .0) (c .before .before .match .keys4)
 
 statics-requires : tie.Need-statics-requires
-statics-requires c κs = statics-there (c .before .before .before .before .before .before .before .before .before .before .before .pre) (c .before .before .match .keys5)
+statics-requires c κs = statics-there (c .before .before .before .before .before .before .before .before .before .before .before .pre .0) (c .before .before .match .keys5)
 
 redim-requires : tie.Need-redim-requires
-redim-requires c κs = redim-there (c .before .before .before .before .before .before .before .before .before .before .before .pre) (c .before .before .match .keys6)
-
-sub-requires : tie.Need-sub-requires
-sub-requires c κs = sub-there (c .before .before .before .before .before .before .before .before .before .before .before .pre) (c .before .before .match .keys7)
-
-function-requires : tie.Need-function-requires
-function-requires c κs = function-there (c .before .before .before .before .before .before .before .before .before .before .before .pre) (c .before .before .match .keys8)
+redim-requires c κs = redim-there (c .before .before .before .before .before .before .before .before .before .before .before .pre .0) (c .before .before .match .keys6)
 
 constant-requires : tie.Need-constant-requires
-constant-requires c κs = constant-there (c .before .before .before .before .before .before .before .before .before .before .before .pre) (c .before .before .match .keys9)
+constant-requires c κs = constant-there (c .before .before .before .before .before .before .before .before .before .before .before .pre .0) (c .before .before .match .keys7)
 
 option-base-requires : tie.Need-option-base-requires
-option-base-requires c κs = option-base-there (c .before .before .before .before .before .before .before .before .before .before .before .pre) (c .before .before .match .keys10)
+option-base-requires c κs = option-base-there (c .before .before .before .before .before .before .before .before .before .before .before .pre .0) (c .before .before .match .keys8)
 
 type-def-requires : tie.Need-type-def-requires
-type-def-requires c κs = type-def-there (c .before .before .before .before .before .before .before .before .before .before .before .pre) (c .before .before .match .keys11)
+type-def-requires c κs = type-def-there (c .before .before .before .before .before .before .before .before .before .before .before .pre .0) (c .before .before .match .keys9)
 
 same-length : tie.Need-same-length
 same-length c = search needs
@@ -109,7 +100,7 @@ same-length-14 : tie.Need-same-length-14
 same-length-14 c = search needs
 
 returns-7 : tie.Need-returns-7
-returns-7 c = sub-done (c .before .before .before .before .before .before .before .match .keys7) (c .before .before .before .before .sub .ensures)
+returns-7 c = constant-done (c .before .before .before .before .before .before .before .match .keys7) (c .before .before .before .before .constant .ensures)
 
 same-length-15 : tie.Need-same-length-15
 same-length-15 c = search needs
@@ -118,7 +109,7 @@ same-length-16 : tie.Need-same-length-16
 same-length-16 c = search needs
 
 returns-8 : tie.Need-returns-8
-returns-8 c = function-done (c .before .before .before .before .before .before .before .match .keys8) (c .before .before .before .before .function .ensures)
+returns-8 c = option-base-done (c .before .before .before .before .before .before .before .match .keys8) (c .before .before .before .before .option-base .ensures)
 
 same-length-17 : tie.Need-same-length-17
 same-length-17 c = search needs
@@ -127,28 +118,10 @@ same-length-18 : tie.Need-same-length-18
 same-length-18 c = search needs
 
 returns-9 : tie.Need-returns-9
-returns-9 c = constant-done (c .before .before .before .before .before .before .before .match .keys9) (c .before .before .before .before .constant .ensures)
-
-same-length-19 : tie.Need-same-length-19
-same-length-19 c = search needs
-
-same-length-20 : tie.Need-same-length-20
-same-length-20 c = search needs
+returns-9 c = type-def-done (c .before .before .before .before .before .before .before .match .keys9) (c .before .before .before .before .type-def .ensures)
 
 returns-10 : tie.Need-returns-10
-returns-10 c = option-base-done (c .before .before .before .before .before .before .before .match .keys10) (c .before .before .before .before .option-base .ensures)
-
-same-length-21 : tie.Need-same-length-21
-same-length-21 c = search needs
-
-same-length-22 : tie.Need-same-length-22
-same-length-22 c = search needs
-
-returns-11 : tie.Need-returns-11
-returns-11 c = type-def-done (c .before .before .before .before .before .before .before .match .keys11) (c .before .before .before .before .type-def .ensures)
-
-returns-12 : tie.Need-returns-12
-returns-12 c = nothing-said (c .before .before .before .before .before .before .before .before .before .pre .kept .fit) (record { no-label = λ e. c .match .rest .0 .0 .0 .0 .0 .0 .0 .0 .0 .0 .1 (head-less 0 (c .before .before .before .before .before .before .before .before .before .pre .tree .stands) e); no-labelName = λ e. c .match .rest .0 .0 .0 .0 .0 .0 .0 .0 .0 .1 (head-less 1 (c .before .before .before .before .before .before .before .before .before .pre .tree .stands) e); no-dim = λ e. c .match .rest .0 .0 .0 .0 .0 .0 .0 .0 .1 (head-less 15 (c .before .before .before .before .before .before .before .before .before .pre .tree .stands) e); no-shared = λ e. c .match .rest .0 .0 .0 .0 .0 .0 .0 .1 (head-less 17 (c .before .before .before .before .before .before .before .before .before .pre .tree .stands) e); no-static = λ e. c .match .rest .0 .0 .0 .0 .0 .0 .1 (head-less 18 (c .before .before .before .before .before .before .before .before .before .pre .tree .stands) e); no-redim = λ e. c .match .rest .0 .0 .0 .0 .0 .1 (head-less 19 (c .before .before .before .before .before .before .before .before .before .pre .tree .stands) e); no-sub = λ e. c .match .rest .0 .0 .0 .0 .1 (head-less 20 (c .before .before .before .before .before .before .before .before .before .pre .tree .stands) e); no-function = λ e. c .match .rest .0 .0 .0 .1 (head-less 21 (c .before .before .before .before .before .before .before .before .before .pre .tree .stands) e); no-const = λ e. c .match .rest .0 .0 .1 (head-less 25 (c .before .before .before .before .before .before .before .before .before .pre .tree .stands) e); no-optionBase = λ e. c .match .rest .0 .1 (head-less 28 (c .before .before .before .before .before .before .before .before .before .pre .tree .stands) e); no-typeDef = λ e. c .match .rest .1 (head-less 29 (c .before .before .before .before .before .before .before .before .before .pre .tree .stands) e) })
+returns-10 c = nothing-said (c .before .before .before .before .before .before .before .before .before .pre .0 .kept .fit) (record { no-label = λ e. c .match .rest .0 .0 .0 .0 .0 .0 .0 .0 .1 (head-less 0 (c .before .before .before .before .before .before .before .before .before .pre .0 .tree .stands) e); no-labelName = λ e. c .match .rest .0 .0 .0 .0 .0 .0 .0 .1 (head-less 1 (c .before .before .before .before .before .before .before .before .before .pre .0 .tree .stands) e); no-dim = λ e. c .match .rest .0 .0 .0 .0 .0 .0 .1 (head-less 15 (c .before .before .before .before .before .before .before .before .before .pre .0 .tree .stands) e); no-shared = λ e. c .match .rest .0 .0 .0 .0 .0 .1 (head-less 17 (c .before .before .before .before .before .before .before .before .before .pre .0 .tree .stands) e); no-static = λ e. c .match .rest .0 .0 .0 .0 .1 (head-less 18 (c .before .before .before .before .before .before .before .before .before .pre .0 .tree .stands) e); no-redim = λ e. c .match .rest .0 .0 .0 .1 (head-less 19 (c .before .before .before .before .before .before .before .before .before .pre .0 .tree .stands) e); no-sub = λ e. c .before .before .before .before .before .before .before .before .before .pre .1 .no-sub (head-less 20 (c .before .before .before .before .before .before .before .before .before .pre .0 .tree .stands) e); no-function = λ e. c .before .before .before .before .before .before .before .before .before .pre .1 .no-function (head-less 21 (c .before .before .before .before .before .before .before .before .before .pre .0 .tree .stands) e); no-const = λ e. c .match .rest .0 .0 .1 (head-less 25 (c .before .before .before .before .before .before .before .before .before .pre .0 .tree .stands) e); no-optionBase = λ e. c .match .rest .0 .1 (head-less 28 (c .before .before .before .before .before .before .before .before .before .pre .0 .tree .stands) e); no-typeDef = λ e. c .match .rest .1 (head-less 29 (c .before .before .before .before .before .before .before .before .before .pre .0 .tree .stands) e) })
 
 pub statement-spec : {M : Type 1} → statement M
 statement-spec =
@@ -162,8 +135,6 @@ statement-spec =
     shared-requires
     statics-requires
     redim-requires
-    sub-requires
-    function-requires
     constant-requires
     option-base-requires
     type-def-requires
@@ -194,10 +165,4 @@ statement-spec =
     same-length-17
     same-length-18
     returns-9
-    same-length-19
-    same-length-20
-    returns-10
-    same-length-21
-    same-length-22
-    returns-11
-    returns-12)
+    returns-10)

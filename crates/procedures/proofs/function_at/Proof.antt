@@ -1,6 +1,6 @@
--- `function_at`: the words of a FUNCTION, its AS clause, and the two flags past its body. Assumes nothing.
+-- `function_at`: the words of a FUNCTION, its AS clause, and the two flags before its end. Assumes nothing.
 use native.Mathlib.Omega.{arith}
-use Rattle.procedures.proofs.Reading.{function-inside, function-params, function-clause, function-flags, function-is}
+use Rattle.procedures.proofs.Reading.{function-inside, function-params, function-clause, last-flags, function-is}
 use borrow.Author.Needs.{needs}
 use Rattle.procedures.proofs.function_at.Statement.{statement}
 use Rattle.procedures.proofs.function_at.Tie as tie
@@ -38,35 +38,35 @@ past-params-requires c κs = function-params (c .before .before .before .before 
 as-type-requires : tie.Need-as-type-requires
 as-type-requires c κs = function-clause (c .before .before .before .before .before .before .pre) (c .past-params .ensures)
 
-past-body-requires : tie.Need-past-body-requires
-past-body-requires c κs = search needs
+sub-flag : tie.Need-sub-flag
+sub-flag c = last-flags (c .before .before .before .before .before .before .before .pre) .0
 
 mul-flag : tie.Need-mul-flag
-mul-flag c = omega (arith, function-flags (c .before .before .before .before .before .before .before .before .pre) (c .before .before .past-params .ensures) (c .before .as-type .ensures) (c .past-body .ensures))
+mul-flag c = search needs
 
 shared-slice-read-flag : tie.Need-shared-slice-read-flag
-shared-slice-read-flag c = omega (arith, function-flags (c .before .before .before .before .before .before .before .before .before .pre) (c .before .before .before .past-params .ensures) (c .before .before .as-type .ensures) (c .before .past-body .ensures))
+shared-slice-read-flag c = omega (arith, last-flags (c .before .before .before .before .before .before .before .before .pre))
 
 flag-requires : tie.Need-flag-requires
 flag-requires c κs = search needs
 
-add-flag : tie.Need-add-flag
-add-flag c = omega (arith, function-flags (c .before .before .before .before .before .before .before .before .before .before .pre) (c .before .before .before .before .past-params .ensures) (c .before .before .before .as-type .ensures) (c .before .before .past-body .ensures))
+sub-flag-2 : tie.Need-sub-flag-2
+sub-flag-2 c = omega (arith, last-flags (c .before .before .before .before .before .before .before .before .before .pre))
 
 mul-flag-2 : tie.Need-mul-flag-2
-mul-flag-2 c = omega (arith, function-flags (c .before .before .before .before .before .before .before .before .before .before .pre) (c .before .before .before .before .past-params .ensures) (c .before .before .before .as-type .ensures) (c .before .before .past-body .ensures))
+mul-flag-2 c = search needs
 
 shared-slice-read-flag-2 : tie.Need-shared-slice-read-flag-2
-shared-slice-read-flag-2 c = function-flags (c .before .before .before .before .before .before .before .before .before .before .before .pre) (c .before .before .before .before .before .past-params .ensures) (c .before .before .before .before .as-type .ensures) (c .before .before .before .past-body .ensures)
+shared-slice-read-flag-2 c = last-flags (c .before .before .before .before .before .before .before .before .before .before .pre) .1
 
 flag-requires-2 : tie.Need-flag-requires-2
 flag-requires-2 c κs = search needs
 
-add-t13 : tie.Need-add-t13
-add-t13 c = search needs
+add-t16 : tie.Need-add-t16
+add-t16 c = search needs
 
 returns : tie.Need-returns
-returns c = function-is (c .before .before .before .before .before .before .before .before .before .before .before .before .pre) (c .before .before .before .before .before .before .past-params .ensures) (c .before .before .before .before .before .as-type .ensures) (c .before .before .before .before .past-body .ensures) _ _ (c .before .before .flag .ensures) (c .flag2 .ensures)
+returns c = function-is (c .before .before .before .before .before .before .before .before .before .before .before .pre) (c .before .before .before .before .before .past-params .ensures) (c .before .before .before .before .as-type .ensures) _ _ (c .before .before .flag .ensures) (c .flag2 .ensures)
 
 pub function-at-spec : {M : Type 1} → statement M
 function-at-spec =
@@ -83,13 +83,13 @@ function-at-spec =
     add-past-params
     past-params-requires
     as-type-requires
-    past-body-requires
+    sub-flag
     mul-flag
     shared-slice-read-flag
     flag-requires
-    add-flag
+    sub-flag-2
     mul-flag-2
     shared-slice-read-flag-2
     flag-requires-2
-    add-t13
+    add-t16
     returns)

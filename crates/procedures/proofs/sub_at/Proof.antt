@@ -1,6 +1,6 @@
--- `sub_at`: the words of a SUB, and the flag past its body. Assumes nothing.
+-- `sub_at`: the words of a SUB, and the flag before its end. Assumes nothing.
 use native.Mathlib.Omega.{arith}
-use Rattle.procedures.proofs.Reading.{sub-inside, sub-params, sub-flag, sub-is}
+use Rattle.procedures.proofs.Reading.{sub-inside, sub-params, last-flag, sub-is}
 use borrow.Author.Needs.{needs}
 use Rattle.procedures.proofs.sub_at.Statement.{statement}
 use Rattle.procedures.proofs.sub_at.Tie as tie
@@ -35,23 +35,23 @@ add-past-params c = search needs
 past-params-requires : tie.Need-past-params-requires
 past-params-requires c κs = sub-params (c .before .before .before .before .before .pre)
 
-past-body-requires : tie.Need-past-body-requires
-past-body-requires c κs = search needs
+sub-flag : tie.Need-sub-flag
+sub-flag c = last-flag (c .before .before .before .before .before .before .pre) .0
 
 mul-flag : tie.Need-mul-flag
-mul-flag c = omega (arith, sub-flag (c .before .before .before .before .before .before .before .pre) (c .before .past-params .ensures) (c .past-body .ensures))
+mul-flag c = search needs
 
 shared-slice-read-flag : tie.Need-shared-slice-read-flag
-shared-slice-read-flag c = sub-flag (c .before .before .before .before .before .before .before .before .pre) (c .before .before .past-params .ensures) (c .before .past-body .ensures)
+shared-slice-read-flag c = last-flag (c .before .before .before .before .before .before .before .pre) .1
 
 flag-requires : tie.Need-flag-requires
 flag-requires c κs = search needs
 
-add-t11 : tie.Need-add-t11
-add-t11 c = search needs
+add-t14 : tie.Need-add-t14
+add-t14 c = search needs
 
 returns : tie.Need-returns
-returns c = sub-is (c .before .before .before .before .before .before .before .before .before .pre) (c .before .before .before .past-params .ensures) (c .before .before .past-body .ensures) _ (c .flag .ensures)
+returns c = sub-is (c .before .before .before .before .before .before .before .before .pre) (c .before .before .past-params .ensures) _ (c .flag .ensures)
 
 pub sub-at-spec : {M : Type 1} → statement M
 sub-at-spec =
@@ -67,9 +67,9 @@ sub-at-spec =
     shared-slice-read-count
     add-past-params
     past-params-requires
-    past-body-requires
+    sub-flag
     mul-flag
     shared-slice-read-flag
     flag-requires
-    add-t11
+    add-t14
     returns)

@@ -7,6 +7,7 @@ use words::Refusal;
 ghost use Prim.Native.Nat.{_≤_};
 ghost use lib.ListN.{length};
 ghost use Rattle.words.specs.Sizes.{maxStrings};
+ghost use Rattle.tree.specs.Memo.{Remembers};
 ghost use Rattle.collect.specs.Code.{Named};
 ghost use Rattle.collect.specs.Passed.{Passed};
 ghost use Rattle.collection.specs.Entry.{Tabled, Tells, Entered, work};
@@ -31,12 +32,13 @@ fn tables(
     erased: &[u32],
     b: &mut [u32],
     d: &mut [u32],
+    memo: &[u32],
 ) -> Counts
-    requires { ⌜ Passed (now bytes) (now ends) (now erased) (now words) (now names) ⌝ }
+    requires { ⌜ Passed (now bytes) (now ends) (now erased) (now words) (now names) × Remembers (now words) (now names) (length (now ends)) (now memo) ⌝ }
     ensures { λ r. ⌜ Tabled (now (bytes .entry)) (now (ends .entry)) (now (erased .entry)) (now (words .entry)) (now (names .entry)) r (now (b .entry)) (now (d .entry)) (now (b .exit)) (now (d .exit)) ⌝ }
 {
     let s = steps::begin(b, d);
-    let m = collecting::statements(words, names, bytes, ends, erased, b, d, s, 0, 0);
+    let m = collecting::statements(words, names, bytes, ends, erased, b, d, s, 0, 0, memo);
     let t = m.counts;
     steps::finish(b, d, t)
 }
@@ -54,11 +56,12 @@ fn checked(
     requires { ⌜ Named (now bytes) (now ends) (now names) × (length (now names) ≤ maxStrings) ⌝ }
     ensures { λ r. ⌜ Tells r (now (b .entry)) (now (d .entry)) (now (b .exit)) (now (d .exit)) (work (length (now (b .entry))) (length (now (d .entry))) (now (bytes .entry)) (now (ends .entry)) (now (erased .entry)) (now (words .entry))) ⌝ }
 {
-    let a = reader::check_program(words, erased, names);
+    let mut memo = [0u32; 128];
+    let a = reader::check_program_with(words, erased, names, &mut memo);
     if let Accepted::Refused(f) = a {
         return Answer::Refused(f);
     }
-    let s = tables(words, names, bytes, ends, erased, b, d);
+    let s = tables(words, names, bytes, ends, erased, b, d, &memo);
     if s.stop != 0 {
         return Answer::Refused(steps::refusal(s.stop));
     }

@@ -89,7 +89,7 @@ impl Cursor {
     }
 
     // a head of a kind from a to b, its payload 0
-    fn head(self, words: &[u32], a: u32, b: u32) -> Step
+    pub fn head(self, words: &[u32], a: u32, b: u32) -> Step
         ensures { λ r. ⌜ r ≡ stepOf (headAt (now (words .entry)) a b (self .at)) ⌝ }
     {
         let at = self.at;
@@ -123,7 +123,7 @@ impl Cursor {
     }
 
     // a literal, its head first; strings are numbered below n
-    fn literal(self, words: &[u32], n: u32) -> Step
+    pub fn literal(self, words: &[u32], n: u32) -> Step
         ensures { λ r. ⌜ r ≡ stepOf (literalAt (now (words .entry)) n (self .at)) ⌝ }
     {
         let at = self.at;

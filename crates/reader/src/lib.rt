@@ -8,6 +8,7 @@ ghost use mathlib.Core.List.{List};
 ghost use Prim.Native.Nat.{ℕ, _+_, _≤_};
 ghost use lib.ListN.{length, getD, drop};
 ghost use Rattle.words.specs.Sizes.{maxStrings};
+ghost use Rattle.tree.specs.Memo.{Keeps};
 ghost use Rattle.strings.specs.Table.{namesOf};
 ghost use Rattle.strings.specs.Open.{Answers};
 ghost use Rattle.reader.specs.Sized.{sizedTree as sizedTreeOf, sizedProgram as sizedProgramOf};
@@ -218,6 +219,22 @@ pub fn check_program(words: &[u32], erased: &[u32], names: &[u8]) -> Accepted
     ensures { λ r. ⌜ toldProgram r ≡ verdict (acceptedOf (now (names .entry)) (now (words .entry)) (now (erased .entry))) ⌝ }
 {
     let s = tree::program(words, names, names.len() as u32);
+    match s {
+        Step::Read(c) => {
+            let at = c.at;
+            whole(at, words, erased, names)
+        }
+        Step::Wrong(p) => Accepted::Refused(Refusal::Word(p)),
+        Step::Deep(p) => Accepted::Refused(Refusal::Depth(p)),
+    }
+}
+
+// The same, with the ends of the program's procedures noted in a memo.
+pub fn check_program_with(words: &[u32], erased: &[u32], names: &[u8], memo: &mut [u32]) -> Accepted
+    requires { ⌜ length (now names) ≤ maxStrings ⌝ }
+    ensures { λ r. ⌜ (toldProgram r ≡ verdict (acceptedOf (now (names .entry)) (now (words .entry)) (now (erased .entry)))) × Keeps (now (words .entry)) (now (names .entry)) (length (now (names .entry))) (now (memo .entry)) (now (memo .exit)) ⌝ }
+{
+    let s = tree::program_with(words, names, names.len() as u32, memo);
     match s {
         Step::Read(c) => {
             let at = c.at;

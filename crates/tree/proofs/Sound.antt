@@ -6,6 +6,7 @@ use mathlib.Core.Bool.{Bool, true, false}
 use mathlib.Core.Logic.{_⊎_, inl, inr, ⊎-elim}
 use native.Mathlib.Omega.{arith}
 use native.Mathlib.Numerals.{add-one}
+use native.Mathlib.Nat.{le-trans}
 use lib.ListN.{length, getD, drop}
 use lib.Dec.{ltb, leb, eqb}
 use borrow.Author.Tests.{ltb-true, leb-true, eqb-true}
@@ -17,6 +18,10 @@ use Rattle.expr.specs.Stands.{Wrote}
 use Rattle.expr.proofs.Laws.{pick-true, wrong-got, deep-got, bind-got, map-got, IsLeaf, leaf-got}
 use Rattle.expr.proofs.Parts.{wrote-none, wrote-cons, wrote-cat, word-is}
 use Rattle.expr.proofs.Sound.{sound, cons-leaf}
+use Rattle.expr.specs.Answer.{stepOf}
+use Rattle.expr.specs.declared.Cursor.{Cursor}
+use Rattle.expr.specs.declared.Step.the-variants.{Read}
+use Rattle.expr.proofs.Steps.{read}
 use Rattle.tree.specs.Sorts.{Leaf, Sort, leaf, expr, stmt, many, group, either, never, Sorts, nil, _&_, Kind, sorts, kinds, kindAt, numberOf}
 use Rattle.tree.specs.Tree.{strings, Shape, one, row, rows, Tree, word, value, Stmt, list, part, this, that, done, cons, none, more, count, kindL, okL, wordsT, depthT, Right}
 use Rattle.tree.specs.Reader.{wordAt, neverAt, isAt, stmtHead, rowsAt, fieldAt, rowAt, restAt, stmtAt, programAt}
@@ -181,3 +186,57 @@ stmt-sound ws ns n (suc d) at s end h =
 pub program-sound : (ws ns : List ℕ) (n : ℕ) (p : Tree Expr (one (many (stmt & nil)))) (end : ℕ) → programAt ws ns n ≡ got p end → Fine ws ns n 100 0 p end
 unfolding programAt
 program-sound ws ns n p end h = field-sound ws ns n 100 (stmtAt ws ns n 100) (stmt-sound ws ns n 100) (many (stmt & nil)) 0 p end (omega arith) h
+
+-- ---- reading never goes back, whether the words reach that far or not
+
+module _ (ws ns : List ℕ) (n d : ℕ) (subS : ℕ → Got (Tree Expr (one stmt))) (S : (at : ℕ) (s : Tree Expr (one stmt)) (end : ℕ) → subS at ≡ got s end → at ≤ end) where
+  rows-on : {ss : Sorts} (f : ℕ → Got (Tree Expr (row ss))) → ((at : ℕ) (r : Tree Expr (row ss)) (end : ℕ) → f at ≡ got r end → at ≤ end) → (c at : ℕ) (rs : Tree Expr (rows ss)) (end : ℕ) → rowsAt ws ns n f c at ≡ got rs end → at ≤ end
+  unfolding rowsAt
+  rows-on f F zero at rs end h = let q : at ≡ end = cc in omega arith
+  rows-on f F (suc c) at rs end h =
+      let v = bind-got (f at) h in
+      let w = map-got _ (rowsAt ws ns n f c (v .1)) (v .3) in
+      le-trans (F at (v .0) (v .1) (v .2)) (rows-on f F c (v .1) (w .0) end (w .1))
+
+  mutual
+    unfolding fieldAt rowAt
+
+    field-on : (s : Sort) (at : ℕ) (v : Tree Expr (one s)) (end : ℕ) → fieldAt ws ns n (exprAt ws (strings ns n) d) subS s at ≡ got v end → at ≤ end
+    field-on (leaf l) at v end h =
+        let a = map-got word (wordAt ws (kindL l) (okL ns n l) at) h in
+        omega (arith, word-got (a .1) .to)
+    field-on expr at v end h =
+        let a = map-got value (exprAt ws (strings ns n) d at) h in
+        omega (arith, sound ws (strings ns n) d at (a .0) end (a .1) .wrote .span)
+    field-on stmt at v end h = S at v end h
+    field-on (many ss) at v end h =
+        let a = bind-got (leafAt ws 1 16777216 at) h in
+        let b = map-got list (rowsAt ws ns n (λ x. rowAt ws ns n (exprAt ws (strings ns n) d) subS ss x) (a .0) (a .1)) (a .3) in
+        let R = rows-on (λ x. rowAt ws ns n (exprAt ws (strings ns n) d) subS ss x) (λ p r e q. row-on ss p r e q) (a .0) (a .1) (b .0) end (b .1) in
+        omega (arith, leaf-got (a .2) .to, R)
+    field-on (group ss) at v end h =
+        let a = map-got part (rowAt ws ns n (exprAt ws (strings ns n) d) subS ss at) h in
+        row-on ss at (a .0) end (a .1)
+    field-on (either k ss s) at v end h =
+        ⊎-elim (λ (b : (isAt ws (wordOf k 0) at ≡ true) × (bind (rowAt ws ns n (exprAt ws (strings ns n) d) subS ss (at + 1)) (λ r m. got (this r) m) ≡ got v end)).
+        let a = map-got this (rowAt ws ns n (exprAt ws (strings ns n) d) subS ss (at + 1)) (b .1) in
+        let R : at + 1 ≤ end = row-on ss (at + 1) (a .0) end (a .1) in
+        let Q : at ≤ end = omega arith in
+        Q)
+        (λ (b : (isAt ws (wordOf k 0) at ≡ false) × (bind (fieldAt ws ns n (exprAt ws (strings ns n) d) subS s at) (λ u m. got (that u) m) ≡ got v end)).
+        let a = map-got that (fieldAt ws ns n (exprAt ws (strings ns n) d) subS s at) (b .1) in
+        field-on s at (a .0) end (a .1))
+        (pick-cases (isAt ws (wordOf k 0) at) h)
+    field-on never at v end h = absurd (never-got ws at h)
+
+    row-on : (ss : Sorts) (at : ℕ) (r : Tree Expr (row ss)) (end : ℕ) → rowAt ws ns n (exprAt ws (strings ns n) d) subS ss at ≡ got r end → at ≤ end
+    row-on nil at r end h = let q : at ≡ end = cc in omega arith
+    row-on (s & ss) at r end h =
+        let a = bind-got (fieldAt ws ns n (exprAt ws (strings ns n) d) subS s at) h in
+        let b = map-got _ (rowAt ws ns n (exprAt ws (strings ns n) d) subS ss (a .1)) (a .3) in
+        le-trans (field-on s at (a .0) (a .1) (a .2)) (row-on ss (a .1) (b .0) end (b .1))
+
+pub field-after : (ws ns : List ℕ) (n d : ℕ) (s : Sort) (at : ℕ) {c : Cursor} → stepOf (fieldAt ws ns n (exprAt ws (strings ns n) d) (stmtAt ws ns n d) s at) ≡ Read c → at ≤ c .at
+field-after ws ns n d s at {c} e =
+    let v = read (fieldAt ws ns n (exprAt ws (strings ns n) d) (stmtAt ws ns n d) s at) refl e in
+    field-on ws ns n d (stmtAt ws ns n d) (λ p t q h. omega (arith, stmt-sound ws ns n d p t q h .wrote .span)) s at (v .0) (c .at) (v .1)

@@ -25,7 +25,7 @@ use Rattle.expr.proofs.Step.{the-type}
 use Rattle.tree.specs.Sorts.{Leaf, Sort, leaf, expr, stmt, many, group, either, never, Sorts, nil, _&_, flag, whole, letter, oneOf, named, quoted, opt, exprs, body, GotoTarget, TypeRef, PrintItem, CaseClause, ResumeTarget, Kind, sorts, kinds, kindAt, lock}
 use Rattle.tree.specs.Tree.{strings, Shape, one, row, rows, Tree, word, value, Stmt, list, part, this, that, done, cons, none, more, kindL, okL, between}
 use Rattle.tree.specs.Codes.{parts, allRows, rowOf, singles, sortAt, decode, chain, partCodes, stmtCodes, codes, decoded}
-use Rattle.tree.specs.Reader.{wordAt, neverAt, isAt, stmtHead, rowsAt, fieldAt, rowAt, restAt, stmtAt, programAt}
+use Rattle.tree.specs.Reader.{wordAt, neverAt, isAt, stmtHead, rowsAt, fieldAt, rowAt, restAt, stmtAt}
 
 -- a number past the end of the flags is no name's
 pub no-name : (ns : List ℕ) (x : ℕ) → length ns ≤ x → eqb (getD ns x 0) 1 ≡ false
@@ -64,11 +64,11 @@ sixes : List (List ℕ) → Bool
 sixes [] = true
 sixes (l ∷ ls) = leb (length l) 6 && sixes ls
 
-and-left : (a b : Bool) → (a && b) ≡ true → a ≡ true
+pub and-left : (a b : Bool) → (a && b) ≡ true → a ≡ true
 and-left true b e = refl
 and-left false b e = e
 
-and-right : (a b : Bool) → (a && b) ≡ true → b ≡ true
+pub and-right : (a b : Bool) → (a && b) ≡ true → b ≡ true
 and-right true b e = e
 and-right false b e = absurd (mathlib.Core.Bool.false≢true e)
 
@@ -128,15 +128,18 @@ pub size-opt : (ss : Sorts) → sizeS (opt ss) ≡ 1 + (sizeR ss + 2) + 2
 unfolding sizeS sizeR
 size-opt ss = refl
 
+pub size-none : sizeR nil ≡ 1
+unfolding sizeR
+size-none = refl
+
+pub size-pos : (ss : Sorts) → 0 < sizeR ss
+unfolding sizeR
+size-pos nil = lib.Dec.lit< tt
+size-pos (s & ss) = omega arith
+
 pub size-cons : (s : Sort) (ss : Sorts) → sizeR (s & ss) ≡ sizeS s + sizeR ss + 2
 unfolding sizeR
 size-cons s ss = refl
-
-pub size-chain : (k : ℕ) (rs : List Sorts) (j : ℕ) → j < length rs → sizeR (getD rs j nil) < sizeS (chain k rs)
-unfolding chain sizeS
-size-chain k [] j h = absurd (omega arith)
-size-chain k (ss ∷ rs) zero h = omega arith
-size-chain k (ss ∷ rs) (suc j) h = let z : sizeR (getD rs j nil) < sizeS (chain (suc k) rs) = size-chain (suc k) rs j (omega arith) in omega arith
 
 smalls : List Sorts → Bool
 smalls [] = true
@@ -157,11 +160,6 @@ size-start r = le-of-eq (ap sizeR (decode-row r))
 
 pub size-step : (r i k : ℕ) → k ≡ getD (codes r) i 0 → (k ≡ 0 → ⊥) → sizeR (decode (drop i (codes r))) ≡ sizeS (sortAt k) + sizeR (decode (drop (i + 1) (codes r))) + 2
 size-step r i k e z = ap sizeR (decode-go (codes r) i (λ y. z (e ∙ y)) ∙ ap (λ (x : ℕ). sortAt x & decode (drop (i + 1) (codes r))) (sym e)) ∙ size-cons _ _
-
-pub size-choice : (first count r i : ℕ) → r + count ≤ 93 → i < count → sizeR (rowOf (r + i)) < sizeS (chain first (take count (drop r allRows)))
-size-choice first count r i b h =
-    subst (λ (ss : Sorts). sizeR ss < sizeS (chain first (take count (drop r allRows)))) (sym (row-chain r count i h))
-    (size-chain first (take count (drop r allRows)) i (subst (λ (x : ℕ). i < x) (sym (length-chain r count b)) h))
 
 -- ---- fields
 
@@ -251,6 +249,13 @@ zero-end ws at h = simp (le-ltb at (length ws) h)
 pub zero-not : (ws : List ℕ) (at : ℕ) → at < length ws → (getD ws at 0 ≡ 0 → ⊥) → isAt ws 0 at ≡ false
 unfolding isAt
 zero-not ws at h f = simp (lt-ltb at (length ws) h, ne-eqb (getD ws at 0) 0 f)
+
+-- where nothing is read after it
+pub then-read : (s : Step) → then s (λ m. Read (record { at = m })) ≡ s
+unfolding then
+then-read (Read c) = refl
+then-read (Wrong p) = refl
+then-read (Deep p) = refl
 
 -- a list
 pub rows-none : (ws ns : List ℕ) (n : ℕ) {ss : Sorts} (f : ℕ → Got (Tree Expr (row ss))) (count : ℕ) (c : Cursor) → count ≤ 0 → stepOf (rowsAt ws ns n f count (c .at)) ≡ Read c
@@ -345,10 +350,6 @@ module _ (ws ns : List ℕ) (n : ℕ) (sub : ℕ → Got Expr) (subS : ℕ → G
   abbrev typeRows : List Sorts
   typeRows = nil ∷ nil ∷ nil ∷ nil ∷ (whole & nil) ∷ (named & nil) ∷ []
 
-  type-chain : chain 40 typeRows ≡ TypeRef
-  unfolding chain
-  type-chain = refl
-
   plain-row : (j : ℕ) → j < 4 → getD typeRows j nil ≡ nil
   plain-row zero h = refl
   plain-row (suc zero) h = refl
@@ -356,14 +357,8 @@ module _ (ws ns : List ℕ) (n : ℕ) (sub : ℕ → Got Expr) (subS : ℕ → G
   plain-row (suc (suc (suc zero))) h = refl
   plain-row (suc (suc (suc (suc j)))) h = absurd (omega arith)
 
-  then-read : (s : Step) → then s (λ m. Read (record { at = m })) ≡ s
-  unfolding then
-  then-read (Read c) = refl
-  then-read (Wrong p) = refl
-  then-read (Deep p) = refl
-
   -- a row of one field
-  row-one : (s : Sort) (m : ℕ) {r : Step} → r ≡ stepOf (fieldAt ws ns n sub subS s m) → r ≡ stepOf (rowAt ws ns n sub subS (s & nil) m)
+  pub row-one : (s : Sort) (m : ℕ) {r : Step} → r ≡ stepOf (fieldAt ws ns n sub subS s m) → r ≡ stepOf (rowAt ws ns n sub subS (s & nil) m)
   unfolding rowAt stepOf
   row-one s m e = e ∙ sym (row-more s nil m ∙ then-read _)
 
@@ -410,21 +405,6 @@ module _ (ws ns : List ℕ) (n : ℕ) (sub : ℕ → Got Expr) (subS : ℕ → G
       chain-yes first (take count (drop r allRows)) j at h (subst (λ (x : ℕ). j < x) (sym (length-chain r count b)) i) e
       (subst (λ (ss : Sorts). a ≡ stepOf (rowAt ws ns n sub subS ss (at + 1))) (row-chain r count j i) q)
 
-  -- a row by its numbers
-  pub row-is : (r m : ℕ) → stepOf (rowAt ws ns n sub subS (rowOf r) m) ≡ stepOf (rowAt ws ns n sub subS (decode (drop 0 (codes r))) m)
-  row-is r m = ap (λ (ss : Sorts). stepOf (rowAt ws ns n sub subS ss m)) (sym (decode-row r))
-
-  pub row-stop : (r i k : ℕ) (c : Cursor) → k ≡ getD (codes r) i 0 → k ≡ 0 → stepOf (rowAt ws ns n sub subS (decode (drop i (codes r))) (c .at)) ≡ Read c
-  row-stop r i k c e z = ap (λ (ss : Sorts). stepOf (rowAt ws ns n sub subS ss (c .at))) (decode-stop (codes r) i (sym e ∙ z)) ∙ row-none c
-
-  pub row-over : (r i : ℕ) (c : Cursor) → 6 ≤ i → stepOf (rowAt ws ns n sub subS (decode (drop i (codes r))) (c .at)) ≡ Read c
-  row-over r i c h = ap (λ (ss : Sorts). stepOf (rowAt ws ns n sub subS ss (c .at))) (decode-over r i h) ∙ row-none c
-
-  pub row-step : (r i k m : ℕ) → k ≡ getD (codes r) i 0 → (k ≡ 0 → ⊥) → stepOf (rowAt ws ns n sub subS (decode (drop i (codes r))) m) ≡ then (stepOf (fieldAt ws ns n sub subS (sortAt k) m)) (λ m′. stepOf (rowAt ws ns n sub subS (decode (drop (i + 1) (codes r))) m′))
-  row-step r i k m e z =
-      ap (λ (ss : Sorts). stepOf (rowAt ws ns n sub subS ss m)) (decode-go (codes r) i (λ y. z (e ∙ y)) ∙ ap (λ (x : ℕ). sortAt x & decode (drop (i + 1) (codes r))) (sym e))
-      ∙ row-more (sortAt k) (decode (drop (i + 1) (codes r))) m
-
 -- a statement: its head, then its row
 module _ (ws : List ℕ) (at : ℕ) where
   pub head-end : length ws ≤ at → stmtHead ws at ≡ wrong (length ws)
@@ -466,13 +446,3 @@ stmt-go ws ns n zero at z a b c h = absurd (z refl)
 stmt-go ws ns n (suc d) at {r} z a b c h =
     let q : rowOf (kindOf (getD ws at 0) - 64 + 39) ≡ sorts (kindAt (kindOf (getD ws at 0) - 64)) = row-kind (kindOf (getD ws at 0) - 64) (omega arith) in
     rw (head-ok ws at a b c) (last (Stmt _ _) _ (rw (sub-one, q) at h))
-
--- the program is the list of the rows number 4
-pub program-is : (ws ns : List ℕ) (n : ℕ) {s : Step} → s ≡ stepOf (fieldAt ws ns n (exprAt ws (strings ns n) 100) (stmtAt ws ns n 100) (many (rowOf 4)) 0) → s ≡ stepOf (programAt ws ns n)
-unfolding programAt rowOf allRows parts
-program-is ws ns n e = e
-
--- so is any body
-pub body-is : (ws ns : List ℕ) (n left at : ℕ) {s : Step} → s ≡ stepOf (fieldAt ws ns n (exprAt ws (strings ns n) left) (stmtAt ws ns n left) (many (rowOf 4)) at) → s ≡ stepOf (fieldAt ws ns n (exprAt ws (strings ns n) left) (stmtAt ws ns n left) (many (stmt & nil)) at)
-unfolding rowOf allRows parts
-body-is ws ns n left at e = e

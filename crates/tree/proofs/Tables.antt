@@ -11,7 +11,7 @@ use lib.Dec.{ltb}
 use borrow.Author.Tests.{ltb-true}
 use types.Run.{OneOf}
 use Rattle.expr.proofs.Steps.{past}
-use Rattle.tree.specs.Codes.{partCodes, stmtCodes, codes, joined}
+use Rattle.tree.specs.Codes.{partCodes, stmtCodes, codes, joined, pack}
 
 -- ---- past the last row
 
@@ -20,37 +20,29 @@ unfoldable pub Past : ℕ → ℕ → Type 0
 Past zero k = Unit
 Past (suc n) k = Past n k × (OneOf (n ∷ []) k → ⊥)
 
-beyond : (n k : ℕ) → Past n k → n ≤ k
+pub beyond : (n k : ℕ) → Past n k → n ≤ k
 unfolding Past
 beyond zero k p = omega arith
 beyond (suc n) k p = past n k (beyond n k (p .0)) (p .1)
 
-abbrev six-zeros : List ℕ
-six-zeros = 0 ∷ 0 ∷ 0 ∷ 0 ∷ 0 ∷ 0 ∷ []
+pub no-row : (ls : List (List ℕ)) (r : ℕ) → Past (length ls) r → 0 ≡ pack (getD ls r [])
+no-row ls r p = sym (ap pack (List·getD-eq-default ls [] (beyond (length ls) r p)))
 
-zeros : (i : ℕ) → getD six-zeros i 0 ≡ 0
-zeros zero = refl
-zeros (suc zero) = refl
-zeros (suc (suc zero)) = refl
-zeros (suc (suc (suc zero))) = refl
-zeros (suc (suc (suc (suc zero)))) = refl
-zeros (suc (suc (suc (suc (suc zero))))) = refl
-zeros (suc (suc (suc (suc (suc (suc i)))))) = refl
-
-pub no-row : (ls : List (List ℕ)) (r : ℕ) → Past (length ls) r → (i : ℕ) → getD six-zeros i 0 ≡ getD (getD ls r []) i 0
-no-row ls r p i = zeros i ∙ sym (ap (λ (l : List ℕ). getD l i 0) (List·getD-eq-default ls [] (beyond (length ls) r p)))
+-- what the arm of row n answers
+pub arm : (ls : List (List ℕ)) (n : ℕ) {r x : ℕ} → r ≡ n → x ≡ pack (getD ls n []) → x ≡ pack (getD ls r [])
+arm ls n e q = q ∙ ap (λ (k : ℕ). pack (getD ls k [])) (sym e)
 
 -- ---- the parts' rows, then the statements'
 
-pub codes-part : (f : List ℕ) (r : ℕ) → r < 39 → ((i : ℕ) → getD f i 0 ≡ getD (getD partCodes r []) i 0) → (i : ℕ) → getD f i 0 ≡ getD (codes r) i 0
+pub codes-part : (r : ℕ) → r < 39 → getD partCodes r [] ≡ codes r
 unfolding codes partCodes
-codes-part f r h e i = e i ∙ ap (λ (l : List ℕ). getD l i 0) (sym (List·getD-append partCodes stmtCodes [] r h))
+codes-part r h = sym (List·getD-append partCodes stmtCodes [] r h)
 
-pub codes-stmt : (f : List ℕ) (r : ℕ) → 39 ≤ r → ((i : ℕ) → getD f i 0 ≡ getD (getD stmtCodes (r - 39) []) i 0) → (i : ℕ) → getD f i 0 ≡ getD (codes r) i 0
+pub codes-stmt : (r : ℕ) → 39 ≤ r → getD stmtCodes (r - 39) [] ≡ codes r
 unfolding codes partCodes
-codes-stmt f r h e i =
+codes-stmt r h =
     let k : 39 + (r - 39) ≡ r = omega arith in
-    e i ∙ ap (λ (l : List ℕ). getD l i 0) (sym (getD-append-add partCodes stmtCodes (r - 39) []) ∙ ap (λ (x : ℕ). getD (partCodes ++ stmtCodes) x []) k)
+    sym (getD-append-add partCodes stmtCodes (r - 39) []) ∙ ap (λ (x : ℕ). getD (partCodes ++ stmtCodes) x []) k
 
 -- ---- every number is a byte
 
@@ -118,5 +110,5 @@ module _ (g : ℕ → ℕ) (h : (j : ℕ) → g j < 256) where
   digit (suc (suc (suc (suc (suc zero))))) k = ap (λ (x : ℕ). x % 256) (step (g 0) from-1 4294967296 (h 0) ∙ step (g 1) from-2 16777216 (h 1) ∙ step (g 2) from-3 65536 (h 2) ∙ step (g 3) from-4 256 (h 3) ∙ step (g 4) (g 5) 1 (h 4)) ∙ last (g 5) (h 5)
   digit (suc (suc (suc (suc (suc (suc i)))))) k = absurd (omega arith)
 
-pub codes-at : (f : List ℕ) (r i : ℕ) → i < 6 → ((j : ℕ) → getD f j 0 ≡ getD (codes r) j 0) → joined (getD f 0 0) (getD f 1 0) (getD f 2 0) (getD f 3 0) (getD f 4 0) (getD f 5 0) / 2 ^ (8 * i) % 256 ≡ getD (codes r) i 0
-codes-at f r i k e = digit (λ (j : ℕ). getD f j 0) (λ (j : ℕ). subst (λ (x : ℕ). x < 256) (sym (e j)) (codes-byte r j)) i k ∙ e i
+pub codes-at : (r i : ℕ) → i < 6 → pack (codes r) / 2 ^ (8 * i) % 256 ≡ getD (codes r) i 0
+codes-at r i k = digit (λ (j : ℕ). getD (codes r) j 0) (λ (j : ℕ). codes-byte r j) i k

@@ -1,5 +1,5 @@
 -- The rows of fields in numbers, as the code's tables have them, and what each number says.
-use Prim.Native.Nat.{ℕ, zero, suc, _+_, _*_, _-_}
+use Prim.Native.Nat.{ℕ, zero, suc, _+_, _*_, _-_, _/_, _%_}
 use mathlib.Core.List.{List, [], _∷_, _++_, map}
 use mathlib.Core.Path.{_≡_, refl}
 use lib.ListN.{length, getD, take, drop}
@@ -183,7 +183,25 @@ codes r = getD (partCodes ++ stmtCodes) r []
 abbrev pub joined : (a b c d e f : ℕ) → ℕ
 joined a b c d e f = a + 256 * (b + 256 * (c + 256 * (d + 256 * (e + 256 * f))))
 
+-- a row of numbers in one
+abbrev pub pack : List ℕ → ℕ
+pack f = joined (getD f 0 0) (getD f 1 0) (getD f 2 0) (getD f 3 0) (getD f 4 0) (getD f 5 0)
+
+-- fields in one number, the next lowest; the first argument bounds how many there are
+unfoldable pub unpack : ℕ → ℕ → Sorts
+unpack zero x = nil
+unpack (suc k) zero = nil
+unpack (suc k) (suc x) = sortAt (suc x % 256) & unpack k (suc x / 256)
+
+abbrev pub sortsOf : ℕ → Sorts
+sortsOf x = unpack x x
+
 -- the numbers say what the definition of each kind says
 pub decoded : map decode (partCodes ++ stmtCodes) ≡ allRows
 unfolding decode partCodes stmtCodes allRows parts sorts kinds sortAt singles rowOf
 decoded = refl
+
+-- and so do the rows in one number each
+pub unpacked : map (λ (l : List ℕ). sortsOf (pack l)) (partCodes ++ stmtCodes) ≡ allRows
+unfolding unpack partCodes stmtCodes allRows parts sorts kinds sortAt singles rowOf
+unpacked = refl

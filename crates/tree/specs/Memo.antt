@@ -27,6 +27,14 @@ pub record Recalled (memo : List ℕ) (at r : ℕ) : Type 0 where
 pub record Remembered (before : List ℕ) (at end : ℕ) (after : List ℕ) : Type 0 where
   pub gives : (ws ns : List ℕ) (n : ℕ) → Remembers ws ns n before → EndsAt ws ns n at end → Remembers ws ns n after
 
+-- the end of a field of a sort that is 10, a statement
+pub record Noted (sort : ℕ) (before : List ℕ) (at end : ℕ) (after : List ℕ) : Type 0 where
+  pub gives : (ws ns : List ℕ) (n : ℕ) → Remembers ws ns n before → (sort ≡ 10 → EndsAt ws ns n at end) → Remembers ws ns n after
+
+-- what a reading leaves in the memo is right, if what it found there was
+pub record Keeps (ws ns : List ℕ) (n : ℕ) (before after : List ℕ) : Type 0 where
+  pub gives : Remembers ws ns n before → Remembers ws ns n after
+
 -- the place past the statement there, if it is not too deep
 pub record Past (ws ns : List ℕ) (n : ℕ) (memo : List ℕ) (at r : ℕ) : Type 0 where
   pub gives : Remembers ws ns n memo → (v : Tree Expr (one stmt)) (end : ℕ) → Stands ws ns n at v end → depthT v ≤ 100 → r ≡ end

@@ -3,16 +3,38 @@ use expr::Cursor;
 use expr::Step;
 ghost use mathlib.Core.Path.{_≡_};
 ghost use Prim.Native.Nat.{ℕ, _<_, _≤_, _+_};
-ghost use lib.ListN.{getD, take, drop};
+ghost use lib.ListN.{length, getD, take, drop};
 ghost use lib.Dec.{eqb};
 ghost use mathlib.Core.List.{List, []};
-ghost use Rattle.tree.specs.Sorts.{Sort, many, group, opt, nil, body as bodySort, TypeRef};
+ghost use Rattle.tree.specs.Sorts.{many, opt, expr as exprSort, stmt as stmtSort, body as bodySort, TypeRef};
 ghost use Rattle.tree.specs.Tree.{between, strings};
-ghost use Rattle.tree.specs.Codes.{partCodes, stmtCodes, codes, joined, sortAt, rowOf, chain, allRows};
-ghost use Rattle.tree.specs.Reader.{wordAt, neverAt, fieldAt, rowAt, stmtAt, programAt};
-ghost use Rattle.tree.specs.Memo.{Recalled, Remembered, Past};
-ghost use Rattle.expr.specs.Reader.{exprAt};
-ghost use Rattle.expr.specs.Answer.{stepOf};
+ghost use Rattle.tree.specs.Codes.{partCodes, stmtCodes, codes, joined, pack, sortAt, rowOf, chain, allRows};
+ghost use Rattle.tree.specs.Reader.{wordAt, neverAt, fieldAt, stmtAt, programAt};
+ghost use Rattle.tree.specs.Memo.{Recalled, Remembered, Noted, Keeps, Past};
+ghost use Rattle.tree.specs.Frames.{toldOf, fieldStep, frameAt, Goes, Turned, restOf, againOf, Opens};
+ghost use Rattle.expr.specs.Reader.{leafAt, nameAt, listAt, bodyAt, exprAt};
+ghost use Rattle.expr.specs.Answer.{stepOf, then};
+
+// What is left to be read of a row and of the rows after it: fields in numbers, in base 256, the next lowest; then `times`
+// times the row `row`; all with `left` levels left for what stands in them.
+struct Frame {
+    fields: u64,
+    row: usize,
+    times: u32,
+    left: usize,
+}
+
+// What reading a field's own words tells.
+enum Turn {
+    // past the whole field
+    Past(usize),
+    // from this place on, this is left of it
+    Into(usize, Frame),
+    // the first wrong word
+    Refused(usize),
+    // a right head that stands too deep
+    TooDeep(usize),
+}
 
 const FIELDS: [[u8; 6]; 54] = [
     [4, 0, 0, 0, 0, 0],
@@ -113,130 +135,6 @@ const PARTS: [[u8; 6]; 39] = [
     [11, 0, 0, 0, 0, 0],
 ];
 
-// A row of `PARTS`, zeros past the last. The table is read at literal places only: so the compiler can hold the answers
-// in read-only memory, where a table that is read at a computed place is stored anew at every call.
-fn part(row: usize) -> [u8; 6]
-    ensures { λ r. ⌜ ((i : ℕ) → getD r i 0 ≡ getD (getD partCodes row []) i 0) ⌝ }
-{
-    let t = PARTS;
-    match row {
-        0 => t[0],
-        1 => t[1],
-        2 => t[2],
-        3 => t[3],
-        4 => t[4],
-        5 => t[5],
-        6 => t[6],
-        7 => t[7],
-        8 => t[8],
-        9 => t[9],
-        10 => t[10],
-        11 => t[11],
-        12 => t[12],
-        13 => t[13],
-        14 => t[14],
-        15 => t[15],
-        16 => t[16],
-        17 => t[17],
-        18 => t[18],
-        19 => t[19],
-        20 => t[20],
-        21 => t[21],
-        22 => t[22],
-        23 => t[23],
-        24 => t[24],
-        25 => t[25],
-        26 => t[26],
-        27 => t[27],
-        28 => t[28],
-        29 => t[29],
-        30 => t[30],
-        31 => t[31],
-        32 => t[32],
-        33 => t[33],
-        34 => t[34],
-        35 => t[35],
-        36 => t[36],
-        37 => t[37],
-        38 => t[38],
-        _ => [0, 0, 0, 0, 0, 0],
-    }
-}
-
-// A row of `FIELDS`, in the same way: the fields of a kind of statement.
-fn fields(kind: usize) -> [u8; 6]
-    ensures { λ r. ⌜ ((i : ℕ) → getD r i 0 ≡ getD (getD stmtCodes kind []) i 0) ⌝ }
-{
-    let t = FIELDS;
-    match kind {
-        0 => t[0],
-        1 => t[1],
-        2 => t[2],
-        3 => t[3],
-        4 => t[4],
-        5 => t[5],
-        6 => t[6],
-        7 => t[7],
-        8 => t[8],
-        9 => t[9],
-        10 => t[10],
-        11 => t[11],
-        12 => t[12],
-        13 => t[13],
-        14 => t[14],
-        15 => t[15],
-        16 => t[16],
-        17 => t[17],
-        18 => t[18],
-        19 => t[19],
-        20 => t[20],
-        21 => t[21],
-        22 => t[22],
-        23 => t[23],
-        24 => t[24],
-        25 => t[25],
-        26 => t[26],
-        27 => t[27],
-        28 => t[28],
-        29 => t[29],
-        30 => t[30],
-        31 => t[31],
-        32 => t[32],
-        33 => t[33],
-        34 => t[34],
-        35 => t[35],
-        36 => t[36],
-        37 => t[37],
-        38 => t[38],
-        39 => t[39],
-        40 => t[40],
-        41 => t[41],
-        42 => t[42],
-        43 => t[43],
-        44 => t[44],
-        45 => t[45],
-        46 => t[46],
-        47 => t[47],
-        48 => t[48],
-        49 => t[49],
-        50 => t[50],
-        51 => t[51],
-        52 => t[52],
-        53 => t[53],
-        _ => [0, 0, 0, 0, 0, 0],
-    }
-}
-
-// a row's six numbers: the parts' rows stand before the statements'
-fn numbers(row: usize) -> [u8; 6]
-    ensures { λ r. ⌜ ((i : ℕ) → getD r i 0 ≡ getD (codes row) i 0) ⌝ }
-{
-    if row < 39 {
-        return part(row);
-    }
-    fields(row - 39)
-}
-
 // six numbers in one, in base 256, the first lowest
 fn join(a: u8, b: u8, c: u8, d: u8, e: u8, f: u8) -> u64
     ensures { λ r. ⌜ r ≡ joined a b c d e f ⌝ }
@@ -245,13 +143,143 @@ fn join(a: u8, b: u8, c: u8, d: u8, e: u8, f: u8) -> u64
         + 256 * (b as u64 + 256 * (c as u64 + 256 * (d as u64 + 256 * (e as u64 + 256 * f as u64))))
 }
 
+// a row's six numbers in one
+fn six(f: [u8; 6]) -> u64
+    ensures { λ r. ⌜ r ≡ pack f ⌝ }
+{
+    join(f[0], f[1], f[2], f[3], f[4], f[5])
+}
+
+// A row of `PARTS` in one number, 0 past the last. The table is read at literal places only: so the compiler can hold the
+// answers in read-only memory, where a table that is read at a computed place is stored anew at every call.
+fn part(row: usize) -> u64
+    ensures { λ r. ⌜ r ≡ pack (getD partCodes row []) ⌝ }
+{
+    let t = PARTS;
+    match row {
+        0 => six(t[0]),
+        1 => six(t[1]),
+        2 => six(t[2]),
+        3 => six(t[3]),
+        4 => six(t[4]),
+        5 => six(t[5]),
+        6 => six(t[6]),
+        7 => six(t[7]),
+        8 => six(t[8]),
+        9 => six(t[9]),
+        10 => six(t[10]),
+        11 => six(t[11]),
+        12 => six(t[12]),
+        13 => six(t[13]),
+        14 => six(t[14]),
+        15 => six(t[15]),
+        16 => six(t[16]),
+        17 => six(t[17]),
+        18 => six(t[18]),
+        19 => six(t[19]),
+        20 => six(t[20]),
+        21 => six(t[21]),
+        22 => six(t[22]),
+        23 => six(t[23]),
+        24 => six(t[24]),
+        25 => six(t[25]),
+        26 => six(t[26]),
+        27 => six(t[27]),
+        28 => six(t[28]),
+        29 => six(t[29]),
+        30 => six(t[30]),
+        31 => six(t[31]),
+        32 => six(t[32]),
+        33 => six(t[33]),
+        34 => six(t[34]),
+        35 => six(t[35]),
+        36 => six(t[36]),
+        37 => six(t[37]),
+        38 => six(t[38]),
+        _ => 0,
+    }
+}
+
+// A row of `FIELDS`, in the same way: the fields of a kind of statement.
+fn fields(kind: usize) -> u64
+    ensures { λ r. ⌜ r ≡ pack (getD stmtCodes kind []) ⌝ }
+{
+    let t = FIELDS;
+    match kind {
+        0 => six(t[0]),
+        1 => six(t[1]),
+        2 => six(t[2]),
+        3 => six(t[3]),
+        4 => six(t[4]),
+        5 => six(t[5]),
+        6 => six(t[6]),
+        7 => six(t[7]),
+        8 => six(t[8]),
+        9 => six(t[9]),
+        10 => six(t[10]),
+        11 => six(t[11]),
+        12 => six(t[12]),
+        13 => six(t[13]),
+        14 => six(t[14]),
+        15 => six(t[15]),
+        16 => six(t[16]),
+        17 => six(t[17]),
+        18 => six(t[18]),
+        19 => six(t[19]),
+        20 => six(t[20]),
+        21 => six(t[21]),
+        22 => six(t[22]),
+        23 => six(t[23]),
+        24 => six(t[24]),
+        25 => six(t[25]),
+        26 => six(t[26]),
+        27 => six(t[27]),
+        28 => six(t[28]),
+        29 => six(t[29]),
+        30 => six(t[30]),
+        31 => six(t[31]),
+        32 => six(t[32]),
+        33 => six(t[33]),
+        34 => six(t[34]),
+        35 => six(t[35]),
+        36 => six(t[36]),
+        37 => six(t[37]),
+        38 => six(t[38]),
+        39 => six(t[39]),
+        40 => six(t[40]),
+        41 => six(t[41]),
+        42 => six(t[42]),
+        43 => six(t[43]),
+        44 => six(t[44]),
+        45 => six(t[45]),
+        46 => six(t[46]),
+        47 => six(t[47]),
+        48 => six(t[48]),
+        49 => six(t[49]),
+        50 => six(t[50]),
+        51 => six(t[51]),
+        52 => six(t[52]),
+        53 => six(t[53]),
+        _ => 0,
+    }
+}
+
+// a row's six numbers in one: the parts' rows stand before the statements'
+fn packed(row: usize) -> u64
+    ensures { λ r. ⌜ r ≡ pack (codes row) ⌝ }
+{
+    if row < 39 {
+        return part(row);
+    }
+    fields(row - 39)
+}
+
 // the i-th field of a row, in numbers; 0 past its end
 pub fn sort(row: usize, i: usize) -> u8
     requires { ⌜ i < 6 ⌝ }
     ensures { λ r. ⌜ r ≡ getD (codes row) i 0 ⌝ }
 {
-    let f = numbers(row);
-    let all = join(f[0], f[1], f[2], f[3], f[4], f[5]);
+    let all = packed(row);
     ((all >> (8 * i as u32)) % 256) as u8
 }
 
@@ -312,22 +340,6 @@ fn nowhere(c: Cursor, words: &[u32]) -> Step
     Step::Wrong(at)
 }
 
-// a field that is one plain word
-fn plain(c: Cursor, words: &[u32], names: &[u8], n: u32, left: usize, sort: u8) -> Step
-    ensures { λ r. ⌜ (0 < sort → sort < 9 → r ≡ stepOf (fieldAt (now (words .entry)) (now (names .entry)) n (exprAt (now (words .entry)) (strings (now (names .entry)) n) left) (stmtAt (now (words .entry)) (now (names .entry)) n left) (sortAt sort) (c .at))) ⌝ }
-{
-    match sort {
-        1 => name(c, words, names),
-        2 => mark(c, words, 2, 0, n),
-        3 => mark(c, words, 3, 0, 2),
-        4 => mark(c, words, 4, 0, 16777216),
-        5 => mark(c, words, 7, 65, 91),
-        6 => mark(c, words, 9, 0, 4),
-        7 => mark(c, words, 9, 0, 5),
-        _ => mark(c, words, 9, 0, 18),
-    }
-}
-
 // a type: one of the plain heads, a fixed string with its length, or a record with its name
 fn type_ref(c: Cursor, words: &[u32], names: &[u8], n: u32, left: usize) -> Step
     ensures { λ r. ⌜ r ≡ stepOf (fieldAt (now (words .entry)) (now (names .entry)) n (exprAt (now (words .entry)) (strings (now (names .entry)) n) left) (stmtAt (now (words .entry)) (now (names .entry)) n left) TypeRef (c .at)) ⌝ }
@@ -350,141 +362,329 @@ fn type_ref(c: Cursor, words: &[u32], names: &[u8], n: u32, left: usize) -> Step
     }
 }
 
-// a field of a sort, with so many levels left for what stands in it
-fn field(c: Cursor, words: &[u32], names: &[u8], n: u32, left: usize, sort: u8) -> Step
-    ensures { λ r. ⌜ r ≡ stepOf (fieldAt (now (words .entry)) (now (names .entry)) n (exprAt (now (words .entry)) (strings (now (names .entry)) n) left) (stmtAt (now (words .entry)) (now (names .entry)) n left) (sortAt sort) (c .at)) ⌝ }
+// a whole field's answer as a turn
+fn told(s: Step) -> Turn
+    ensures { λ r. ⌜ r ≡ toldOf s ⌝ }
 {
-    match sort {
-        0 => nowhere(c, words),
-        1..=8 => plain(c, words, names, n, left, sort),
-        9 => c.expr(words, names, n, left),
-        10 => stmt(c, words, names, n, left),
-        11 => choice(c, words, names, n, left, 48, 2, 22),
-        12 => type_ref(c, words, names, n, left),
-        13 => choice(c, words, names, n, left, 32, 3, 30),
-        14 => choice(c, words, names, n, left, 36, 3, 33),
-        15 => choice(c, words, names, n, left, 52, 3, 36),
-        16..=63 => optional(c, words, names, n, left, sort as usize - 16),
-        64..=111 => rows(c, words, names, n, left, sort as usize - 64),
-        _ => row(c, words, names, n, left, sort as usize - 112),
+    match s {
+        Step::Read(c) => Turn::Past(c.at),
+        Step::Wrong(p) => Turn::Refused(p),
+        Step::Deep(p) => Turn::TooDeep(p),
     }
 }
 
-// a row of fields
-fn row(c: Cursor, words: &[u32], names: &[u8], n: u32, left: usize, r: usize) -> Step
-    ensures { λ a. ⌜ a ≡ stepOf (rowAt (now (words .entry)) (now (names .entry)) n (exprAt (now (words .entry)) (strings (now (names .entry)) n) left) (stmtAt (now (words .entry)) (now (names .entry)) n left) (rowOf r) (c .at)) ⌝ }
-{
-    let mut d = c;
-    let mut i = 0;
-    while i < 6 {
-        let k = sort(r, i);
-        if k == 0 {
-            return Step::Read(d);
-        }
-        let s = field(d, words, names, n, left, k);
-        let Step::Read(e) = s else {
-            return s;
-        };
-        d = e;
-        i += 1;
-    }
-    Step::Read(d)
-}
-
-// a list of rows, its count first
-fn rows(c: Cursor, words: &[u32], names: &[u8], n: u32, left: usize, r: usize) -> Step
-    ensures { λ a. ⌜ a ≡ stepOf (fieldAt (now (words .entry)) (now (names .entry)) n (exprAt (now (words .entry)) (strings (now (names .entry)) n) left) (stmtAt (now (words .entry)) (now (names .entry)) n left) (many (rowOf r)) (c .at)) ⌝ }
+// a list: its count; the rows are left
+fn list(c: Cursor, words: &[u32], left: usize, row: usize) -> Turn
+    ensures { λ r. ⌜ ((ns : List ℕ) (n : ℕ) → Goes (now (words .entry)) ns n (c .at) (fieldStep (now (words .entry)) ns n left (many (rowOf row)) (c .at)) r) ⌝ }
 {
     let at = c.at;
     let s = c.leaf(words, 1, 16777216);
-    let Step::Read(first) = s else {
-        return s;
+    let Step::Read(d) = s else {
+        return told(s);
     };
-    let mut d = first;
-    let mut count = words[at] % 16777216;
-    while 0 < count {
-        let s = row(d, words, names, n, left, r);
-        let Step::Read(e) = s else {
-            return s;
-        };
-        d = e;
-        count -= 1;
-    }
-    Step::Read(d)
+    let times = words[at] % 16777216;
+    Turn::Into(
+        d.at,
+        Frame {
+            fields: 0,
+            row,
+            times,
+            left,
+        },
+    )
 }
 
-// the word 0, or a row
-fn optional(c: Cursor, words: &[u32], names: &[u8], n: u32, left: usize, r: usize) -> Step
-    ensures { λ a. ⌜ a ≡ stepOf (fieldAt (now (words .entry)) (now (names .entry)) n (exprAt (now (words .entry)) (strings (now (names .entry)) n) left) (stmtAt (now (words .entry)) (now (names .entry)) n left) (opt (rowOf r)) (c .at)) ⌝ }
+// the name of a call or of an array, and the count of what it is given
+fn call(c: Cursor, words: &[u32], names: &[u8], left: usize) -> Turn
+    ensures { λ r. ⌜ ((n : ℕ) → Goes (now (words .entry)) (now (names .entry)) n (c .at) (then (stepOf (nameAt (now (words .entry)) (now (names .entry)) (c .at))) (λ m. stepOf (listAt (now (words .entry)) (strings (now (names .entry)) n) (exprAt (now (words .entry)) (strings (now (names .entry)) n) left) m))) r) ⌝ }
+{
+    let s = c.name(words, names);
+    let Step::Read(d) = s else {
+        return told(s);
+    };
+    list(d, words, left, 0)
+}
+
+// an operator; these fields are left
+fn operator(c: Cursor, words: &[u32], left: usize, below: u32, fields: u64) -> Turn
+    requires { ⌜ fields < 4096 ⌝ }
+    ensures { λ r. ⌜ ((ns : List ℕ) (n : ℕ) → Goes (now (words .entry)) ns n (c .at) (then (stepOf (leafAt (now (words .entry)) 9 below (c .at))) (λ m. frameAt (now (words .entry)) ns n (record { fields = fields; row = 0; times = 0; left = left }) m)) r) ⌝ }
+{
+    let s = c.leaf(words, 9, below);
+    let Step::Read(d) = s else {
+        return told(s);
+    };
+    Turn::Into(
+        d.at,
+        Frame {
+            fields,
+            row: 0,
+            times: 0,
+            left,
+        },
+    )
+}
+
+// an expression, past its head of the kind k: what stands before the expressions in it
+fn value(c: Cursor, words: &[u32], names: &[u8], n: u32, left: usize, k: u32) -> Turn
+    requires { ⌜ (16 ≤ k) × (k ≤ 23) × (c .at ≤ length (now words)) ⌝ }
+    ensures { λ r. ⌜ ((at : ℕ) → at < c .at → Goes (now (words .entry)) (now (names .entry)) n at (stepOf (bodyAt (now (words .entry)) (strings (now (names .entry)) n) (exprAt (now (words .entry)) (strings (now (names .entry)) n) left) k (c .at))) r) ⌝ }
+{
+    let mut f = Frame {
+        fields: 9,
+        row: 0,
+        times: 0,
+        left,
+    };
+    match k {
+        16 => told(c.literal(words, n)),
+        17 => told(c.name(words, names)),
+        18 | 21 => call(c, words, names, left),
+        19 => operator(c, words, left, 2, 9),
+        20 => operator(c, words, left, 18, 2313),
+        22 => {
+            f.fields = 265;
+            Turn::Into(c.at, f)
+        }
+        _ => Turn::Into(c.at, f),
+    }
+}
+
+// an expression: its head, and what stands before the expressions in it
+fn expression(c: Cursor, words: &[u32], names: &[u8], n: u32, left: usize) -> Turn
+    ensures { λ r. ⌜ Goes (now (words .entry)) (now (names .entry)) n (c .at) (fieldStep (now (words .entry)) (now (names .entry)) n left exprSort (c .at)) r ⌝ }
+{
+    let at = c.at;
+    let s = c.head(words, 16, 23);
+    let Step::Read(d) = s else {
+        return told(s);
+    };
+    if left == 0 {
+        return Turn::TooDeep(at);
+    }
+    let k = words[at] / 16777216;
+    value(d, words, names, n, left - 1, k)
+}
+
+// a statement: its head; its row is left
+fn statement(c: Cursor, words: &[u32], left: usize) -> Turn
+    ensures { λ r. ⌜ ((ns : List ℕ) (n : ℕ) → Goes (now (words .entry)) ns n (c .at) (fieldStep (now (words .entry)) ns n left stmtSort (c .at)) r) ⌝ }
 {
     let at = c.at;
     if words.len() <= at {
-        return row(c, words, names, n, left, r);
+        return Turn::Refused(words.len());
     }
-    if words[at] == 0 {
-        return Step::Read(Cursor { at: at + 1 });
+    let k = words[at] / 16777216;
+    match k {
+        64..=117 => {
+            if left == 0 {
+                return Turn::TooDeep(at);
+            }
+            Turn::Into(at + 1, one_row((k - 64) as usize + 39, left - 1))
+        }
+        _ => Turn::Refused(at),
     }
-    row(c, words, names, n, left, r)
 }
 
-// one of `count` heads from the kind `first` on, and then its row, of which the first head's is `r`
-fn choice(
-    c: Cursor,
-    words: &[u32],
-    names: &[u8],
-    n: u32,
-    left: usize,
-    first: u32,
-    count: u32,
-    r: usize,
-) -> Step
+// one row is left
+fn one_row(row: usize, left: usize) -> Frame
+    ensures { λ r. ⌜ r ≡ record { fields = 0; row = row; times = 1; left = left } ⌝ }
+{
+    Frame {
+        fields: 0,
+        row,
+        times: 1,
+        left,
+    }
+}
+
+// one of `count` heads from the kind `first` on; its row is left, of which the first head's is `r`
+fn choice(c: Cursor, words: &[u32], left: usize, first: u32, count: u32, r: usize) -> Turn
     requires { ⌜ r + count ≤ 93 ⌝ }
-    ensures { λ a. ⌜ a ≡ stepOf (fieldAt (now (words .entry)) (now (names .entry)) n (exprAt (now (words .entry)) (strings (now (names .entry)) n) left) (stmtAt (now (words .entry)) (now (names .entry)) n left) (chain first (take count (drop r allRows))) (c .at)) ⌝ }
+    ensures { λ t. ⌜ ((ns : List ℕ) (n : ℕ) → Goes (now (words .entry)) ns n (c .at) (fieldStep (now (words .entry)) ns n left (chain first (take count (drop r allRows))) (c .at)) t) ⌝ }
 {
     let at = c.at;
     if words.len() <= at {
-        return Step::Wrong(words.len());
+        return Turn::Refused(words.len());
     }
     let w = words[at];
     let k = w / 16777216;
     let p = w % 16777216;
     if p != 0 {
-        return Step::Wrong(at);
+        return Turn::Refused(at);
     }
     if k < first {
-        return Step::Wrong(at);
+        return Turn::Refused(at);
     }
     let i = k - first;
     if i < count {
-        return row(Cursor { at: at + 1 }, words, names, n, left, r + i as usize);
+        return Turn::Into(at + 1, one_row(r + i as usize, left));
     }
-    Step::Wrong(at)
+    Turn::Refused(at)
+}
+
+// the word 0, or a row that is left
+fn optional(c: Cursor, words: &[u32], left: usize, row: usize) -> Turn
+    ensures { λ r. ⌜ ((ns : List ℕ) (n : ℕ) → Turned (now (words .entry)) ns n left (c .at) (opt (rowOf row)) r) ⌝ }
+{
+    let at = c.at;
+    if words.len() <= at {
+        return Turn::Into(at, one_row(row, left));
+    }
+    if words[at] == 0 {
+        return Turn::Past(at + 1);
+    }
+    Turn::Into(at, one_row(row, left))
+}
+
+// the own words of a field of a sort, with so many levels left for what stands in it
+fn look(c: Cursor, words: &[u32], names: &[u8], n: u32, left: usize, sort: u8) -> Turn
+    ensures { λ r. ⌜ Turned (now (words .entry)) (now (names .entry)) n left (c .at) (sortAt sort) r ⌝ }
+{
+    match sort {
+        0 => told(nowhere(c, words)),
+        1 => told(name(c, words, names)),
+        2 => told(mark(c, words, 2, 0, n)),
+        3 => told(mark(c, words, 3, 0, 2)),
+        4 => told(mark(c, words, 4, 0, 16777216)),
+        5 => told(mark(c, words, 7, 65, 91)),
+        6 => told(mark(c, words, 9, 0, 4)),
+        7 => told(mark(c, words, 9, 0, 5)),
+        8 => told(mark(c, words, 9, 0, 18)),
+        9 => expression(c, words, names, n, left),
+        10 => statement(c, words, left),
+        11 => choice(c, words, left, 48, 2, 22),
+        12 => told(type_ref(c, words, names, n, left)),
+        13 => choice(c, words, left, 32, 3, 30),
+        14 => choice(c, words, left, 36, 3, 33),
+        15 => choice(c, words, left, 52, 3, 36),
+        16..=63 => optional(c, words, left, sort as usize - 16),
+        64..=111 => list(c, words, left, sort as usize - 64),
+        _ => Turn::Into(c.at, one_row(sort as usize - 112, left)),
+    }
+}
+
+// a frame past its next field
+fn rest(f: Frame) -> Frame
+    ensures { λ r. ⌜ r ≡ restOf f ⌝ }
+{
+    Frame {
+        fields: f.fields / 256,
+        row: f.row,
+        times: f.times,
+        left: f.left,
+    }
+}
+
+// a frame with the fields of its next row
+fn again(f: Frame) -> Frame
+    requires { ⌜ 0 < f .times ⌝ }
+    ensures { λ r. ⌜ r ≡ againOf f ⌝ }
+{
+    Frame {
+        fields: packed(f.row),
+        row: f.row,
+        times: f.times - 1,
+        left: f.left,
+    }
+}
+
+// 1 where anything is left, else 0
+fn remains(f: Frame) -> usize
+    ensures { λ r. ⌜ Opens f r ⌝ }
+{
+    if f.fields != 0 {
+        return 1;
+    }
+    if f.times != 0 {
+        return 1;
+    }
+    0
+}
+
+// How many frames may stand on the stack where a field of the sort enters the row: none under a procedure, which is read by a call.
+fn room(sort: u8, row: usize) -> usize
+    ensures { λ r. ⌜ r ≤ 32 ⌝ }
+{
+    if sort != 10 {
+        return 32;
+    }
+    match row {
+        59 => 0,
+        60 => 0,
+        _ => 32,
+    }
+}
+
+// Reads what a frame says. What is left of the frames around the current one stands on a stack; where that is full, and of
+// a procedure, whose end the memo then has, the next frame is read by a call.
+fn run(words: &[u32], names: &[u8], n: u32, f: Frame, from: usize, memo: &mut [u32]) -> Step
+    ensures { λ r. ⌜ (r ≡ frameAt (now (words .entry)) (now (names .entry)) n f from) × Keeps (now (words .entry)) (now (names .entry)) n (now (memo .entry)) (now (memo .exit)) ⌝ }
+{
+    let mut stack = [f; 32];
+    let mut sp = 0;
+    let mut at = from;
+    let mut cur = f;
+    loop {
+        if cur.fields == 0 {
+            if cur.times != 0 {
+                cur = again(cur);
+                continue;
+            }
+            if sp == 0 {
+                return Step::Read(Cursor { at });
+            }
+            sp -= 1;
+            cur = stack[sp];
+            continue;
+        }
+        let sort = (cur.fields % 256) as u8;
+        let t = look(Cursor { at }, words, names, n, cur.left, sort);
+        cur = rest(cur);
+        match t {
+            Turn::Past(m) => {
+                at = m;
+                continue;
+            }
+            Turn::Into(m, g) => {
+                if sp < room(sort, g.row) {
+                    stack[sp] = cur;
+                    sp += remains(cur);
+                    at = m;
+                    cur = g;
+                    continue;
+                }
+                let s = run(words, names, n, g, m, memo);
+                let Step::Read(d) = s else {
+                    return s;
+                };
+                note(memo, sort, at, d.at);
+                at = d.at;
+                continue;
+            }
+            Turn::Refused(p) => return Step::Wrong(p),
+            Turn::TooDeep(p) => return Step::Deep(p),
+        }
+    }
 }
 
 // a statement, with so many levels left
 pub fn stmt(c: Cursor, words: &[u32], names: &[u8], n: u32, left: usize) -> Step
     ensures { λ r. ⌜ r ≡ stepOf (stmtAt (now (words .entry)) (now (names .entry)) n left (c .at)) ⌝ }
 {
-    let at = c.at;
-    if words.len() <= at {
-        return Step::Wrong(words.len());
-    }
-    let k = words[at] / 16777216;
-    match k {
-        64..=117 => {
-            if left == 0 {
-                return Step::Deep(at);
-            }
-            row(
-                Cursor { at: at + 1 },
-                words,
-                names,
-                n,
-                left - 1,
-                (k - 64) as usize + 39,
-            )
-        }
-        _ => Step::Wrong(at),
+    let mut memo = [0u32; 1];
+    run(words, names, n, one_field(10, left), c.at, &mut memo)
+}
+
+// one field is left
+fn one_field(sort: u64, left: usize) -> Frame
+    ensures { λ r. ⌜ r ≡ record { fields = sort; row = 0; times = 0; left = left } ⌝ }
+{
+    Frame {
+        fields: sort,
+        row: 0,
+        times: 0,
+        left,
     }
 }
 
@@ -492,14 +692,23 @@ pub fn stmt(c: Cursor, words: &[u32], names: &[u8], n: u32, left: usize) -> Step
 pub fn program(words: &[u32], names: &[u8], n: u32) -> Step
     ensures { λ r. ⌜ r ≡ stepOf (programAt (now (words .entry)) (now (names .entry)) n) ⌝ }
 {
-    rows(Cursor { at: 0 }, words, names, n, 100, 4)
+    let mut memo = [0u32; 1];
+    run(words, names, n, one_field(68, 100), 0, &mut memo)
+}
+
+// The same, with the ends of its procedures noted in a memo.
+pub fn program_with(words: &[u32], names: &[u8], n: u32, memo: &mut [u32]) -> Step
+    ensures { λ r. ⌜ (r ≡ stepOf (programAt (now (words .entry)) (now (names .entry)) n)) × Keeps (now (words .entry)) (now (names .entry)) n (now (memo .entry)) (now (memo .exit)) ⌝ }
+{
+    run(words, names, n, one_field(68, 100), 0, memo)
 }
 
 // A body: a list of statements, with so many levels left.
 pub fn body(c: Cursor, words: &[u32], names: &[u8], n: u32, left: usize) -> Step
     ensures { λ r. ⌜ r ≡ stepOf (fieldAt (now (words .entry)) (now (names .entry)) n (exprAt (now (words .entry)) (strings (now (names .entry)) n) left) (stmtAt (now (words .entry)) (now (names .entry)) n left) bodySort (c .at)) ⌝ }
 {
-    rows(c, words, names, n, left, 4)
+    let mut memo = [0u32; 1];
+    run(words, names, n, one_field(68, left), c.at, &mut memo)
 }
 
 // The place that a slot's two words tell for a place; 0 where they are another's.
@@ -527,7 +736,7 @@ pub fn recall(memo: &[u32], at: usize) -> usize
 }
 
 // Notes in the memo that a statement at `at` ends at `end`, unless a number is too large.
-pub fn remember(memo: &mut [u32], at: usize, end: usize)
+fn remember(memo: &mut [u32], at: usize, end: usize)
     ensures { λ r. ⌜ Remembered (now (memo .entry)) at end (now (memo .exit)) ⌝ }
 {
     if memo.len() < 128 {
@@ -542,6 +751,15 @@ pub fn remember(memo: &mut [u32], at: usize, end: usize)
     let i = at % 64;
     memo[2 * i] = (at + 1) as u32;
     memo[2 * i + 1] = end as u32;
+}
+
+// Notes the end of a field of a sort, if that is a statement.
+fn note(memo: &mut [u32], sort: u8, at: usize, end: usize)
+    ensures { λ r. ⌜ Noted sort (now (memo .entry)) at end (now (memo .exit)) ⌝ }
+{
+    if sort == 10 {
+        remember(memo, at, end);
+    }
 }
 
 // The place past the statement at `at`, which the memo may have; else it is read.

@@ -1,14 +1,17 @@
--- `tree::body` meets its contract: a body is a list of the rows number 4. Assumes nothing.
-use Rattle.tree.proofs.Steps.{body-is}
+-- `tree::body` meets its contract: a body is the field number 68. Assumes nothing.
+use Rattle.tree.proofs.Frames.{body-is}
 use borrow.Author.Needs.{needs}
 use Rattle.tree.proofs.body.Statement.{statement}
 use Rattle.tree.proofs.body.Tie as tie
 
-rows-requires : tie.Need-rows-requires
-rows-requires c κs = search needs
+one-field-requires : tie.Need-one-field-requires
+one-field-requires c κs = search needs
+
+run-requires : tie.Need-run-requires
+run-requires c κs = search needs
 
 returns : tie.Need-returns
-returns c = body-is _ _ _ _ _ (c .rows .ensures)
+returns c = body-is _ _ _ _ _ (c .run .ensures) (c .before .one-field .ensures)
 
 pub body-spec : {M : Type 1} → statement M
-body-spec = tie.close (tie.spec rows-requires returns)
+body-spec = tie.close (tie.spec one-field-requires run-requires returns)

@@ -1,14 +1,17 @@
--- `tree::program` meets its contract: a program is a list of statements at the first word. Assumes nothing.
-use Rattle.tree.proofs.Steps.{program-is}
+-- `tree::program` meets its contract: the program is the field number 68. Assumes nothing.
+use Rattle.tree.proofs.Frames.{program-is}
 use borrow.Author.Needs.{needs}
 use Rattle.tree.proofs.program.Statement.{statement}
 use Rattle.tree.proofs.program.Tie as tie
 
-rows-requires : tie.Need-rows-requires
-rows-requires c κs = search needs
+one-field-requires : tie.Need-one-field-requires
+one-field-requires c κs = search needs
+
+run-requires : tie.Need-run-requires
+run-requires c κs = search needs
 
 returns : tie.Need-returns
-returns c = program-is _ _ _ (c .rows .ensures)
+returns c = program-is _ _ _ (c .run .ensures) (c .before .one-field .ensures)
 
 pub program-spec : {M : Type 1} → statement M
-program-spec = tie.close (tie.spec rows-requires returns)
+program-spec = tie.close (tie.spec one-field-requires run-requires returns)

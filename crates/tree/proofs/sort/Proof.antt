@@ -1,4 +1,4 @@
--- `sort`: the row's six numbers joined, and the i-th taken out again. Assumes nothing.
+-- `sort`: the row's six numbers in one, and the i-th taken out again. Assumes nothing.
 use mathlib.Core.Path.{ap, _∙_}
 use Prim.Native.Nat.{ℕ, _*_, _/_, _%_, _^_}
 use Rattle.tree.proofs.Tables.{codes-at}
@@ -6,29 +6,8 @@ use borrow.Author.Needs.{needs}
 use Rattle.tree.proofs.sort.Statement.{statement}
 use Rattle.tree.proofs.sort.Tie as tie
 
-numbers-requires : tie.Need-numbers-requires
-numbers-requires c κs = search needs
-
-array-read-join : tie.Need-array-read-join
-array-read-join c = search needs
-
-array-read-join-2 : tie.Need-array-read-join-2
-array-read-join-2 c = search needs
-
-array-read-join-3 : tie.Need-array-read-join-3
-array-read-join-3 c = search needs
-
-array-read-join-4 : tie.Need-array-read-join-4
-array-read-join-4 c = search needs
-
-array-read-join-5 : tie.Need-array-read-join-5
-array-read-join-5 c = search needs
-
-array-read-join-6 : tie.Need-array-read-join-6
-array-read-join-6 c = search needs
-
-join-requires : tie.Need-join-requires
-join-requires c κs = search needs
+packed-requires : tie.Need-packed-requires
+packed-requires c κs = search needs
 
 cast-result : tie.Need-cast-result
 cast-result c = search needs
@@ -46,20 +25,13 @@ cast-result-3 : tie.Need-cast-result-3
 cast-result-3 c = search needs
 
 returns : tie.Need-returns
-returns c = ap (λ (x : ℕ). x / 2 ^ (8 * c .before .before .args .i) % 256) (c .join .ensures) ∙ codes-at (c .before .numbers .result) (c .before .before .args .row) (c .before .before .args .i) (c .before .before .pre) (c .before .numbers .ensures)
+returns c = ap (λ (x : ℕ). x / 2 ^ (8 * c .before .args .i) % 256) (c .packed .ensures) ∙ codes-at (c .before .args .row) (c .before .args .i) (c .before .pre)
 
 pub sort-spec : {M : Type 1} → statement M
 sort-spec =
     tie.close
     (tie.spec
-    numbers-requires
-    array-read-join
-    array-read-join-2
-    array-read-join-3
-    array-read-join-4
-    array-read-join-5
-    array-read-join-6
-    join-requires
+    packed-requires
     cast-result
     mul-result
     cast-result-2

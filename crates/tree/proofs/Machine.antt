@@ -1,0 +1,286 @@
+-- The loop over frames: the frame in hand and those on the stack are together what was asked, and their weight falls with each turn. Assumes nothing.
+use Prim.Native.Nat.{ℕ, zero, suc, _+_, _-_, _*_, _/_, _%_, _<_, _≤_}
+use mathlib.Core.Path.{_≡_, refl, sym, ap, subst, _∙_}
+use mathlib.Core.List.{List, [], _∷_}
+use mathlib.Core.Bool.{Bool, true, false, _&&_}
+use mathlib.Core.Logic.{_⊎_, inl, inr, ⊎-elim}
+use native.Mathlib.Omega.{arith}
+use native.Mathlib.Nat.{le-trans}
+use lib.ListN.{length, getD, set}
+use lib.Seq.{getD-set-same, getD-set-other}
+use lib.Dec.{ltb}
+use borrow.Author.Tests.{lt-ltb, ltb-true, ltb-false}
+use types.Run.{OneOf}
+use denote.Enum.Declared.{tagOf}
+use Rattle.expr.proofs.Step.{the-type}
+use Rattle.expr.specs.Answer.{stepOf, then}
+use Rattle.expr.specs.declared.Cursor.{Cursor}
+use Rattle.expr.specs.declared.Step.{Step}
+use Rattle.expr.specs.declared.Step.the-variants.{Read, Wrong, Deep}
+use Rattle.expr.proofs.Steps.{halt}
+use Rattle.tree.specs.Sorts.{Sort, never, group, opt, Sorts, nil, _&_}
+use Rattle.tree.specs.Codes.{codes, pack, rowOf, singles, sortAt, unpack, sortsOf}
+use Rattle.tree.specs.Frames.{restOf, againOf, Opens, over, more, fieldStep, frameAt, Goes, past, into, refused, deep as low, Turned, goes, same}
+use Rattle.tree.specs.declared.Frame.{Frame}
+use Rattle.tree.specs.declared.Turn.{Turn}
+use Rattle.tree.specs.declared.Turn.the-variants.{Past, Into, Refused, TooDeep}
+use Rattle.tree.proofs.Steps.{then-read, and-left, and-right, sizeS, sizeR, size-none, size-pos, size-cons, size-many, size-group, size-opt, small-row, sort-opt, sort-many, sort-group}
+use Rattle.tree.proofs.Sound.{field-after}
+use Rattle.tree.proofs.Frames.{sorts-next, sorts-none, sorts-packed, then-then, then-same, frame-end, frame-again, frame-next}
+
+-- ---- sizes
+
+-- so many rows of a size
+unfoldable pub rowsSize : ℕ → ℕ → ℕ
+rowsSize zero r = 0
+rowsSize (suc k) r = r + 1 + rowsSize k r
+
+unfoldable pub sizeF : Frame → ℕ
+sizeF f = sizeR (sortsOf (f .fields)) + rowsSize (f .times) (sizeR (rowOf (f .row)))
+
+rows-next : (k r : ℕ) → 0 < k → rowsSize k r ≡ r + 1 + rowsSize (k - 1) r
+unfolding rowsSize
+rows-next zero r h = absurd (omega arith)
+rows-next (suc k) r h = let e : suc k - 1 ≡ k = omega arith in ap (λ (x : ℕ). r + 1 + rowsSize x r) (sym e)
+
+rows-small : (k r : ℕ) → r < 1000 → rowsSize k r ≤ 1000 * k
+unfolding rowsSize
+rows-small zero r h = omega arith
+rows-small (suc k) r h = omega (arith, rows-small k r h)
+
+smallS : List Sort → Bool
+smallS [] = true
+smallS (s ∷ l) = ltb (sizeS s) 1000 && smallS l
+
+small-single : (l : List Sort) (k : ℕ) → smallS l ≡ true → sizeS (getD l k never) < 1000
+unfolding smallS sizeS
+small-single [] k e = lib.Dec.lit< tt
+small-single (s ∷ l) zero e = ltb-true (sizeS s) 1000 (and-left _ _ e)
+small-single (s ∷ l) (suc k) e = small-single l k (and-right (ltb (sizeS s) 1000) _ e)
+
+single-small : (k : ℕ) → k < 16 → sizeS (sortAt k) < 1010
+unfolding sortAt singles smallS sizeS sizeR
+single-small k h =
+    let z : sizeS (getD singles k never) < 1000 = small-single singles k refl in
+    simp (lt-ltb k 16 h) (omega arith)
+
+sort-small : (k : ℕ) → sizeS (sortAt k) < 1010
+sort-small k = go (ltb k 16) (ltb k 64) (ltb k 112) refl refl refl
+  where
+    go : (a b c : Bool) → ltb k 16 ≡ a → ltb k 64 ≡ b → ltb k 112 ≡ c → sizeS (sortAt k) < 1010
+    go true b c p q r = single-small k (ltb-true k 16 p)
+    go false true c p q r = omega (arith, ap sizeS (sort-opt k (ltb-false k 16 p) (ltb-true k 64 q)), size-opt (rowOf (k - 16)), small-row (k - 16))
+    go false false true p q r = omega (arith, ap sizeS (sort-many k (ltb-false k 64 q) (ltb-true k 112 r)), size-many (rowOf (k - 64)), small-row (k - 64))
+    go false false false p q r = omega (arith, ap sizeS (sort-group k (ltb-false k 112 r)), size-group (rowOf (k - 112)), small-row (k - 112))
+
+unpack-small : (k x : ℕ) → sizeR (unpack k x) ≤ 1012 * x + 1
+unfolding unpack
+unpack-small zero x = omega (arith, size-none)
+unpack-small (suc k) zero = omega (arith, size-none)
+unpack-small (suc k) (suc x) = omega (arith, size-cons (sortAt (suc x % 256)) (unpack k (suc x / 256)), sort-small (suc x % 256), unpack-small k (suc x / 256))
+
+frame-small : (f : Frame) → f .fields < 4096 → f .times < 16777216 → sizeF f < 1099511627776
+unfolding sizeF
+frame-small f a b = omega (arith, unpack-small (f .fields) (f .fields), rows-small (f .times) (sizeR (rowOf (f .row))) (small-row (f .row)))
+
+size-end : (f : Frame) → 0 < sizeF f
+unfolding sizeF
+size-end f = omega (arith, size-pos (sortsOf (f .fields)))
+
+size-again : (f : Frame) → f .fields ≡ 0 → 0 < f .times → sizeF (againOf f) < sizeF f
+unfolding sizeF
+size-again f z h =
+    let s : sizeR (sortsOf (f .fields)) ≡ 1 = ap sizeR (sorts-none z) ∙ size-none in
+    let p : sizeR (sortsOf (pack (codes (f .row)))) ≡ sizeR (rowOf (f .row)) = ap sizeR (sorts-packed (f .row)) in
+    omega (arith, s, p, rows-next (f .times) (sizeR (rowOf (f .row))) h)
+
+size-next : (f : Frame) → (f .fields ≡ 0 → ⊥) → sizeF f ≡ sizeS (sortAt (f .fields % 256)) + sizeF (restOf f) + 2
+unfolding sizeF
+size-next f z = omega (arith, ap sizeR (sorts-next (f .fields) z) ∙ size-cons (sortAt (f .fields % 256)) (sortsOf (f .fields / 256)))
+
+-- one row is smaller than the option or the group that it stands in
+size-same : (s : Sort) (r left : ℕ) → (s ≡ opt (rowOf r)) ⊎ (s ≡ group (rowOf r)) → sizeF (record { fields = 0; row = r; times = 1; left = left }) ≤ sizeS s
+unfolding sizeF rowsSize
+size-same s r left (inl e) = omega (arith, ap sizeR (sorts-none {x = 0} refl) ∙ size-none, ap sizeS e, size-opt (rowOf r))
+size-same s r left (inr e) = omega (arith, ap sizeR (sorts-none {x = 0} refl) ∙ size-none, ap sizeS e, size-group (rowOf r))
+
+-- ---- the stack: below a height, what stands at each place
+
+unfoldable pub total : (ℕ → Frame) → ℕ → ℕ
+total g zero = 0
+total g (suc i) = sizeF (g i) + total g i
+
+total-same : (g h : ℕ → Frame) (k : ℕ) → ((i : ℕ) → i < k → g i ≡ h i) → total g k ≡ total h k
+unfolding total
+total-same g h zero e = refl
+total-same g h (suc i) e = let q : sizeF (g i) ≡ sizeF (h i) = ap sizeF (e i (omega arith)) in omega (arith, q, total-same g h i (λ j z. e j (omega (arith, z))))
+
+-- ---- what a turn that enters a frame says
+
+pub into-is : {ws ns : List ℕ} {n left at m : ℕ} {s : Sort} {f : Frame} → Turned ws ns n left at s (Into m f) → fieldStep ws ns n left s at ≡ frameAt ws ns n f m
+into-is (goes (into e a b c d)) = e
+into-is (same k e) = e
+
+pub into-less : {ws ns : List ℕ} {n left at m : ℕ} {s : Sort} {f : Frame} → Turned ws ns n left at s (Into m f) → (length ws - m) * 1099511627776 + sizeF f ≤ (length ws - at) * 1099511627776 + sizeS s
+into-less {f = f} (goes (into e a b c d)) = omega (arith, frame-small f c d)
+into-less {left = left} {at = at} {s = s} (same {r} k e) = omega (arith, size-same s r left k)
+
+pub past-is : {ws ns : List ℕ} {n left at m : ℕ} {s : Sort} → Turned ws ns n left at s (Past m) → fieldStep ws ns n left s at ≡ Read (record { at = m })
+past-is (goes (past e)) = e
+
+pub refused-is : {ws ns : List ℕ} {n left at p : ℕ} {s : Sort} → Turned ws ns n left at s (Refused p) → fieldStep ws ns n left s at ≡ Wrong p
+refused-is (goes (refused e)) = e
+
+pub deep-is : {ws ns : List ℕ} {n left at p : ℕ} {s : Sort} → Turned ws ns n left at s (TooDeep p) → fieldStep ws ns n left s at ≡ Deep p
+deep-is (goes (low e)) = e
+
+-- ---- the stack, by its top
+
+total-top : (g : ℕ → Frame) (k : ℕ) → 0 < k → total g k ≡ sizeF (g (k - 1)) + total g (k - 1)
+unfolding total
+total-top g zero h = absurd (omega arith)
+total-top g (suc k) h = let e : suc k - 1 ≡ k = omega arith in ap (λ (x : ℕ). sizeF (g x) + total g x) (sym e)
+
+pushed-size : (g g′ : ℕ → Frame) (sp : ℕ) (f : Frame) (o : ℕ) → Opens f o → ((i : ℕ) → i < sp → g′ i ≡ g i) → g′ sp ≡ f → total g′ (sp + o) ≤ sizeF f + total g sp
+unfolding total
+pushed-size g g′ sp f _ (over z e) alike top =
+    let q : sp + 0 ≡ sp = omega arith in
+    omega (arith, ap (λ (x : ℕ). total g′ x) q, total-same g′ g sp alike)
+pushed-size g g′ sp f _ more alike top =
+    let q : sp + 1 ≡ suc sp = omega arith in
+    omega (arith, ap (λ (x : ℕ). total g′ x) q, ap sizeF top, total-same g′ g sp alike)
+
+-- what stands at each place of the list that is the stack
+abbrev pub onStack : List Frame → ℕ → Frame
+onStack st i = getD st i (record { fields = 0; row = 0; times = 0; left = 0 })
+
+module _ (ws ns : List ℕ) (n : ℕ) where
+  unfoldable pub after : (ℕ → Frame) → ℕ → ℕ → Step
+  after g zero m = Read (record { at = m })
+  after g (suc i) m = then (frameAt ws ns n (g i) m) (λ m′. after g i m′)
+
+  after-same : (g h : ℕ → Frame) (k m : ℕ) → ((i : ℕ) → i < k → g i ≡ h i) → after g k m ≡ after h k m
+  unfolding after
+  after-same g h zero m e = refl
+  after-same g h (suc i) m e =
+      ap (λ (f : Frame). then (frameAt ws ns n f m) (λ m′. after g i m′)) (e i (omega arith))
+      ∙ then-same _ _ _ (λ m′. after-same g h i m′ (λ j z. e j (omega (arith, z))))
+
+  -- what is still to be answered, and how much that is
+  abbrev pub whole : (ℕ → Frame) → ℕ → Frame → ℕ → Step
+  whole g sp f at = then (frameAt ws ns n f at) (λ m. after g sp m)
+
+  abbrev pub weight : (ℕ → Frame) → ℕ → Frame → ℕ → ℕ
+  weight g sp f at = (length ws - at) * 1099511627776 + (sizeF f + total g sp)
+
+  -- a turn of the loop
+  pub record Next (g : ℕ → Frame) (sp : ℕ) (f : Frame) (at : ℕ) (g′ : ℕ → Frame) (sp′ : ℕ) (f′ : Frame) (at′ : ℕ) : Type 0 where
+    pub is : whole g sp f at ≡ whole g′ sp′ f′ at′
+    pub less : weight g′ sp′ f′ at′ < weight g sp f at
+
+  after-top : (g : ℕ → Frame) (k m : ℕ) → 0 < k → after g k m ≡ whole g (k - 1) (g (k - 1)) m
+  unfolding after
+  after-top g zero m h = absurd (omega arith)
+  after-top g (suc k) m h = let e : suc k - 1 ≡ k = omega arith in ap (λ (x : ℕ). whole g x (g x) m) (sym e)
+
+  -- after a frame was put on top
+  pushed-is : (g g′ : ℕ → Frame) (sp : ℕ) (f : Frame) (o m : ℕ) → Opens f o → ((i : ℕ) → i < sp → g′ i ≡ g i) → g′ sp ≡ f → whole g sp f m ≡ after g′ (sp + o) m
+  unfolding then after
+  pushed-is g g′ sp f _ m (over z e) alike top =
+      let q : sp + 0 ≡ sp = omega arith in
+      ap (λ (s : Step). then s (λ m′. after g sp m′)) (frame-end ws ns n f m z e)
+      ∙ after-same g g′ sp m (λ i h. sym (alike i h))
+      ∙ ap (λ (x : ℕ). after g′ x m) (sym q)
+  pushed-is g g′ sp f _ m more alike top =
+      let q : sp + 1 ≡ suc sp = omega arith in
+      ap (λ (h : Frame). whole g sp h m) (sym top)
+      ∙ then-same (frameAt ws ns n (g′ sp) m) (λ m′. after g sp m′) (λ m′. after g′ sp m′) (λ m′. after-same g g′ sp m′ (λ i h. sym (alike i h)))
+      ∙ ap (λ (x : ℕ). after g′ x m) (sym q)
+
+  module _ (g : ℕ → Frame) (sp : ℕ) (f : Frame) (at : ℕ) where
+    pub ends : f .fields ≡ 0 → f .times ≡ 0 → sp ≡ 0 → whole g sp f at ≡ Read (record { at = at })
+    unfolding then after
+    ends z e q = ap (λ (s : Step). then s (λ m. after g sp m)) (frame-end ws ns n f at z e) ∙ ap (λ (x : ℕ). after g x at) q
+
+    pub goes-again : f .fields ≡ 0 → 0 < f .times → Next g sp f at g sp (againOf f) at
+    goes-again z h = record { is = ap (λ (s : Step). then s (λ m. after g sp m)) (frame-again ws ns n f at z h); less = omega (arith, size-again f z h) }
+
+    pub goes-up : f .fields ≡ 0 → f .times ≡ 0 → 0 < sp → Next g sp f at g (sp - 1) (g (sp - 1)) at
+    unfolding then
+    goes-up z e h =
+        record {
+          is = ap (λ (s : Step). then s (λ m. after g sp m)) (frame-end ws ns n f at z e) ∙ after-top g sp at h;
+          less = omega (arith, size-end f, total-top g sp h);
+        }
+
+    -- the field in hand: what it reads, then the rest
+    next-field : (f .fields ≡ 0 → ⊥) → whole g sp f at ≡ then (fieldStep ws ns n (f .left) (sortAt (f .fields % 256)) at) (λ m. whole g sp (restOf f) m)
+    next-field z = ap (λ (s : Step). then s (λ m. after g sp m)) (frame-next ws ns n f at z) ∙ then-then _ _ _
+
+    pub goes-past : {m : ℕ} → (f .fields ≡ 0 → ⊥) → fieldStep ws ns n (f .left) (sortAt (f .fields % 256)) at ≡ Read (record { at = m }) → Next g sp f at g sp (restOf f) m
+    unfolding then
+    goes-past {m} z e =
+        record {
+          is = next-field z ∙ ap (λ (s : Step). then s (λ m′. whole g sp (restOf f) m′)) e;
+          less = omega (arith, size-next f z, field-after ws ns n (f .left) (sortAt (f .fields % 256)) at e);
+        }
+
+    pub stops-wrong : {p : ℕ} → (f .fields ≡ 0 → ⊥) → fieldStep ws ns n (f .left) (sortAt (f .fields % 256)) at ≡ Wrong p → whole g sp f at ≡ Wrong p
+    unfolding then
+    stops-wrong z e = next-field z ∙ ap (λ (s : Step). then s (λ m. whole g sp (restOf f) m)) e
+
+    pub stops-deep : {p : ℕ} → (f .fields ≡ 0 → ⊥) → fieldStep ws ns n (f .left) (sortAt (f .fields % 256)) at ≡ Deep p → whole g sp f at ≡ Deep p
+    unfolding then
+    stops-deep z e = next-field z ∙ ap (λ (s : Step). then s (λ m. whole g sp (restOf f) m)) e
+
+    -- a frame that was read by a call
+    pub stops-inner : {s : Step} → (f .fields ≡ 0 → ⊥) → s ≡ fieldStep ws ns n (f .left) (sortAt (f .fields % 256)) at → OneOf (1 ∷ 2 ∷ []) (tagOf the-type s) → s ≡ whole g sp f at
+    stops-inner z e t = halt _ e t ∙ sym (next-field z)
+
+    -- a frame is entered: what is left of the one in hand goes onto the stack, if that is anything
+    pub goes-into : (g′ : ℕ → Frame) (r : Frame) (o m : ℕ) (f′ : Frame) → (f .fields ≡ 0 → ⊥) → fieldStep ws ns n (f .left) (sortAt (f .fields % 256)) at ≡ frameAt ws ns n f′ m → (length ws - m) * 1099511627776 + sizeF f′ ≤ (length ws - at) * 1099511627776 + sizeS (sortAt (f .fields % 256)) → r ≡ restOf f → Opens r o → ((i : ℕ) → i < sp → g′ i ≡ g i) → g′ sp ≡ r → Next g sp f at g′ (sp + o) f′ m
+    goes-into g′ r o m f′ z e w q p alike top =
+        record {
+          is = next-field z ∙ ap (λ (s : Step). then s (λ m′. whole g sp (restOf f) m′)) e ∙ then-same _ _ _ (λ m′. ap (λ (h : Frame). whole g sp h m′) (sym q) ∙ pushed-is g g′ sp r o m′ p alike top);
+          less = omega (arith, size-next f z, w, ap sizeF q, pushed-size g g′ sp r o p alike top);
+        }
+
+  -- by the frame that a function answers
+  pub next-frame : {g g′ : ℕ → Frame} {sp sp′ at at′ : ℕ} {f f′ h : Frame} → h ≡ f′ → Next g sp f at g′ sp′ f′ at′ → Next g sp f at g′ sp′ h at′
+  next-frame {g} {g′} {sp} {sp′} {at} {at′} {f} e x = subst (λ (y : Frame). Next g sp f at g′ sp′ y at′) (sym e) x
+
+  -- ---- the loop's invariant, over the list that is the stack
+
+  pub record Held (f₀ : Frame) (at₀ : ℕ) (st : List Frame) (sp at : ℕ) (f : Frame) : Type 0 where
+    pub is : frameAt ws ns n f₀ at₀ ≡ whole (onStack st) sp f at
+    pub light : weight (onStack st) sp f at ≤ (length ws - at₀) * 1099511627776 + sizeF f₀
+    pub room : sp ≤ 32
+    pub long : length st ≡ 32
+
+  pub held-first : (f : Frame) (at : ℕ) (st : List Frame) → length st ≡ 32 → Held f at st 0 at f
+  unfolding after total
+  held-first f at st h = record { is = sym (then-read _); light = omega arith; room = omega arith; long = h }
+
+  pub held-next : {f₀ f f′ : Frame} {at₀ sp at sp′ at′ : ℕ} {st st′ : List Frame} → Held f₀ at₀ st sp at f → Next (onStack st) sp f at (onStack st′) sp′ f′ at′ → sp′ ≤ 32 → length st′ ≡ 32 → Held f₀ at₀ st′ sp′ at′ f′
+  held-next h x a b = record { is = h .is ∙ x .is; light = omega (arith, h .light, x .less); room = a; long = b }
+
+  pub lighter : {f₀ f f′ : Frame} {at₀ sp at sp′ at′ : ℕ} {st : List Frame} {g′ : ℕ → Frame} → Held f₀ at₀ st sp at f → Next (onStack st) sp f at g′ sp′ f′ at′ → weight g′ sp′ f′ at′ < weight (onStack st) sp f at
+  lighter h x = x .less
+
+  -- a frame is entered: the list with the rest of the one in hand put on top
+  pub push : (st : List Frame) {sp at m o : ℕ} {f f′ r : Frame} → length st ≡ 32 → sp < 32 → (f .fields ≡ 0 → ⊥) → Turned ws ns n (f .left) at (sortAt (f .fields % 256)) (Into m f′) → r ≡ restOf f → Opens r o → Next (onStack st) sp f at (onStack (set st sp r)) (sp + o) f′ m
+  push st {sp} {at} {m} {o} {f} {f′} {r} l h z t q p =
+      goes-into (onStack st) sp f at (onStack (set st sp r)) r o m f′ z (into-is t) (into-less t) q p
+      (λ i k. getD-set-other st sp i r _ (λ e. omega (arith, e, k)))
+      (getD-set-same st sp r _ (omega arith))
+
+  -- what a frame that is entered weighs, beside what was asked at first
+  pub inner-less : {f₀ f f′ : Frame} {at₀ sp at m : ℕ} {st : List Frame} → Held f₀ at₀ st sp at f → (f .fields ≡ 0 → ⊥) → Turned ws ns n (f .left) at (sortAt (f .fields % 256)) (Into m f′) → (length ws - m) * 1099511627776 + sizeF f′ < (length ws - at₀) * 1099511627776 + sizeF f₀
+  inner-less {f₀} {f} h z t = omega (arith, h .light, into-less t, size-next f z)
+
+pub opens-small : {f : Frame} {o : ℕ} → Opens f o → o ≤ 1
+opens-small (over z e) = omega arith
+opens-small more = omega arith
+
+pub as-turn : {ws ns : List ℕ} {n left at : ℕ} {s : Sort} {t u : Turn} → t ≡ u → Turned ws ns n left at s t → Turned ws ns n left at s u
+as-turn {ws} {ns} {n} {left} {at} {s} e x = subst (λ (y : Turn). Turned ws ns n left at s y) e x

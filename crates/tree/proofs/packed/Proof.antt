@@ -1,0 +1,22 @@
+-- `packed`: the rows of both tables, one after the other. Assumes nothing.
+use mathlib.Core.Path.{ap, _∙_}
+use Rattle.tree.specs.Codes.{pack}
+use Rattle.tree.proofs.Tables.{codes-part, codes-stmt}
+use borrow.Author.Needs.{needs}
+use Rattle.tree.proofs.packed.Statement.{statement}
+use Rattle.tree.proofs.packed.Tie as tie
+
+part-requires : tie.Need-part-requires
+part-requires c κs = search needs
+
+returns : tie.Need-returns
+returns c = c .part .ensures ∙ ap pack (codes-part (c .before .before .args .row) (c .before .if1 .taken))
+
+fields-requires : tie.Need-fields-requires
+fields-requires c κs = search needs
+
+returns-2 : tie.Need-returns-2
+returns-2 c = c .fields .ensures ∙ ap pack (codes-stmt (c .before .before .args .row) (c .before .if1 .left))
+
+pub packed-spec : {M : Type 1} → statement M
+packed-spec = tie.close (tie.spec part-requires returns fields-requires returns-2)

@@ -35,7 +35,7 @@ fn tables(
     notes: &mut [u32],
     memo: &[u32],
 ) -> Counts
-    requires { ⌜ Passed (now bytes) (now ends) (now erased) (now words) (now names) × Remembers (now words) (now names) (length (now ends)) (now memo) ⌝ }
+    requires { ⌜ Passed (now bytes) (now ends) (now erased) (now words) (now names) × Remembers (now words) (now names) (length (now names)) (now memo) ⌝ }
     ensures { λ r. ⌜ Tabled (now (bytes .entry)) (now (ends .entry)) (now (erased .entry)) (now (words .entry)) r (now (rows .entry)) (now (notes .entry)) (now (rows .exit)) (now (notes .exit)) ⌝ }
 {
     let s = steps::begin(rows, notes);
@@ -57,7 +57,7 @@ fn run(
     out: &mut [u32],
     memo: &[u32],
 ) -> Answer
-    requires { ⌜ Passed (now bytes) (now ends) (now erased) (now words) (now names) × (length (now words) ≤ length (now out)) × Remembers (now words) (now names) (length (now ends)) (now memo) ⌝ }
+    requires { ⌜ Passed (now bytes) (now ends) (now erased) (now words) (now names) × (length (now words) ≤ length (now out)) × Remembers (now words) (now names) (length (now names)) (now memo) ⌝ }
     ensures { λ r. ⌜ Tells r (now (notes .entry)) (now (rows .entry)) (now (out .entry)) (now (notes .exit)) (now (rows .exit)) (now (out .exit)) (work (length (now (rows .entry))) (length (now (notes .entry))) (length (now (out .entry))) (now (bytes .entry)) (now (ends .entry)) (now (erased .entry)) (now (words .entry))) ⌝ }
 {
     let s = tables(words, names, bytes, ends, erased, rows, notes, memo);

@@ -124,7 +124,7 @@ pub fn statements(
     at: usize,
     memo: &[u32],
 ) -> Moved
-    requires { ⌜ ReadyWhole (now words) (now names) (now bytes) (now ends) scope at s (now b) (now d) × Remembers (now words) (now names) (length (now ends)) (now memo) ⌝ }
+    requires { ⌜ ReadyWhole (now words) (now names) (now bytes) (now ends) scope at s (now b) (now d) × Remembers (now words) (now names) (length (now names)) (now memo) ⌝ }
     ensures { λ r. ⌜ Collects (now (words .entry)) (now (names .entry)) (now (bytes .entry)) (now (ends .entry)) (now (erased .entry)) scope at (r .next) s (r .counts) (now (b .entry)) (now (d .entry)) (now (b .exit)) (now (d .exit)) ⌝ }
 {
     let n = words.len();

@@ -34,7 +34,7 @@ fn tables(
     d: &mut [u32],
     memo: &[u32],
 ) -> Counts
-    requires { ⌜ Passed (now bytes) (now ends) (now erased) (now words) (now names) × Remembers (now words) (now names) (length (now ends)) (now memo) ⌝ }
+    requires { ⌜ Passed (now bytes) (now ends) (now erased) (now words) (now names) × Remembers (now words) (now names) (length (now names)) (now memo) ⌝ }
     ensures { λ r. ⌜ Tabled (now (bytes .entry)) (now (ends .entry)) (now (erased .entry)) (now (words .entry)) (now (names .entry)) r (now (b .entry)) (now (d .entry)) (now (b .exit)) (now (d .exit)) ⌝ }
 {
     let s = steps::begin(b, d);

@@ -8,14 +8,19 @@ use lib.Seq.{getD-set-same, getD-set-other}
 use Rattle.expr.specs.Expr.{Expr}
 use Rattle.expr.specs.Answer.{stepOf}
 use Rattle.expr.specs.declared.Cursor.{Cursor}
+use Rattle.expr.proofs.Steps.{read}
 use Rattle.expr.specs.declared.Step.{Step}
 use Rattle.expr.specs.declared.Step.the-variants.{Read, Wrong, Deep}
-use Rattle.tree.specs.Sorts.{stmt}
+use Rattle.tree.specs.Sorts.{Sort, stmt}
 use Rattle.tree.specs.Tree.{one, Tree, depthT}
 use Rattle.tree.specs.Stands.{Stands}
 use Rattle.tree.specs.Reader.{stmtAt, fieldAt}
-use Rattle.tree.specs.Memo.{Remembers, EndsAt, Recalled, Remembered, Past}
-use Rattle.tree.proofs.Complete.{clear, completes}
+use Rattle.tree.specs.Codes.{sortAt}
+use Rattle.tree.specs.Frames.{fieldStep}
+use Rattle.tree.specs.Memo.{Remembers, EndsAt, Recalled, Remembered, Noted, Keeps, Past}
+use Rattle.tree.proofs.Steps.{is-10, stmt-arm}
+use Rattle.tree.proofs.Sound.{stmt-sound}
+use Rattle.tree.proofs.Complete.{clear, completes, one-tree}
 
 pub recalled-none : {memo : List ℕ} {at : ℕ} → Recalled memo at 0
 recalled-none = record { gives = λ ws ns n R z. absurd (z refl) }
@@ -60,6 +65,42 @@ module _ (memo : List ℕ) (at end i : ℕ) (h : 2 * i + 1 < length memo) where
       right = λ j p q v e S. elim (native.Mathlib.Decide.ℕ-discrete j i) [ yes x ↦ same-slot E j p x q v e S | no x ↦ other-slot R j p x q v e S ];
     };
   }
+
+-- ---- what a reading notes
+
+pub noted-none : {sort at end : ℕ} {memo : List ℕ} → Noted sort memo at end memo
+noted-none = record { gives = λ ws ns n R E. R }
+
+pub noted-one : {sort at end : ℕ} {memo after : List ℕ} → sort ≡ 10 → Remembered memo at end after → Noted sort memo at end after
+noted-one q m = record { gives = λ ws ns n R E. m .gives ws ns n R (E q) }
+
+-- a statement that was read: whatever stands there ends at the answer's place
+pub field-ends : {ws ns : List ℕ} {n left at sort : ℕ} {c : Cursor} → fieldStep ws ns n left (sortAt sort) at ≡ Read c → sort ≡ 10 → EndsAt ws ns n at (c .at)
+unfolding EndsAt clear
+field-ends {ws} {ns} {n} {left} {at} {sort} {c} e q v end S =
+    let f : Read c ≡ stepOf (stmtAt ws ns n left at) = sym e ∙ ap (λ (x : Sort). fieldStep ws ns n left x at) (is-10 q) ∙ sym (stmt-arm ws ns n _ _ at refl) in
+    let g = read (stmtAt ws ns n left at) f refl in
+    let F = stmt-sound ws ns n left at (g .0) (c .at) (g .1) in
+    one-tree ws ns n v (g .0) at end (c .at) refl (S .valid) (F .valid) (S .wrote) (F .wrote) .1
+
+pub keeps-none : {ws ns : List ℕ} {n : ℕ} {memo : List ℕ} → Keeps ws ns n memo memo
+keeps-none = record { gives = λ R. R }
+
+pub keeps-noted : {ws ns : List ℕ} {n sort at end : ℕ} {first before inner after : List ℕ} → Keeps ws ns n first before → Keeps ws ns n before inner → Noted sort inner at end after → (sort ≡ 10 → EndsAt ws ns n at end) → Keeps ws ns n first after
+keeps-noted {ws} {ns} {n} p q m E = record { gives = λ R. m .gives ws ns n (q .gives (p .gives R)) E }
+
+pub keeps-then : {ws ns : List ℕ} {n : ℕ} {first before after : List ℕ} → Keeps ws ns n first before → Keeps ws ns n before after → Keeps ws ns n first after
+keeps-then p q = record { gives = λ R. q .gives (p .gives R) }
+
+-- the memo in the loop: as long as at first, and right if it was
+pub record Memo (ws ns : List ℕ) (n : ℕ) (first memo : List ℕ) : Type 0 where
+  pub same : length memo ≡ length first
+  pub keeps : Keeps ws ns n first memo
+
+pub memo-first : {ws ns : List ℕ} {n : ℕ} {memo : List ℕ} → Memo ws ns n memo memo
+memo-first = record { same = refl; keeps = keeps-none }
+
+-- ---- the end of a statement
 
 -- the end, recalled
 pub past-recalled : {ws ns : List ℕ} {n : ℕ} {memo : List ℕ} {at r : ℕ} → Recalled memo at r → (r ≡ 0 → ⊥) → Past ws ns n memo at r

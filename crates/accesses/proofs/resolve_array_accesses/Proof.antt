@@ -8,13 +8,13 @@ use Rattle.accesses.proofs.resolve_array_accesses.Lts as lts
 use Rattle.accesses.proofs.scan.Reads as scan-reads
 
 scan-requires : tie.Need-scan-requires
-scan-requires c κs = ready-scan (c .before .before .before .before .before .pre)
+scan-requires c κs = (ready-scan (c .before .before .before .before .before .before .pre .0), c .before .before .before .before .before .before .pre .1)
 
 same-length : tie.Need-same-length
 same-length c = search needs
 
 returns : tie.Need-returns
-returns c = program-done (c .before .before .before .before .before .before .before .before .pre) (c .before .before .scan .ensures)
+returns c = program-done (c .before .before .before .before .before .before .before .before .before .pre .0) (c .before .before .scan .ensures)
 
 pub resolve-array-accesses-spec : {M : Type 1} → statement M
 resolve-array-accesses-spec = tie.close (tie.spec scan-requires same-length returns)

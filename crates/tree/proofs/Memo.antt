@@ -1,7 +1,8 @@
 -- What a memo of ends recalls is right, and it stays right with one end more. Assumes nothing.
 use Prim.Native.Nat.{ℕ, _+_, _*_, _<_, _≤_}
-use mathlib.Core.Path.{_≡_, _≢_, refl, sym, ap, subst, _∙_}
+use mathlib.Core.Path.{_≡_, refl, sym, ap, subst, _∙_}
 use mathlib.Core.List.{List}
+use mathlib.Core.Logic.{_≢_}
 use native.Mathlib.Omega.{arith}
 use lib.ListN.{length, getD, set, length-set}
 use lib.Seq.{getD-set-same, getD-set-other}
@@ -34,10 +35,8 @@ remembered-none = record { gives = λ ws ns n R E. R }
 
 -- a slot that is written
 module _ (memo : List ℕ) (at end i : ℕ) (h : 2 * i + 1 < length memo) where
-  after : List ℕ
+  abbrev after : List ℕ
   after = set (set memo (2 * i) (at + 1)) (2 * i + 1) end
-
-  unfolding after
 
   first-word : getD after (2 * i) 0 ≡ at + 1
   first-word = getD-set-other (set memo (2 * i) (at + 1)) (2 * i + 1) (2 * i) end 0 (λ z. omega arith) ∙ getD-set-same memo (2 * i) (at + 1) 0 (omega arith)
@@ -75,9 +74,9 @@ pub noted-one : {sort at end : ℕ} {memo after : List ℕ} → sort ≡ 10 → 
 noted-one q m = record { gives = λ ws ns n R E. m .gives ws ns n R (E q) }
 
 -- a statement that was read: whatever stands there ends at the answer's place
-pub field-ends : {ws ns : List ℕ} {n left at sort : ℕ} {c : Cursor} → fieldStep ws ns n left (sortAt sort) at ≡ Read c → sort ≡ 10 → EndsAt ws ns n at (c .at)
+pub field-ends : (ws ns : List ℕ) (n left at sort : ℕ) {c : Cursor} → fieldStep ws ns n left (sortAt sort) at ≡ Read c → sort ≡ 10 → EndsAt ws ns n at (c .at)
 unfolding EndsAt clear
-field-ends {ws} {ns} {n} {left} {at} {sort} {c} e q v end S =
+field-ends ws ns n left at sort {c} e q v end S =
     let f : Read c ≡ stepOf (stmtAt ws ns n left at) = sym e ∙ ap (λ (x : Sort). fieldStep ws ns n left x at) (is-10 q) ∙ sym (stmt-arm ws ns n _ _ at refl) in
     let g = read (stmtAt ws ns n left at) f refl in
     let F = stmt-sound ws ns n left at (g .0) (c .at) (g .1) in
@@ -108,19 +107,19 @@ unfolding EndsAt
 past-recalled {ws} {ns} {n} h z = record { gives = λ R v end S d. sym (h .gives ws ns n R z v end S) }
 
 -- the end, read
-module _ {ws ns : List ℕ} {n : ℕ} {memo : List ℕ} {at : ℕ} (s : Step) (e : s ≡ stepOf (stmtAt ws ns n 100 at)) where
+module _ {ws ns : List ℕ} {n at : ℕ} (s : Step) (e : s ≡ stepOf (stmtAt ws ns n 100 at)) where
   stmt-read : {v : Tree Expr (one stmt)} {end : ℕ} → Stands ws ns n at v end → depthT v ≤ 100 → s ≡ Read (record { at = end })
   unfolding stepOf clear fieldAt
   stmt-read {v} {end} S d = e ∙ ap stepOf (completes ws ns n v 100 at end refl d (S .valid) (S .wrote))
 
-  pub past-read : (c : Cursor) → s ≡ Read c → Past ws ns n memo at (c .at)
+  pub past-read : {memo : List ℕ} (c : Cursor) → s ≡ Read c → Past ws ns n memo at (c .at)
   past-read c q = record { gives = λ R v end S d. ap Cursor.at (the-cursor (sym q ∙ stmt-read S d)) }
     where
       the-cursor : {c c′ : Cursor} → Read c ≡ Read c′ → c ≡ c′
       the-cursor q = cc
 
-  pub past-wrong : (p : ℕ) → s ≡ Wrong p → Past ws ns n memo at p
+  pub past-wrong : {memo : List ℕ} (p : ℕ) → s ≡ Wrong p → Past ws ns n memo at p
   past-wrong p q = record { gives = λ R v end S d. let r = stmt-read S d in let z : _≡_ {A = ℕ} 0 1 = cc in absurd (omega arith) }
 
-  pub past-deep : (p : ℕ) → s ≡ Deep p → Past ws ns n memo at p
+  pub past-deep : {memo : List ℕ} (p : ℕ) → s ≡ Deep p → Past ws ns n memo at p
   past-deep p q = record { gives = λ R v end S d. let r = stmt-read S d in let z : _≡_ {A = ℕ} 0 1 = cc in absurd (omega arith) }

@@ -41,10 +41,10 @@ pub record Past (ws ns : List ℕ) (n : ℕ) (memo : List ℕ) (at r : ℕ) : Ty
 
 -- ---- a memo of zeros remembers nothing
 
-zero-at : (k i : ℕ) → getD (replicate k 0) i 0 ≡ 0
+zero-at : (k i : ℕ) → _≡_ {A = ℕ} (getD (replicate {A = ℕ} k 0) i 0) 0
 zero-at zero i = refl
 zero-at (suc k) zero = refl
 zero-at (suc k) (suc i) = zero-at k i
 
-pub blank : (ws ns : List ℕ) (n k : ℕ) → Remembers ws ns n (replicate k 0)
+pub blank : (ws ns : List ℕ) (n k : ℕ) → Remembers ws ns n (replicate {A = ℕ} k 0)
 blank ws ns n k = record { right = λ i at e v end S. absurd (omega (arith, e, zero-at k (2 * i))) }

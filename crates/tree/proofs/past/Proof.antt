@@ -1,3 +1,4 @@
+-- `past`: the memo's answer, or the reader's. Assumes nothing.
 use Rattle.tree.proofs.Memo.{past-recalled, past-read, past-wrong, past-deep}
 use borrow.Author.Needs.{needs}
 use Rattle.tree.proofs.past.Statement.{statement}

@@ -1,3 +1,4 @@
+-- `recall`: what a slot tells, of a memo that is long enough. Assumes nothing.
 use Rattle.tree.proofs.Memo.{recalled-none, recalled-slot}
 use borrow.Author.Needs.{needs}
 use Rattle.tree.proofs.recall.Statement.{statement}

@@ -1,3 +1,4 @@
+-- `remember`: two words of a memo that is long enough are written. Assumes nothing.
 use native.Mathlib.Omega.{arith}
 use lib.ListN.{length-set}
 use Rattle.tree.proofs.Memo.{remembered-slot}
@@ -57,7 +58,7 @@ mul-memo-4 c = search needs
 
 -- src/lib.rt:544:5
 slice-write-memo-2 : tie.Need-slice-write-memo-2
-slice-write-memo-2 c = omega (arith, length-set _ _ _)
+slice-write-memo-2 c = simp length-set (omega arith)
 
 -- src/lib.rt:530:1
 same-length : tie.Need-same-length

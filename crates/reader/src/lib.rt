@@ -214,7 +214,7 @@ fn whole(at: usize, words: &[u32], erased: &[u32], names: &[u8]) -> Accepted
 }
 
 // What the reading of a program says of it.
-fn accepted(s: Step, words: &[u32], erased: &[u32], names: &[u8]) -> Accepted
+fn judged(s: Step, words: &[u32], erased: &[u32], names: &[u8]) -> Accepted
     ensures { λ r. ⌜ toldProgram r ≡ stepTold (now (names .entry)) (now (words .entry)) (now (erased .entry)) s ⌝ }
 {
     match s {
@@ -233,7 +233,7 @@ pub fn check_program(words: &[u32], erased: &[u32], names: &[u8]) -> Accepted
     ensures { λ r. ⌜ toldProgram r ≡ verdict (acceptedOf (now (names .entry)) (now (words .entry)) (now (erased .entry))) ⌝ }
 {
     let s = tree::program(words, names, names.len() as u32);
-    accepted(s, words, erased, names)
+    judged(s, words, erased, names)
 }
 
 // The same, with the ends of the program's procedures noted in a memo.
@@ -242,7 +242,7 @@ pub fn check_program_with(words: &[u32], erased: &[u32], names: &[u8], memo: &mu
     ensures { λ r. ⌜ (toldProgram r ≡ verdict (acceptedOf (now (names .entry)) (now (words .entry)) (now (erased .entry)))) × Keeps (now (words .entry)) (now (names .entry)) (length (now (names .entry))) (now (memo .entry)) (now (memo .exit)) ⌝ }
 {
     let s = tree::program_with(words, names, names.len() as u32, memo);
-    accepted(s, words, erased, names)
+    judged(s, words, erased, names)
 }
 
 // Whether a program is within the sizes.

@@ -1,4 +1,4 @@
--- `check_program`: what `accepted` says of the step that `tree::program` gives. Assumes nothing.
+-- `check_program`: what `judged` says of the step that `tree::program` gives. Assumes nothing.
 use mathlib.Core.Path.{_∙_}
 use Rattle.reader.proofs.Laws.{program-told}
 use borrow.Author.Needs.{needs}
@@ -11,11 +11,11 @@ cast-program c = search needs
 program-requires : tie.Need-program-requires
 program-requires c κs = search needs
 
-accepted-requires : tie.Need-accepted-requires
-accepted-requires c κs = search needs
+judged-requires : tie.Need-judged-requires
+judged-requires c κs = search needs
 
 returns : tie.Need-returns
-returns c = c .accepted .ensures ∙ program-told _ _ _ (c .before .program .ensures)
+returns c = c .judged .ensures ∙ program-told _ _ _ (c .before .program .ensures)
 
 pub check-program-spec : {M : Type 1} → statement M
-check-program-spec = tie.close (tie.spec cast-program program-requires accepted-requires returns)
+check-program-spec = tie.close (tie.spec cast-program program-requires judged-requires returns)

@@ -1,10 +1,10 @@
--- `accepted` by the step that reading a program gave: a wrong word, too deep, or what `whole` says. Assumes nothing.
+-- `judged` by the step that reading a program gave: a wrong word, too deep, or what `whole` says. Assumes nothing.
 use mathlib.Core.Path.{sym, ap, _∙_}
 use Rattle.words.specs.Refusals.{refused}
 use Rattle.reader.specs.Program.{told, stepTold}
 use borrow.Author.Needs.{needs}
-use Rattle.reader.proofs.accepted.Statement.{statement}
-use Rattle.reader.proofs.accepted.Tie as tie
+use Rattle.reader.proofs.judged.Statement.{statement}
+use Rattle.reader.proofs.judged.Tie as tie
 
 enum-known-s : tie.Need-enum-known-s
 enum-known-s c = search needs
@@ -30,8 +30,8 @@ returns-3 : tie.Need-returns-3
 unfolding told refused stepTold
 returns-3 c = sym (ap (stepTold (c .before .before .before .before .before .before .args .names .now) (c .before .before .before .before .before .before .args .words .now) (c .before .before .before .before .before .before .args .erased .now)) (c .before .s3 .given .1))
 
-pub accepted-spec : {M : Type 1} → statement M
-accepted-spec =
+pub judged-spec : {M : Type 1} → statement M
+judged-spec =
     tie.close
     (tie.spec
     enum-known-s

@@ -127,8 +127,8 @@ token-shared-slice-read-w t c = token-inside (c .before .before .before .before 
 token-call-requires : (t : ℕ) → token-lts.Need-call-requires (K-token t) (token-at t) token.Post
 token-call-requires t c κs = (c .before .before .before .before .before .before .before .before .pre .1 .0, c .before .match .keys1)
 
-token-add-t17 : (t : ℕ) → token-lts.Need-add-t17 (K-token t) (token-at t) token.Post
-token-add-t17 t c = omega (arith, token-inside (c .before .before .before .before .before .before .before .pre .1 .0))
+token-add-t18 : (t : ℕ) → token-lts.Need-add-t18 (K-token t) (token-at t) token.Post
+token-add-t18 t c = omega (arith, token-inside (c .before .before .before .before .before .before .before .pre .1 .0))
 
 token-two-requires : (t : ℕ) → token-lts.Need-two-requires (K-token t) (token-at t) token.Post
 token-two-requires t c κs = raw-room (c .before .before .before .before .before .before .before .before .pre .1 .0) (omega (arith, c .before .match .keys3)) (omega (arith, c .before .match .keys3))
@@ -157,11 +157,11 @@ token-mul-out t c = omega (arith, token-inside (c .before .before .before .befor
 token-slice-write-out : (t : ℕ) → token-lts.Need-slice-write-out (K-token t) (token-at t) token.Post
 token-slice-write-out t c = token-inside (c .before .before .before .before .before .before .before .pre .1 .0) .1
 
-token-add-t32 : (t : ℕ) → token-lts.Need-add-t32 (K-token t) (token-at t) token.Post
-token-add-t32 t c = omega (arith, token-inside (c .before .before .before .before .before .before .before .pre .1 .0))
+token-add-t33 : (t : ℕ) → token-lts.Need-add-t33 (K-token t) (token-at t) token.Post
+token-add-t33 t c = omega (arith, token-inside (c .before .before .before .before .before .before .before .pre .1 .0))
 
-token-add-t34 : (t : ℕ) → token-lts.Need-add-t34 (K-token t) (token-at t) token.Post
-token-add-t34 t c = omega (arith, token-inside (c .before .before .before .before .before .before .before .pre .1 .0))
+token-add-t35 : (t : ℕ) → token-lts.Need-add-t35 (K-token t) (token-at t) token.Post
+token-add-t35 t c = omega (arith, token-inside (c .before .before .before .before .before .before .before .pre .1 .0))
 
 token-same-length : (t : ℕ) → token-lts.Need-same-length (K-token t) (token-at t) token.Post
 token-same-length t c = c .before .before .call .kept .1 .1 .1 .1 .1 .0
@@ -253,7 +253,7 @@ pub +procedure+scan+token-spec : {M : Type 1} → statement M
     (token-mul-w t)
     (token-shared-slice-read-w t)
     (token-call-requires t)
-    (token-add-t17 t)
+    (token-add-t18 t)
     (token-two-requires t)
     (token-two-requires-2 t)
     (token-three-requires t)
@@ -263,8 +263,8 @@ pub +procedure+scan+token-spec : {M : Type 1} → statement M
     (token-calling-requires t)
     (token-mul-out t)
     (token-slice-write-out t)
-    (token-add-t32 t)
-    (token-add-t34 t)
+    (token-add-t33 t)
+    (token-add-t35 t)
     (token-same-length t)
     (token-returns t)
     (token-returns-2 t)

@@ -188,8 +188,9 @@ fn scan(
     t
 }
 
-// Resolves the program that is all of the words, of strings whose marks are `names`, with a memo of the ends of its procedures; answers how many words that gives.
-pub fn resolve_array_accesses(
+// Resolves the program that is all of the words, of strings whose marks are `names`, with a memo of the ends of its
+// procedures; answers how many words that gives.
+pub fn resolve_with(
     words: &[u32],
     names: &[u8],
     rows: &[u32],
@@ -202,4 +203,19 @@ pub fn resolve_array_accesses(
 {
     let end = words.len();
     scan(words, names, rows, count, 0, out, 0, end, 0, memo)
+}
+
+// The same, where no memo is at hand.
+pub fn resolve_array_accesses(
+    words: &[u32],
+    names: &[u8],
+    rows: &[u32],
+    count: usize,
+    out: &mut [u32],
+) -> usize
+    requires { ⌜ ReadyProgram (now names) (now words) (now rows) count (length (now out)) ⌝ }
+    ensures { λ r. ⌜ ResolvedProgram (now (names .entry)) (now (words .entry)) (now (rows .entry)) (now (out .entry)) (now (out .exit)) count r ⌝ }
+{
+    let memo = [0u32; 1];
+    resolve_with(words, names, rows, count, out, &memo)
 }

@@ -64,7 +64,7 @@ fn run(
     if s.stop != 0 {
         return Answer::Refused(steps::refusal(s.stop));
     }
-    let count = accesses::resolve_array_accesses(words, names, rows, s.rows, out, memo);
+    let count = accesses::resolve_with(words, names, rows, s.rows, out, memo);
     Answer::Done(Given {
         notes: s.notes,
         rows: s.rows,

@@ -138,8 +138,7 @@ fn program(words: &[u32], names: &[u8], rows: &[u32], out: &mut [u32]) -> Resolu
     match ruled(rows, names, true, words.len(), out.len()) {
         Opened::Shut(f) => Resolution::Refused(f),
         Opened::Table(n) => {
-            let memo = [0u32; 1];
-            let count = accesses::resolve_array_accesses(words, names, rows, n, out, &memo);
+            let count = accesses::resolve_array_accesses(words, names, rows, n, out);
             Resolution::Wrote(Reached {
                 end: words.len(),
                 count,

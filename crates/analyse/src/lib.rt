@@ -72,7 +72,33 @@ fn run(
     })
 }
 
-// Where the names' marks are known: 2 or 3, 4, 10, and then the run.
+// Where the names' marks are known: 2 or 3, 4, 10, and then the run, with a memo of the ends of procedures.
+fn noted(
+    words: &[u32],
+    names: &[u8],
+    bytes: &[u8],
+    ends: &[u32],
+    erased: &[u32],
+    notes: &mut [u32],
+    rows: &mut [u32],
+    out: &mut [u32],
+    memo: &mut [u32],
+) -> Answer
+    requires { ⌜ Named (now bytes) (now ends) (now names) × (length (now names) ≤ maxStrings) × Remembers (now words) (now names) (length (now names)) (now memo) ⌝ }
+    ensures { λ r. ⌜ Tells r (now (notes .entry)) (now (rows .entry)) (now (out .entry)) (now (notes .exit)) (now (rows .exit)) (now (out .exit)) (work (length (now (rows .entry))) (length (now (notes .entry))) (length (now (out .entry))) (now (bytes .entry)) (now (ends .entry)) (now (erased .entry)) (now (words .entry))) ⌝ }
+{
+    match reader::check_program_with(words, erased, names, memo) {
+        Accepted::Refused(f) => Answer::Refused(f),
+        Accepted::Fine => {
+            if out.len() < words.len() {
+                return Answer::Refused(Refusal::Output);
+            }
+            run(words, names, bytes, ends, erased, notes, rows, out, memo)
+        }
+    }
+}
+
+// The same, with a memo of its own.
 fn checked(
     words: &[u32],
     names: &[u8],
@@ -87,15 +113,7 @@ fn checked(
     ensures { λ r. ⌜ Tells r (now (notes .entry)) (now (rows .entry)) (now (out .entry)) (now (notes .exit)) (now (rows .exit)) (now (out .exit)) (work (length (now (rows .entry))) (length (now (notes .entry))) (length (now (out .entry))) (now (bytes .entry)) (now (ends .entry)) (now (erased .entry)) (now (words .entry))) ⌝ }
 {
     let mut memo = [0u32; 128];
-    match reader::check_program_with(words, erased, names, &mut memo) {
-        Accepted::Refused(f) => Answer::Refused(f),
-        Accepted::Fine => {
-            if out.len() < words.len() {
-                return Answer::Refused(Refusal::Output);
-            }
-            run(words, names, bytes, ends, erased, notes, rows, out, &memo)
-        }
-    }
+    noted(words, names, bytes, ends, erased, notes, rows, out, &mut memo)
 }
 
 // A refusal leaves the buffers as they came, but for 7, 8 and 9, which leave rows and diagnostics zero.

@@ -9,17 +9,12 @@ use lib.Seq.{sets}
 use Rattle.words.specs.Word.{kindOf}
 use Rattle.words.specs.Sizes.{maxDepth}
 use Rattle.expr.specs.Expr.{Expr}
-use Rattle.expr.specs.Got.{got}
-use Rattle.expr.specs.Answer.{stepOf}
-use Rattle.expr.specs.declared.Cursor.{Cursor}
-use Rattle.expr.specs.declared.Step.{Step}
-use Rattle.expr.specs.declared.Step.the-variants.{Read, Wrong, Deep}
-use Rattle.tree.specs.Sorts.{stmt, sorts}
+use Rattle.tree.specs.Sorts.{stmt, body, sorts}
 use Rattle.tree.specs.Tree.{one, row, Tree, Stmt, depthT, wordsT}
-use Rattle.tree.specs.Stands.{SomeTree}
-use Rattle.tree.specs.Reader.{fieldAt, stmtAt}
-use Rattle.tree.proofs.Complete.{completes, one-tree, clear}
-use Rattle.plans.specs.Pieces.{written}
+use Rattle.tree.specs.Stands.{Stands, SomeTree}
+use Rattle.tree.specs.Memo.{Remembers, Past}
+use Rattle.tree.proofs.Complete.{one-tree, clear}
+use Rattle.plans.specs.Pieces.{stmtPiece, written}
 use Rattle.plans.specs.Plans.{InsideAt}
 use Rattle.plans.specs.Items.{Item, treeItem, StandsAll, quietI, writtenI, writtenIs}
 use Rattle.plans.proofs.Front.{StmtAt, at-stmt, at-end, items-tree, items-inside, quiet-kind, quiet-body}
@@ -38,29 +33,9 @@ use Rattle.accesses.proofs.Steps.{room-at}
 
 -- ---- the place past a statement
 
--- the reader's answer is that place
-pub past-read : {ns ws : List ℕ} {at : ℕ} {s : Step} {c : Cursor} → s ≡ stepOf (stmtAt ws ns (length ns) maxDepth at) → s ≡ Read c → PastStmt ns ws at (c .at)
-unfolding stepOf fieldAt clear
-past-read {ns} {ws} {at} e q = record {
-  gives = λ v end t h.
-      let r : stmtAt ws ns (length ns) maxDepth at ≡ got v end = completes ws ns (length ns) v maxDepth at end refl h (t .valid) (t .wrote) in
-      cc;
-}
-
--- any other answer is of no statement
-past-none : {ns ws : List ℕ} {at p : ℕ} {s : Step} → s ≡ stepOf (stmtAt ws ns (length ns) maxDepth at) → ((c : Cursor) → s ≡ Read c → ⊥) → PastStmt ns ws at p
-unfolding stepOf fieldAt clear
-past-none {ns} {ws} {at} e f = record {
-  gives = λ v end t h.
-      let r : stmtAt ws ns (length ns) maxDepth at ≡ got v end = completes ws ns (length ns) v maxDepth at end refl h (t .valid) (t .wrote) in
-      absurd (f (record { at = end }) (cc));
-}
-
-pub past-wrong : {ns ws : List ℕ} {at p q : ℕ} {s : Step} → s ≡ stepOf (stmtAt ws ns (length ns) maxDepth at) → s ≡ Wrong q → PastStmt ns ws at p
-past-wrong e w = past-none e (λ c x. let z : _≡_ {A = ℕ} 0 1 = cc in omega arith)
-
-pub past-deep : {ns ws : List ℕ} {at p q : ℕ} {s : Step} → s ≡ stepOf (stmtAt ws ns (length ns) maxDepth at) → s ≡ Deep q → PastStmt ns ws at p
-past-deep e w = past-none e (λ c x. let z : _≡_ {A = ℕ} 0 1 = cc in omega arith)
+-- the reader's answer, or the memo's, is that place
+pub past-stmt : {ns ws memo : List ℕ} {at r : ℕ} → Past ws ns (length ns) memo at r → Remembers ws ns (length ns) memo → PastStmt ns ws at r
+past-stmt p R = record { gives = λ v e t h. p .gives R v e t h }
 
 -- ---- a SUB or FUNCTION
 

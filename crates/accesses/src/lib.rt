@@ -1,6 +1,4 @@
 // Resolves statements of all kinds in one scan of their words, into a lent output.
-use expr::Cursor;
-use expr::Step;
 use resolver::Spot;
 ghost use mathlib.Core.Path.{_≡_};
 ghost use mathlib.Core.List.{List, [], _∷_};
@@ -9,20 +7,15 @@ ghost use lib.ListN.{length, getD};
 ghost use lib.Seq.{sets};
 ghost use Rattle.words.specs.Word.{kindOf};
 ghost use Rattle.words.specs.Sizes.{maxStrings};
+ghost use Rattle.tree.specs.Memo.{Remembers};
 ghost use Rattle.accesses.specs.Post.{ReadyToken, DoneToken, ReadyScan, DoneScan, PastStmt, ReadyProgram, ResolvedProgram};
 
 // The place past the statement at `at`.
-fn past(words: &[u32], names: &[u8], at: usize) -> usize
-    requires { ⌜ length (now names) ≤ maxStrings ⌝ }
+fn past(words: &[u32], names: &[u8], at: usize, memo: &[u32]) -> usize
+    requires { ⌜ (length (now names) ≤ maxStrings) × Remembers (now words) (now names) (length (now names)) (now memo) ⌝ }
     ensures { λ r. ⌜ PastStmt (now (names .entry)) (now (words .entry)) at r ⌝ }
 {
-    let n = names.len() as u32;
-    let s = tree::stmt(Cursor { at }, words, names, n, 100);
-    match s {
-        Step::Read(c) => c.at,
-        Step::Wrong(p) => p,
-        Step::Deep(p) => p,
-    }
+    tree::past(words, names, names.len() as u32, memo, at)
 }
 
 // Copies two words.
@@ -104,14 +97,26 @@ fn procedure(
     out: &mut [u32],
     at: usize,
     to: usize,
+    memo: &[u32],
 ) -> Spot
-    requires { ⌜ ReadyToken (now names) (now words) (now rows) count scope at to (length (now out)) × (84 ≤ kindOf (getD (now words) at 0)) × (kindOf (getD (now words) at 0) < 86) ⌝ }
+    requires { ⌜ ReadyToken (now names) (now words) (now rows) count scope at to (length (now out)) × (84 ≤ kindOf (getD (now words) at 0)) × (kindOf (getD (now words) at 0) < 86) × Remembers (now words) (now names) (length (now names)) (now memo) ⌝ }
     ensures { λ r. ⌜ DoneToken (now (names .entry)) (now (words .entry)) (now (rows .entry)) (now (out .entry)) (now (out .exit)) count scope at to (r .at) (r .to) ⌝ }
 {
     out[to] = words[at];
-    let end = past(words, names, at);
+    let end = past(words, names, at, memo);
     let inner = plans::inside(words, at, scope);
-    let t = scan(words, names, rows, count, inner, out, at + 1, end, to + 1);
+    let t = scan(
+        words,
+        names,
+        rows,
+        count,
+        inner,
+        out,
+        at + 1,
+        end,
+        to + 1,
+        memo,
+    );
     Spot { at: end, to: t }
 }
 
@@ -125,8 +130,9 @@ fn token(
     out: &mut [u32],
     at: usize,
     to: usize,
+    memo: &[u32],
 ) -> Spot
-    requires { ⌜ ReadyToken (now names) (now words) (now rows) count scope at to (length (now out)) ⌝ }
+    requires { ⌜ ReadyToken (now names) (now words) (now rows) count scope at to (length (now out)) × Remembers (now words) (now names) (length (now names)) (now memo) ⌝ }
     ensures { λ r. ⌜ DoneToken (now (names .entry)) (now (words .entry)) (now (rows .entry)) (now (out .entry)) (now (out .exit)) count scope at to (r .at) (r .to) ⌝ }
 {
     let w = words[at];
@@ -137,8 +143,8 @@ fn token(
         25 => two(words, out, at, to),
         26 => three(words, out, at, to, w),
         27 => three(words, out, at, to, w),
-        84 => procedure(words, names, rows, count, scope, out, at, to),
-        85 => procedure(words, names, rows, count, scope, out, at, to),
+        84 => procedure(words, names, rows, count, scope, out, at, to, memo),
+        85 => procedure(words, names, rows, count, scope, out, at, to, memo),
         86 => calling(words, names, rows, count, scope, out, at, to),
         _ => {
             out[to] = w;
@@ -161,21 +167,39 @@ fn scan(
     from: usize,
     end: usize,
     to: usize,
+    memo: &[u32],
 ) -> usize
-    requires { ⌜ ReadyScan (now names) (now words) (now rows) count scope from end to (length (now out)) ⌝ }
+    requires { ⌜ ReadyScan (now names) (now words) (now rows) count scope from end to (length (now out)) × Remembers (now words) (now names) (length (now names)) (now memo) ⌝ }
     ensures { λ r. ⌜ DoneScan (now (names .entry)) (now (words .entry)) (now (rows .entry)) (now (out .entry)) (now (out .exit)) count scope from end to r ⌝ }
 {
     let mut a = from;
     let mut t = to;
     while a < end {
-        let m = token(words, names, rows, count, scope, out, a, t);
+        let m = token(words, names, rows, count, scope, out, a, t, memo);
         a = m.at;
         t = m.to;
     }
     t
 }
 
-// Resolves the program that is all of the words, of strings whose marks are `names`; answers how many words that gives.
+// Resolves the program that is all of the words, of strings whose marks are `names`, with a memo of the ends of its
+// procedures; answers how many words that gives.
+pub fn resolve_with(
+    words: &[u32],
+    names: &[u8],
+    rows: &[u32],
+    count: usize,
+    out: &mut [u32],
+    memo: &[u32],
+) -> usize
+    requires { ⌜ ReadyProgram (now names) (now words) (now rows) count (length (now out)) × Remembers (now words) (now names) (length (now names)) (now memo) ⌝ }
+    ensures { λ r. ⌜ ResolvedProgram (now (names .entry)) (now (words .entry)) (now (rows .entry)) (now (out .entry)) (now (out .exit)) count r ⌝ }
+{
+    let end = words.len();
+    scan(words, names, rows, count, 0, out, 0, end, 0, memo)
+}
+
+// The same, where no memo is at hand.
 pub fn resolve_array_accesses(
     words: &[u32],
     names: &[u8],
@@ -186,6 +210,6 @@ pub fn resolve_array_accesses(
     requires { ⌜ ReadyProgram (now names) (now words) (now rows) count (length (now out)) ⌝ }
     ensures { λ r. ⌜ ResolvedProgram (now (names .entry)) (now (words .entry)) (now (rows .entry)) (now (out .entry)) (now (out .exit)) count r ⌝ }
 {
-    let end = words.len();
-    scan(words, names, rows, count, 0, out, 0, end, 0)
+    let memo = [0u32; 1];
+    resolve_with(words, names, rows, count, out, &memo)
 }

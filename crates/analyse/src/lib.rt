@@ -9,6 +9,7 @@ ghost use Prim.Native.Nat.{_≤_};
 ghost use lib.ListN.{length};
 ghost use Rattle.words.specs.Sizes.{maxStrings};
 ghost use Rattle.strings.specs.Table.{sound};
+ghost use Rattle.tree.specs.Memo.{Remembers};
 ghost use Rattle.collect.specs.Code.{Named};
 ghost use Rattle.collect.specs.Passed.{Passed};
 ghost use Rattle.analyse.specs.Analyse.{Tells, Analyses, work};
@@ -35,12 +36,13 @@ fn tables(
     erased: &[u32],
     rows: &mut [u32],
     notes: &mut [u32],
+    memo: &[u32],
 ) -> Counts
-    requires { ⌜ Passed (now bytes) (now ends) (now erased) (now words) (now names) ⌝ }
+    requires { ⌜ Passed (now bytes) (now ends) (now erased) (now words) (now names) × Remembers (now words) (now names) (length (now names)) (now memo) ⌝ }
     ensures { λ r. ⌜ Tabled (now (bytes .entry)) (now (ends .entry)) (now (erased .entry)) (now (words .entry)) r (now (rows .entry)) (now (notes .entry)) (now (rows .exit)) (now (notes .exit)) ⌝ }
 {
     let s = steps::begin(rows, notes);
-    let m = collecting::statements(words, names, bytes, ends, erased, rows, notes, s, 0, 0);
+    let m = collecting::statements(words, names, bytes, ends, erased, rows, notes, s, 0, 0, memo);
     let c = m.counts;
     let d = collisions::collisions(bytes, ends, rows, notes, c);
     steps::finish(rows, notes, d)
@@ -56,15 +58,16 @@ fn run(
     notes: &mut [u32],
     rows: &mut [u32],
     out: &mut [u32],
+    memo: &[u32],
 ) -> Answer
-    requires { ⌜ Passed (now bytes) (now ends) (now erased) (now words) (now names) × (length (now words) ≤ length (now out)) ⌝ }
+    requires { ⌜ Passed (now bytes) (now ends) (now erased) (now words) (now names) × (length (now words) ≤ length (now out)) × Remembers (now words) (now names) (length (now names)) (now memo) ⌝ }
     ensures { λ r. ⌜ Tells r (now (notes .entry)) (now (rows .entry)) (now (out .entry)) (now (notes .exit)) (now (rows .exit)) (now (out .exit)) (work (length (now (rows .entry))) (length (now (notes .entry))) (length (now (out .entry))) (now (bytes .entry)) (now (ends .entry)) (now (erased .entry)) (now (words .entry))) ⌝ }
 {
-    let s = tables(words, names, bytes, ends, erased, rows, notes);
+    let s = tables(words, names, bytes, ends, erased, rows, notes, memo);
     if s.stop != 0 {
         return Answer::Refused(steps::refusal(s.stop));
     }
-    let count = accesses::resolve_array_accesses(words, names, rows, s.rows, out);
+    let count = accesses::resolve_with(words, names, rows, s.rows, out, memo);
     Answer::Done(Given {
         notes: s.notes,
         rows: s.rows,
@@ -72,7 +75,33 @@ fn run(
     })
 }
 
-// Where the names' marks are known: 2 or 3, 4, 10, and then the run.
+// Where the names' marks are known: 2 or 3, 4, 10, and then the run, with a memo of the ends of procedures.
+fn noted(
+    words: &[u32],
+    names: &[u8],
+    bytes: &[u8],
+    ends: &[u32],
+    erased: &[u32],
+    notes: &mut [u32],
+    rows: &mut [u32],
+    out: &mut [u32],
+    memo: &mut [u32],
+) -> Answer
+    requires { ⌜ Named (now bytes) (now ends) (now names) × (length (now names) ≤ maxStrings) × Remembers (now words) (now names) (length (now names)) (now memo) ⌝ }
+    ensures { λ r. ⌜ Tells r (now (notes .entry)) (now (rows .entry)) (now (out .entry)) (now (notes .exit)) (now (rows .exit)) (now (out .exit)) (work (length (now (rows .entry))) (length (now (notes .entry))) (length (now (out .entry))) (now (bytes .entry)) (now (ends .entry)) (now (erased .entry)) (now (words .entry))) ⌝ }
+{
+    match reader::check_program_with(words, erased, names, memo) {
+        Accepted::Refused(f) => Answer::Refused(f),
+        Accepted::Fine => {
+            if out.len() < words.len() {
+                return Answer::Refused(Refusal::Output);
+            }
+            run(words, names, bytes, ends, erased, notes, rows, out, memo)
+        }
+    }
+}
+
+// The same, with a memo of its own.
 fn checked(
     words: &[u32],
     names: &[u8],
@@ -86,15 +115,8 @@ fn checked(
     requires { ⌜ Named (now bytes) (now ends) (now names) × (length (now names) ≤ maxStrings) ⌝ }
     ensures { λ r. ⌜ Tells r (now (notes .entry)) (now (rows .entry)) (now (out .entry)) (now (notes .exit)) (now (rows .exit)) (now (out .exit)) (work (length (now (rows .entry))) (length (now (notes .entry))) (length (now (out .entry))) (now (bytes .entry)) (now (ends .entry)) (now (erased .entry)) (now (words .entry))) ⌝ }
 {
-    match reader::check_program(words, erased, names) {
-        Accepted::Refused(f) => Answer::Refused(f),
-        Accepted::Fine => {
-            if out.len() < words.len() {
-                return Answer::Refused(Refusal::Output);
-            }
-            run(words, names, bytes, ends, erased, notes, rows, out)
-        }
-    }
+    let mut memo = [0u32; 128];
+    noted(words, names, bytes, ends, erased, notes, rows, out, &mut memo)
 }
 
 // Room for the marks of all strings that a table may have.

@@ -7,15 +7,11 @@ use mathlib.Core.Option.{some}
 use lib.ListN.{length, getD}
 use Rattle.words.specs.Word.{kindOf}
 use Rattle.expr.specs.Expr.{Expr}
-use Rattle.expr.specs.Answer.{stepOf}
-use Rattle.expr.specs.declared.Cursor.{Cursor}
-use Rattle.expr.specs.declared.Step.{Step as ReadStep}
-use Rattle.expr.specs.declared.Step.the-variants.{Read, Wrong, Deep}
 use Rattle.tree.specs.Sorts.{stmt, body, Kind, sorts, numberOf}
 use Rattle.tree.specs.Tree.{Shape, one, row, Tree, word, value, Stmt, list, part, this, that, done, cons, none, more, depthT, Right, over}
 use Rattle.tree.specs.Stands.{Stands, SomeTree}
-use Rattle.tree.specs.Reader.{fieldAt, stmtAt as readStmt}
-use Rattle.tree.proofs.Complete.{clear, clearR, completes, one-tree}
+use Rattle.tree.specs.Memo.{Remembers}
+use Rattle.tree.proofs.Complete.{clear, clearR, one-tree}
 use Rattle.views.specs.View.{view, inner, walk}
 use Rattle.consteval.specs.EvalLaws.{Words32}
 use Rattle.steps.specs.State.{State, Step, _⨾_, nothing, each}
@@ -115,23 +111,6 @@ within-seen {ns = ns} {n} {end = end} {scope} {k = k} {line} {f} I h = I .gives 
 -- where the statement there ends
 abbrev pub Ends : (ws ns : List ℕ) (n at e : ℕ) → Type 0
 Ends ws ns n at e = (v : Tree Expr (one stmt)) (end : ℕ) → Stands ws ns n at v end → depthT v ≤ 100 → e ≡ end
-
-module _ {ws ns : List ℕ} {n at : ℕ} (s : ReadStep) (e : s ≡ stepOf (readStmt ws ns n 100 at)) where
-  stmt-read : {v : Tree Expr (one stmt)} {end : ℕ} → Stands ws ns n at v end → depthT v ≤ 100 → s ≡ Read (record { at = end })
-  unfolding stepOf clear fieldAt
-  stmt-read {v} {end} S d = e ∙ ap stepOf (completes ws ns n v 100 at end refl d (S .valid) (S .wrote))
-
-  pub read-past : (c : Cursor) → s ≡ Read c → Ends ws ns n at (c .at)
-  read-past c q v end S d = ap Cursor.at (the-cursor (sym q ∙ stmt-read S d))
-    where
-      the-cursor : {c c′ : Cursor} → Read c ≡ Read c′ → c ≡ c′
-      the-cursor q = cc
-
-  pub read-wrong : (p : ℕ) → s ≡ Wrong p → Ends ws ns n at p
-  read-wrong p q v end S d = let r = stmt-read S d in let z : _≡_ {A = ℕ} 0 1 = cc in absurd (omega arith)
-
-  pub read-deep : (p : ℕ) → s ≡ Deep p → Ends ws ns n at p
-  read-deep p q v end S d = let r = stmt-read S d in let z : _≡_ {A = ℕ} 0 1 = cc in absurd (omega arith)
 
 -- its fields alone, as items
 body-items : {ws ns : List ℕ} {n at : ℕ} {xs : List Item} {to : ℕ} (M : StmtAt ws ns n 100 at xs to) → StandsAll ws ns n 100 (at + 1) (treeItem (M .fields) ∷ []) (M .mid)
@@ -308,6 +287,10 @@ module _ {ws ns bytes ends erased : List ℕ} {scope from at to : ℕ} {s t : Co
 -- ---- a whole list of statements
 
 module _ {ws ns bytes ends : List ℕ} {scope at : ℕ} {s : Counts} {b d : List ℕ} (R : ReadyWhole ws ns bytes ends scope at s b d) where
+  -- the memo, by the strings' ends
+  pub memo-ends : {memo : List ℕ} → Remembers ws ns (length ns) memo → Remembers ws ns (length ends) memo
+  memo-ends {memo} m = subst (λ (k : ℕ). Remembers ws ns k memo) (R .ready .around .counted) m
+
   pub whole-scanning : Scanning ws ns bytes ends scope at (length ws) s b d
   whole-scanning = record {
     items = treeItem (R .ready .tree .tree) ∷ [];

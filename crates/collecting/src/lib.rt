@@ -1,17 +1,14 @@
 // The scan of collecting: each statement, then its bodies, those of a procedure in its own scope. Every word tells by its kind what it is, so one pass over the words meets
 // every statement's head in that order.
-use expr::Cursor;
-use expr::Step;
 use steps::Counts;
 ghost use mathlib.Core.Path.{_≡_};
-ghost use Prim.Native.Nat.{ℕ, _≤_};
+ghost use Prim.Native.Nat.{ℕ};
 ghost use mathlib.Core.List.{List};
 ghost use lib.ListN.{length, getD};
 ghost use Rattle.words.specs.Word.{kindOf};
-ghost use Rattle.expr.specs.Expr.{Expr};
 ghost use Rattle.tree.specs.Sorts.{stmt as stmtSort};
-ghost use Rattle.tree.specs.Tree.{one, Tree, depthT};
-ghost use Rattle.tree.specs.Stands.{Stands};
+ghost use Rattle.tree.specs.Tree.{one};
+ghost use Rattle.tree.specs.Memo.{Remembers};
 ghost use Rattle.collecting.specs.Walk.{Ready, Alone, ReadyProcedure, ReadyWhole, Scanning, Scanned, Stated, Collects};
 
 // The counts, and the place past what was walked.
@@ -72,18 +69,6 @@ fn procedure(
     procedures::function(words, names, bytes, ends, b, d, s, scope, at, end)
 }
 
-// The place past the statement at `at`: it stands there, so that reading never fails.
-fn past(words: &[u32], names: &[u8], n: u32, at: usize) -> usize
-    ensures { λ r. ⌜ ((v : Tree Expr (one stmtSort)) (end : ℕ) → Stands (now (words .entry)) (now (names .entry)) n at v end → depthT v ≤ 100 → r ≡ end) ⌝ }
-{
-    let s = tree::stmt(Cursor { at: at }, words, names, n, 100);
-    match s {
-        Step::Read(c) => c.at,
-        Step::Wrong(p) => p,
-        Step::Deep(p) => p,
-    }
-}
-
 // All statements of the words from one place to another, by one scan: a literal's raw words are passed over, and a procedure's body is scanned in its own scope.
 fn scan(
     words: &[u32],
@@ -97,8 +82,9 @@ fn scan(
     scope: u32,
     from: usize,
     to: usize,
+    memo: &[u32],
 ) -> Counts
-    requires { ⌜ Scanning (now words) (now names) (now bytes) (now ends) scope from to s (now b) (now d) ⌝ }
+    requires { ⌜ Scanning (now words) (now names) (now bytes) (now ends) scope from to s (now b) (now d) × Remembers (now words) (now names) (length (now ends)) (now memo) ⌝ }
     ensures { λ r. ⌜ Scanned (now (words .entry)) (now (names .entry)) (now (bytes .entry)) (now (ends .entry)) (now (erased .entry)) scope from to s r (now (b .entry)) (now (d .entry)) (now (b .exit)) (now (d .exit)) ⌝ }
 {
     let mut t = s;
@@ -108,10 +94,10 @@ fn scan(
             24 | 25 => at += 2,
             26 | 27 => at += 3,
             84 | 85 => {
-                let e = past(words, names, ends.len() as u32, at);
+                let e = tree::past(words, names, ends.len() as u32, memo, at);
                 let inner = plans::inside(words, at, scope);
                 t = procedure(words, names, bytes, ends, b, d, t, scope, at, e);
-                t = scan(words, names, bytes, ends, erased, b, d, t, inner, at + 1, e);
+                t = scan(words, names, bytes, ends, erased, b, d, t, inner, at + 1, e, memo);
                 at = e;
             }
             64..=93 => {
@@ -136,11 +122,12 @@ pub fn statements(
     s: Counts,
     scope: u32,
     at: usize,
+    memo: &[u32],
 ) -> Moved
-    requires { ⌜ ReadyWhole (now words) (now names) (now bytes) (now ends) scope at s (now b) (now d) ⌝ }
+    requires { ⌜ ReadyWhole (now words) (now names) (now bytes) (now ends) scope at s (now b) (now d) × Remembers (now words) (now names) (length (now names)) (now memo) ⌝ }
     ensures { λ r. ⌜ Collects (now (words .entry)) (now (names .entry)) (now (bytes .entry)) (now (ends .entry)) (now (erased .entry)) scope at (r .next) s (r .counts) (now (b .entry)) (now (d .entry)) (now (b .exit)) (now (d .exit)) ⌝ }
 {
     let n = words.len();
-    let c = scan(words, names, bytes, ends, erased, b, d, s, scope, at, n);
+    let c = scan(words, names, bytes, ends, erased, b, d, s, scope, at, n, memo);
     Moved { counts: c, next: n }
 }

@@ -7,6 +7,7 @@ use words::Refusal;
 ghost use Prim.Native.Nat.{_≤_};
 ghost use lib.ListN.{length};
 ghost use Rattle.words.specs.Sizes.{maxStrings};
+ghost use Rattle.tree.specs.Memo.{Remembers};
 ghost use Rattle.collect.specs.Code.{Named};
 ghost use Rattle.collect.specs.Passed.{Passed};
 ghost use Rattle.collection.specs.Entry.{Tabled, Tells, Entered, work};
@@ -31,17 +32,46 @@ fn tables(
     erased: &[u32],
     b: &mut [u32],
     d: &mut [u32],
+    memo: &[u32],
 ) -> Counts
-    requires { ⌜ Passed (now bytes) (now ends) (now erased) (now words) (now names) ⌝ }
+    requires { ⌜ Passed (now bytes) (now ends) (now erased) (now words) (now names) × Remembers (now words) (now names) (length (now names)) (now memo) ⌝ }
     ensures { λ r. ⌜ Tabled (now (bytes .entry)) (now (ends .entry)) (now (erased .entry)) (now (words .entry)) (now (names .entry)) r (now (b .entry)) (now (d .entry)) (now (b .exit)) (now (d .exit)) ⌝ }
 {
     let s = steps::begin(b, d);
-    let m = collecting::statements(words, names, bytes, ends, erased, b, d, s, 0, 0);
+    let m = collecting::statements(words, names, bytes, ends, erased, b, d, s, 0, 0, memo);
     let t = m.counts;
     steps::finish(b, d, t)
 }
 
-// Where the names' marks are known: 2 or 3, 4, and then the run.
+// Where the names' marks are known: 2 or 3, 4, and then the run, with a memo of the ends of procedures.
+fn noted(
+    words: &[u32],
+    names: &[u8],
+    bytes: &[u8],
+    ends: &[u32],
+    erased: &[u32],
+    b: &mut [u32],
+    d: &mut [u32],
+    memo: &mut [u32],
+) -> Answer
+    requires { ⌜ Named (now bytes) (now ends) (now names) × (length (now names) ≤ maxStrings) × Remembers (now words) (now names) (length (now names)) (now memo) ⌝ }
+    ensures { λ r. ⌜ Tells r (now (b .entry)) (now (d .entry)) (now (b .exit)) (now (d .exit)) (work (length (now (b .entry))) (length (now (d .entry))) (now (bytes .entry)) (now (ends .entry)) (now (erased .entry)) (now (words .entry))) ⌝ }
+{
+    let a = reader::check_program_with(words, erased, names, memo);
+    if let Accepted::Refused(f) = a {
+        return Answer::Refused(f);
+    }
+    let s = tables(words, names, bytes, ends, erased, b, d, memo);
+    if s.stop != 0 {
+        return Answer::Refused(steps::refusal(s.stop));
+    }
+    Answer::Done(Sizes {
+        rows: s.rows,
+        notes: s.notes,
+    })
+}
+
+// The same, with a memo of its own.
 fn checked(
     words: &[u32],
     names: &[u8],
@@ -54,18 +84,8 @@ fn checked(
     requires { ⌜ Named (now bytes) (now ends) (now names) × (length (now names) ≤ maxStrings) ⌝ }
     ensures { λ r. ⌜ Tells r (now (b .entry)) (now (d .entry)) (now (b .exit)) (now (d .exit)) (work (length (now (b .entry))) (length (now (d .entry))) (now (bytes .entry)) (now (ends .entry)) (now (erased .entry)) (now (words .entry))) ⌝ }
 {
-    let a = reader::check_program(words, erased, names);
-    if let Accepted::Refused(f) = a {
-        return Answer::Refused(f);
-    }
-    let s = tables(words, names, bytes, ends, erased, b, d);
-    if s.stop != 0 {
-        return Answer::Refused(steps::refusal(s.stop));
-    }
-    Answer::Done(Sizes {
-        rows: s.rows,
-        notes: s.notes,
-    })
+    let mut memo = [0u32; 128];
+    noted(words, names, bytes, ends, erased, b, d, &mut memo)
 }
 
 // Collects a program's rows and diagnostics. 5, 1, 2, 3 and 4 leave the buffers as they came; 7, 8 and 9 leave them zero.

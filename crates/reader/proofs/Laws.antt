@@ -21,7 +21,7 @@ use Rattle.expr.specs.declared.Step.the-variants.{Read, Wrong, Deep}
 use Rattle.tree.specs.Reader.{programAt}
 use Rattle.reader.specs.Sized.{sizedStrings, sizedTree, sizedProgram}
 use Rattle.reader.specs.Reading.{nodeOf, nodeOfStep}
-use Rattle.reader.specs.Program.{wholeOf, erasedFrom, programOf, acceptedOf, verdict, endOf}
+use Rattle.reader.specs.Program.{wholeOf, erasedFrom, programOf, acceptedOf, verdict, endOf, stepTold}
 
 pub node-is : {A : Type 0} (ws : List ℕ) (at : ℕ) (g : Got A) {s : Step} → s ≡ stepOf g → nodeOfStep ws at s ≡ nodeOf ws at g
 unfolding nodeOfStep nodeOf stepOf
@@ -69,12 +69,6 @@ pub few-marks : {bytes ends marks : List ℕ} → Names bytes ends marks → len
 few-marks n p = omega (arith, as-many n p)
 
 -- ---- whole programs
-
-unfoldable pub stepTold : List ℕ → List ℕ → List ℕ → Step → Told (Unit {0})
-unfolding endOf
-stepTold ns ws erased (Read c) = endOf ns ws erased (c .at)
-stepTold ns ws erased (Wrong p) = stops 2 p
-stepTold ns ws erased (Deep p) = stops 3 p
 
 module _ (ns ws erased : List ℕ) where
   pub end-over : (at : ℕ) → (at ≡ length ws → ⊥) → stops 2 at ≡ endOf ns ws erased at

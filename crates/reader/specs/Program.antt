@@ -12,6 +12,8 @@ use Rattle.expr.specs.Got.{Got, got, wrong, deep}
 use Rattle.tree.specs.Sorts.{stmt, many, nil, _&_}
 use Rattle.tree.specs.Tree.{one, Tree}
 use Rattle.tree.specs.Reader.{programAt}
+use Rattle.expr.specs.declared.Step.{Step}
+use Rattle.expr.specs.declared.Step.the-variants.{Read, Wrong, Deep}
 use Rattle.reader.specs.declared.Accepted.{Accepted}
 use Rattle.reader.specs.declared.Accepted.the-variants.{Fine, Refused}
 
@@ -55,3 +57,10 @@ told (Refused r) = refused r
 unfoldable pub endOf : List ℕ → List ℕ → List ℕ → ℕ → Told (Unit {0})
 unfolding erasedFrom
 endOf ns ws erased at = pick (eqb at (length ws)) (unless (erasedFrom ns 0 erased) 4 0 (gives tt)) (stops 2 at)
+
+-- and where reading stopped
+unfoldable pub stepTold : List ℕ → List ℕ → List ℕ → Step → Told (Unit {0})
+unfolding endOf
+stepTold ns ws erased (Read c) = endOf ns ws erased (c .at)
+stepTold ns ws erased (Wrong p) = stops 2 p
+stepTold ns ws erased (Deep p) = stops 3 p

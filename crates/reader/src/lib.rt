@@ -8,11 +8,12 @@ ghost use mathlib.Core.List.{List};
 ghost use Prim.Native.Nat.{ℕ, _+_, _≤_};
 ghost use lib.ListN.{length, getD, drop};
 ghost use Rattle.words.specs.Sizes.{maxStrings};
+ghost use Rattle.tree.specs.Memo.{Keeps};
 ghost use Rattle.strings.specs.Table.{namesOf};
 ghost use Rattle.strings.specs.Open.{Answers};
 ghost use Rattle.reader.specs.Sized.{sizedTree as sizedTreeOf, sizedProgram as sizedProgramOf};
 ghost use Rattle.reader.specs.Reading.{nodeOfStep, statementOf, expressionOf, told, movedOf};
-ghost use Rattle.reader.specs.Program.{erasedFrom, acceptedOf, verdict, endOf, told as toldProgram};
+ghost use Rattle.reader.specs.Program.{erasedFrom, acceptedOf, verdict, endOf, stepTold, told as toldProgram};
 
 // A node: its head word, its place, and the place past it.
 pub struct Node {
@@ -212,12 +213,10 @@ fn whole(at: usize, words: &[u32], erased: &[u32], names: &[u8]) -> Accepted
     Accepted::Refused(Refusal::Erased)
 }
 
-// A program's words and erased names, where the names' marks are known: what all later entries ask first.
-pub fn check_program(words: &[u32], erased: &[u32], names: &[u8]) -> Accepted
-    requires { ⌜ length (now names) ≤ maxStrings ⌝ }
-    ensures { λ r. ⌜ toldProgram r ≡ verdict (acceptedOf (now (names .entry)) (now (words .entry)) (now (erased .entry))) ⌝ }
+// What the reading of a program says of it.
+fn judged(s: Step, words: &[u32], erased: &[u32], names: &[u8]) -> Accepted
+    ensures { λ r. ⌜ toldProgram r ≡ stepTold (now (names .entry)) (now (words .entry)) (now (erased .entry)) s ⌝ }
 {
-    let s = tree::program(words, names, names.len() as u32);
     match s {
         Step::Read(c) => {
             let at = c.at;
@@ -226,6 +225,24 @@ pub fn check_program(words: &[u32], erased: &[u32], names: &[u8]) -> Accepted
         Step::Wrong(p) => Accepted::Refused(Refusal::Word(p)),
         Step::Deep(p) => Accepted::Refused(Refusal::Depth(p)),
     }
+}
+
+// A program's words and erased names, where the names' marks are known: what all later entries ask first.
+pub fn check_program(words: &[u32], erased: &[u32], names: &[u8]) -> Accepted
+    requires { ⌜ length (now names) ≤ maxStrings ⌝ }
+    ensures { λ r. ⌜ toldProgram r ≡ verdict (acceptedOf (now (names .entry)) (now (words .entry)) (now (erased .entry))) ⌝ }
+{
+    let s = tree::program(words, names, names.len() as u32);
+    judged(s, words, erased, names)
+}
+
+// The same, with the ends of the program's procedures noted in a memo.
+pub fn check_program_with(words: &[u32], erased: &[u32], names: &[u8], memo: &mut [u32]) -> Accepted
+    requires { ⌜ length (now names) ≤ maxStrings ⌝ }
+    ensures { λ r. ⌜ (toldProgram r ≡ verdict (acceptedOf (now (names .entry)) (now (words .entry)) (now (erased .entry)))) × Keeps (now (words .entry)) (now (names .entry)) (length (now (names .entry))) (now (memo .entry)) (now (memo .exit)) ⌝ }
+{
+    let s = tree::program_with(words, names, names.len() as u32, memo);
+    judged(s, words, erased, names)
 }
 
 // Whether a program is within the sizes.

@@ -10,6 +10,7 @@ ghost use Rattle.tree.specs.Sorts.{many, opt, expr as exprSort, stmt as 
 ghost use Rattle.tree.specs.Tree.{between, strings};
 ghost use Rattle.tree.specs.Codes.{partCodes, stmtCodes, codes, joined, pack, sortAt, rowOf, chain, allRows};
 ghost use Rattle.tree.specs.Reader.{wordAt, neverAt, fieldAt, stmtAt, programAt};
+ghost use Rattle.tree.specs.Memo.{Recalled, Remembered, Noted, Keeps, Past};
 ghost use Rattle.tree.specs.Frames.{toldOf, fieldStep, frameAt, Goes, Turned, restOf, againOf, Opens};
 ghost use Rattle.expr.specs.Reader.{leafAt, nameAt, listAt, bodyAt, exprAt};
 ghost use Rattle.expr.specs.Answer.{stepOf, then};
@@ -601,10 +602,24 @@ fn remains(f: Frame) -> usize
     0
 }
 
-// Reads what a frame says. What is left of the frames around the current one stands on a stack; where that is full, the
-// next frame is read by a call.
-fn run(words: &[u32], names: &[u8], n: u32, f: Frame, from: usize) -> Step
-    ensures { λ r. ⌜ r ≡ frameAt (now (words .entry)) (now (names .entry)) n f from ⌝ }
+// How many frames may stand on the stack where a field of the sort enters the row: none under a procedure, which is read by a call.
+fn room(sort: u8, row: usize) -> usize
+    ensures { λ r. ⌜ r ≤ 32 ⌝ }
+{
+    if sort != 10 {
+        return 32;
+    }
+    match row {
+        59 => 0,
+        60 => 0,
+        _ => 32,
+    }
+}
+
+// Reads what a frame says. What is left of the frames around the current one stands on a stack; where that is full, and of
+// a procedure, whose end the memo then has, the next frame is read by a call.
+fn run(words: &[u32], names: &[u8], n: u32, f: Frame, from: usize, memo: &mut [u32]) -> Step
+    ensures { λ r. ⌜ (r ≡ frameAt (now (words .entry)) (now (names .entry)) n f from) × Keeps (now (words .entry)) (now (names .entry)) n (now (memo .entry)) (now (memo .exit)) ⌝ }
 {
     let mut stack = [f; 32];
     let mut sp = 0;
@@ -632,17 +647,18 @@ fn run(words: &[u32], names: &[u8], n: u32, f: Frame, from: usize) -> Step
                 continue;
             }
             Turn::Into(m, g) => {
-                if sp < 32 {
+                if sp < room(sort, g.row) {
                     stack[sp] = cur;
                     sp += remains(cur);
                     at = m;
                     cur = g;
                     continue;
                 }
-                let s = run(words, names, n, g, m);
+                let s = run(words, names, n, g, m, memo);
                 let Step::Read(d) = s else {
                     return s;
                 };
+                note(memo, sort, at, d.at);
                 at = d.at;
                 continue;
             }
@@ -656,7 +672,8 @@ fn run(words: &[u32], names: &[u8], n: u32, f: Frame, from: usize) -> Step
 pub fn stmt(c: Cursor, words: &[u32], names: &[u8], n: u32, left: usize) -> Step
     ensures { λ r. ⌜ r ≡ stepOf (stmtAt (now (words .entry)) (now (names .entry)) n left (c .at)) ⌝ }
 {
-    run(words, names, n, one_field(10, left), c.at)
+    let mut memo = [0u32; 1];
+    run(words, names, n, one_field(10, left), c.at, &mut memo)
 }
 
 // one field is left
@@ -675,12 +692,87 @@ fn one_field(sort: u64, left: usize) -> Frame
 pub fn program(words: &[u32], names: &[u8], n: u32) -> Step
     ensures { λ r. ⌜ r ≡ stepOf (programAt (now (words .entry)) (now (names .entry)) n) ⌝ }
 {
-    run(words, names, n, one_field(68, 100), 0)
+    let mut memo = [0u32; 1];
+    run(words, names, n, one_field(68, 100), 0, &mut memo)
+}
+
+// The same, with the ends of its procedures noted in a memo.
+pub fn program_with(words: &[u32], names: &[u8], n: u32, memo: &mut [u32]) -> Step
+    ensures { λ r. ⌜ (r ≡ stepOf (programAt (now (words .entry)) (now (names .entry)) n)) × Keeps (now (words .entry)) (now (names .entry)) n (now (memo .entry)) (now (memo .exit)) ⌝ }
+{
+    run(words, names, n, one_field(68, 100), 0, memo)
 }
 
 // A body: a list of statements, with so many levels left.
 pub fn body(c: Cursor, words: &[u32], names: &[u8], n: u32, left: usize) -> Step
     ensures { λ r. ⌜ r ≡ stepOf (fieldAt (now (words .entry)) (now (names .entry)) n (exprAt (now (words .entry)) (strings (now (names .entry)) n) left) (stmtAt (now (words .entry)) (now (names .entry)) n left) bodySort (c .at)) ⌝ }
 {
-    run(words, names, n, one_field(68, left), c.at)
+    let mut memo = [0u32; 1];
+    run(words, names, n, one_field(68, left), c.at, &mut memo)
+}
+
+// The place that a slot's two words tell for a place; 0 where they are another's.
+fn slot(place: u32, end: u32, at: usize) -> usize
+    ensures { λ r. ⌜ ((r ≡ 0 → ⊥) → (place ≡ at + 1) × (r ≡ end)) ⌝ }
+{
+    if place == 0 {
+        return 0;
+    }
+    if place as usize - 1 != at {
+        return 0;
+    }
+    end as usize
+}
+
+// The place past the statement at `at` where the memo has it, else 0.
+pub fn recall(memo: &[u32], at: usize) -> usize
+    ensures { λ r. ⌜ Recalled (now (memo .entry)) at r ⌝ }
+{
+    if memo.len() < 128 {
+        return 0;
+    }
+    let i = at % 64;
+    slot(memo[2 * i], memo[2 * i + 1], at)
+}
+
+// Notes in the memo that a statement at `at` ends at `end`, unless a number is too large.
+fn remember(memo: &mut [u32], at: usize, end: usize)
+    ensures { λ r. ⌜ Remembered (now (memo .entry)) at end (now (memo .exit)) ⌝ }
+{
+    if memo.len() < 128 {
+        return;
+    }
+    if 4294967294 < at {
+        return;
+    }
+    if 4294967295 < end {
+        return;
+    }
+    let i = at % 64;
+    memo[2 * i] = (at + 1) as u32;
+    memo[2 * i + 1] = end as u32;
+}
+
+// Notes the end of a field of a sort, if that is a statement.
+fn note(memo: &mut [u32], sort: u8, at: usize, end: usize)
+    ensures { λ r. ⌜ Noted sort (now (memo .entry)) at end (now (memo .exit)) ⌝ }
+{
+    if sort == 10 {
+        remember(memo, at, end);
+    }
+}
+
+// The place past the statement at `at`, which the memo may have; else it is read.
+pub fn past(words: &[u32], names: &[u8], n: u32, memo: &[u32], at: usize) -> usize
+    ensures { λ r. ⌜ Past (now (words .entry)) (now (names .entry)) n (now (memo .entry)) at r ⌝ }
+{
+    let e = recall(memo, at);
+    if e != 0 {
+        return e;
+    }
+    match stmt(Cursor { at }, words, names, n, 100) {
+        Step::Read(c) => c.at,
+        Step::Wrong(p) => p,
+        Step::Deep(p) => p,
+    }
 }

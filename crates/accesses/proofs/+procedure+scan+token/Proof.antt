@@ -26,33 +26,33 @@ use Rattle.plans.proofs.inside.Reads as inside-reads
 use Rattle.accesses.proofs.+procedure+scan+token.{statement}
 use Rattle.accesses.proofs.+procedure+scan+token.Tie.{close}
 
-abbrev μ-procedure : Measures 4 procedure-kinds.ps ℕ
+abbrev μ-procedure : Measures 5 procedure-kinds.ps ℕ
 μ-procedure κs a = 3 * (length (a .0 .now) - a .1 .1 .1 .1 .1 .1 .0)
 
-abbrev μ-scan : Measures 4 scan-kinds.ps ℕ
+abbrev μ-scan : Measures 5 scan-kinds.ps ℕ
 μ-scan κs a = 3 * (length (a .0 .now) - a .1 .1 .1 .1 .1 .1 .0) + 2
 
-abbrev μ-token : Measures 4 token-kinds.ps ℕ
+abbrev μ-token : Measures 5 token-kinds.ps ℕ
 μ-token κs a = 3 * (length (a .0 .now) - a .1 .1 .1 .1 .1 .1 .0) + 1
 
-abbrev procedure-at : ℕ → In 4 procedure-kinds.ps
-procedure-at t = and 4 procedure-kinds.ps (is 4 procedure-kinds.ps μ-procedure t) procedure.Pre
+abbrev procedure-at : ℕ → In 5 procedure-kinds.ps
+procedure-at t = and 5 procedure-kinds.ps (is 5 procedure-kinds.ps μ-procedure t) procedure.Pre
 
-abbrev procedure-below : ℕ → In 4 procedure-kinds.ps
+abbrev procedure-below : ℕ → In 5 procedure-kinds.ps
 procedure-below t =
-    and 4 procedure-kinds.ps (falls 4 procedure-kinds.ps _<_ μ-procedure t) procedure.Pre
+    and 5 procedure-kinds.ps (falls 5 procedure-kinds.ps _<_ μ-procedure t) procedure.Pre
 
-abbrev scan-at : ℕ → In 4 scan-kinds.ps
-scan-at t = and 4 scan-kinds.ps (is 4 scan-kinds.ps μ-scan t) scan.Pre
+abbrev scan-at : ℕ → In 5 scan-kinds.ps
+scan-at t = and 5 scan-kinds.ps (is 5 scan-kinds.ps μ-scan t) scan.Pre
 
-abbrev scan-below : ℕ → In 4 scan-kinds.ps
-scan-below t = and 4 scan-kinds.ps (falls 4 scan-kinds.ps _<_ μ-scan t) scan.Pre
+abbrev scan-below : ℕ → In 5 scan-kinds.ps
+scan-below t = and 5 scan-kinds.ps (falls 5 scan-kinds.ps _<_ μ-scan t) scan.Pre
 
-abbrev token-at : ℕ → In 4 token-kinds.ps
-token-at t = and 4 token-kinds.ps (is 4 token-kinds.ps μ-token t) token.Pre
+abbrev token-at : ℕ → In 5 token-kinds.ps
+token-at t = and 5 token-kinds.ps (is 5 token-kinds.ps μ-token t) token.Pre
 
-abbrev token-below : ℕ → In 4 token-kinds.ps
-token-below t = and 4 token-kinds.ps (falls 4 token-kinds.ps _<_ μ-token t) token.Pre
+abbrev token-below : ℕ → In 5 token-kinds.ps
+token-below t = and 5 token-kinds.ps (falls 5 token-kinds.ps _<_ μ-token t) token.Pre
 
 abbrev K-procedure : ℕ → procedure-lts.Claims
 K-procedure t = (past-reads.Asked, past-reads.Learnt, inside-reads.Asked, inside-reads.Learnt, scan-below t, scan.Post)
@@ -61,52 +61,52 @@ abbrev K-token : ℕ → token-lts.Claims
 K-token t = (call-reads.Asked, call-reads.Learnt, two-reads.Asked, two-reads.Learnt, three-reads.Asked, three-reads.Learnt, procedure-below t, procedure.Post, calling-reads.Asked, calling-reads.Learnt)
 
 procedure-mul-out : (t : ℕ) → procedure-lts.Need-mul-out (K-procedure t) (procedure-at t) procedure.Post
-procedure-mul-out t c = omega (arith, token-inside (c .before .before .before .before .pre .1 .0))
+procedure-mul-out t c = omega (arith, token-inside (c .before .before .before .before .before .pre .1 .0))
 
 procedure-shared-slice-read-out : (t : ℕ) → procedure-lts.Need-shared-slice-read-out (K-procedure t) (procedure-at t) procedure.Post
-procedure-shared-slice-read-out t c = token-inside (c .before .before .before .before .before .pre .1 .0) .0
+procedure-shared-slice-read-out t c = token-inside (c .before .before .before .before .before .before .pre .1 .0) .0
 
 procedure-mul-out-2 : (t : ℕ) → procedure-lts.Need-mul-out-2 (K-procedure t) (procedure-at t) procedure.Post
-procedure-mul-out-2 t c = omega (arith, token-inside (c .before .before .before .before .before .pre .1 .0))
+procedure-mul-out-2 t c = omega (arith, token-inside (c .before .before .before .before .before .before .pre .1 .0))
 
 procedure-slice-write-out : (t : ℕ) → procedure-lts.Need-slice-write-out (K-procedure t) (procedure-at t) procedure.Post
-procedure-slice-write-out t c = token-inside (c .before .before .before .before .before .pre .1 .0) .1
+procedure-slice-write-out t c = token-inside (c .before .before .before .before .before .before .pre .1 .0) .1
 
 procedure-past-requires : (t : ℕ) → procedure-lts.Need-past-requires (K-procedure t) (procedure-at t) procedure.Post
-procedure-past-requires t c κs = c .before .before .before .before .before .pre .1 .0 .few
+procedure-past-requires t c κs = (c .before .before .before .before .before .before .pre .1 .0 .few, c .before .before .before .before .before .before .pre .1 .3)
 
 procedure-inside-requires : (t : ℕ) → procedure-lts.Need-inside-requires (K-procedure t) (procedure-at t) procedure.Post
-procedure-inside-requires t c κs = (some-stmt (c .before .before .before .before .before .before .pre .1 .0) (c .before .before .before .before .before .before .pre .1 .1) (c .before .before .before .before .before .before .pre .1 .2), c .before .before .before .before .before .before .pre .1 .0 .room .scoped)
+procedure-inside-requires t c κs = (some-stmt (c .before .before .before .before .before .before .before .pre .1 .0) (c .before .before .before .before .before .before .before .pre .1 .1) (c .before .before .before .before .before .before .before .pre .1 .2), c .before .before .before .before .before .before .before .pre .1 .0 .room .scoped)
 
 procedure-add-scan : (t : ℕ) → procedure-lts.Need-add-scan (K-procedure t) (procedure-at t) procedure.Post
-procedure-add-scan t c = omega (arith, token-inside (c .before .before .before .before .before .before .before .before .pre .1 .0))
+procedure-add-scan t c = omega (arith, token-inside (c .before .before .before .before .before .before .before .before .before .pre .1 .0))
 
 procedure-add-scan-2 : (t : ℕ) → procedure-lts.Need-add-scan-2 (K-procedure t) (procedure-at t) procedure.Post
-procedure-add-scan-2 t c = omega (arith, token-inside (c .before .before .before .before .before .before .before .before .pre .1 .0))
+procedure-add-scan-2 t c = omega (arith, token-inside (c .before .before .before .before .before .before .before .before .before .pre .1 .0))
 
 procedure-scan-requires : (t : ℕ) → procedure-lts.Need-scan-requires (K-procedure t) (procedure-at t) procedure.Post
-procedure-scan-requires t c κs = (omega (arith, c .before .before .before .before .before .before .before .before .pre .0, token-inside (c .before .before .before .before .before .before .before .before .pre .1 .0)), ready-inner (c .before .before .before .before .before .before .before .before .pre .1 .0) (c .before .before .before .before .before .before .before .before .pre .1 .1) (c .before .before .before .before .before .before .before .before .pre .1 .2) (c .before .before .past .ensures) (c .before .inside .ensures) (simp length-set))
+procedure-scan-requires t c κs = (omega (arith, c .before .before .before .before .before .before .before .before .before .pre .0, token-inside (c .before .before .before .before .before .before .before .before .before .pre .1 .0)), (ready-inner (c .before .before .before .before .before .before .before .before .before .pre .1 .0) (c .before .before .before .before .before .before .before .before .before .pre .1 .1) (c .before .before .before .before .before .before .before .before .before .pre .1 .2) (c .before .before .past .ensures) (c .before .inside .ensures) (simp length-set), c .before .before .before .before .before .before .before .before .before .pre .1 .3))
 
 procedure-same-length : (t : ℕ) → procedure-lts.Need-same-length (K-procedure t) (procedure-at t) procedure.Post
 procedure-same-length t c = c .before .before .scan .kept .1 .1 .1 .1 .1 .0 ∙ simp length-set
 
 procedure-returns : (t : ℕ) → procedure-lts.Need-returns (K-procedure t) (procedure-at t) procedure.Post
-procedure-returns t c = procedure-done (c .before .before .before .before .before .before .before .before .before .before .before .pre .1 .1) (c .before .before .before .before .before .before .before .before .before .before .before .pre .1 .2) (c .before .before .before .before .before .past .ensures) (c .before .before .before .before .inside .ensures) (c .before .before .scan .ensures)
+procedure-returns t c = procedure-done (c .before .before .before .before .before .before .before .before .before .before .before .before .pre .1 .1) (c .before .before .before .before .before .before .before .before .before .before .before .before .pre .1 .2) (c .before .before .before .before .before .past .ensures) (c .before .before .before .before .inside .ensures) (c .before .before .scan .ensures)
 
 abbrev scan-Inv-loop : scan-lts.InvT-loop
-scan-Inv-loop words names rows count scope out₀ from end to a₀ t₀ out a t = (length out ≡ length out₀) × Scanned names words rows out₀ count scope from end to a t out
+scan-Inv-loop words names rows count scope out₀ from end to memo a₀ t₀ out a t = (length out ≡ length out₀) × Scanned names words rows out₀ count scope from end to a t out
 
 abbrev scan-μ-loop : scan-lts.MeasureT-loop
-scan-μ-loop words names rows count scope out₀ from end to a₀ t₀ out a t = end - a
+scan-μ-loop words names rows count scope out₀ from end to memo a₀ t₀ out a t = end - a
 
 scan-loop-holds : (t : ℕ) → scan-lts.Need-loop-holds (token-below t, token.Post) (scan-at t) scan.Post scan-Inv-loop scan-μ-loop
-scan-loop-holds t c = (refl, scan-start (c .before .before .before .before .args .names .now) (c .before .before .before .before .args .words .now) (c .before .before .before .before .args .rows .now) (c .before .before .before .before .args .out .now) (c .before .before .before .before .args .count) (c .before .before .before .before .args .scope) (c .before .before .before .before .args .from) (c .before .before .before .before .args .end) (c .before .before .before .before .args .to))
+scan-loop-holds t c = (refl, scan-start (c .before .before .before .before .before .args .names .now) (c .before .before .before .before .before .args .words .now) (c .before .before .before .before .before .args .rows .now) (c .before .before .before .before .before .args .out .now) (c .before .before .before .before .before .args .count) (c .before .before .before .before .before .args .scope) (c .before .before .before .before .before .args .from) (c .before .before .before .before .before .args .end) (c .before .before .before .before .before .args .to))
 
 scan-token-requires : (t : ℕ) → scan-lts.Need-token-requires (token-below t, token.Post) (scan-at t) scan.Post scan-Inv-loop scan-μ-loop
-scan-token-requires t c κs = (omega (arith, c .before .before .before .before .before .before .before .pre .0, scan-from (c .before .before .before .before .before .before .before .pre .1) (c .before .before .loop .inv .1)), scan-next (c .before .before .before .before .before .before .before .pre .1) (c .before .before .loop .inv .1) (c .before .loop-test .taken) (c .before .before .loop .inv .0))
+scan-token-requires t c κs = (omega (arith, c .before .before .before .before .before .before .before .before .pre .0, scan-from (c .before .before .before .before .before .before .before .before .pre .1 .0) (c .before .before .loop .inv .1)), (scan-next (c .before .before .before .before .before .before .before .before .pre .1 .0) (c .before .before .loop .inv .1) (c .before .loop-test .taken) (c .before .before .loop .inv .0), c .before .before .before .before .before .before .before .before .pre .1 .1))
 
 scan-loop-less : (t : ℕ) → scan-lts.Need-loop-less (token-below t, token.Post) (scan-at t) scan.Post scan-Inv-loop scan-μ-loop
-scan-loop-less t c = omega (arith, scan-less (c .before .before .before .before .before .before .before .before .before .before .pre .1) (c .before .before .before .before .before .loop .inv .1) (c .before .before .before .before .loop-test .taken) (c .before .before .token .ensures))
+scan-loop-less t c = omega (arith, scan-less (c .before .before .before .before .before .before .before .before .before .before .before .pre .1 .0) (c .before .before .before .before .before .loop .inv .1) (c .before .before .before .before .loop-test .taken) (c .before .before .token .ensures))
 
 scan-loop-again : (t : ℕ) → scan-lts.Need-loop-again (token-below t, token.Post) (scan-at t) scan.Post scan-Inv-loop scan-μ-loop
 scan-loop-again t c = (c .before .before .token .kept .1 .1 .1 .1 .1 .0 ∙ c .before .before .before .before .before .loop .inv .0, scan-step (c .before .before .before .before .before .loop .inv .1) (c .before .before .before .before .loop-test .taken) (c .before .before .token .ensures))
@@ -118,49 +118,49 @@ scan-returns : (t : ℕ) → scan-lts.Need-returns (token-below t, token.Post) (
 scan-returns t c = scan-done (c .before .loop .inv .1) (c .loop-test .left)
 
 token-mul-w : (t : ℕ) → token-lts.Need-mul-w (K-token t) (token-at t) token.Post
-token-mul-w t c = omega (arith, token-inside (c .before .before .before .before .pre .1))
+token-mul-w t c = omega (arith, token-inside (c .before .before .before .before .before .pre .1 .0))
 
 token-shared-slice-read-w : (t : ℕ) → token-lts.Need-shared-slice-read-w (K-token t) (token-at t) token.Post
-token-shared-slice-read-w t c = token-inside (c .before .before .before .before .before .pre .1) .0
+token-shared-slice-read-w t c = token-inside (c .before .before .before .before .before .before .pre .1 .0) .0
 
 token-call-requires : (t : ℕ) → token-lts.Need-call-requires (K-token t) (token-at t) token.Post
-token-call-requires t c κs = (c .before .before .before .before .before .before .before .pre .1, c .before .match .keys1)
+token-call-requires t c κs = (c .before .before .before .before .before .before .before .before .pre .1 .0, c .before .match .keys1)
 
-token-add-t17 : (t : ℕ) → token-lts.Need-add-t17 (K-token t) (token-at t) token.Post
-token-add-t17 t c = omega (arith, token-inside (c .before .before .before .before .before .before .pre .1))
+token-add-t18 : (t : ℕ) → token-lts.Need-add-t18 (K-token t) (token-at t) token.Post
+token-add-t18 t c = omega (arith, token-inside (c .before .before .before .before .before .before .before .pre .1 .0))
 
 token-two-requires : (t : ℕ) → token-lts.Need-two-requires (K-token t) (token-at t) token.Post
-token-two-requires t c κs = raw-room (c .before .before .before .before .before .before .before .pre .1) (omega (arith, c .before .match .keys3)) (omega (arith, c .before .match .keys3))
+token-two-requires t c κs = raw-room (c .before .before .before .before .before .before .before .before .pre .1 .0) (omega (arith, c .before .match .keys3)) (omega (arith, c .before .match .keys3))
 
 token-two-requires-2 : (t : ℕ) → token-lts.Need-two-requires-2 (K-token t) (token-at t) token.Post
-token-two-requires-2 t c κs = raw-room (c .before .before .before .before .before .before .before .pre .1) (omega (arith, c .before .match .keys4)) (omega (arith, c .before .match .keys4))
+token-two-requires-2 t c κs = raw-room (c .before .before .before .before .before .before .before .before .pre .1 .0) (omega (arith, c .before .match .keys4)) (omega (arith, c .before .match .keys4))
 
 token-three-requires : (t : ℕ) → token-lts.Need-three-requires (K-token t) (token-at t) token.Post
-token-three-requires t c κs = raws-room (c .before .before .before .before .before .before .before .pre .1) (omega (arith, c .before .match .keys5)) (omega (arith, c .before .match .keys5))
+token-three-requires t c κs = raws-room (c .before .before .before .before .before .before .before .before .pre .1 .0) (omega (arith, c .before .match .keys5)) (omega (arith, c .before .match .keys5))
 
 token-three-requires-2 : (t : ℕ) → token-lts.Need-three-requires-2 (K-token t) (token-at t) token.Post
-token-three-requires-2 t c κs = raws-room (c .before .before .before .before .before .before .before .pre .1) (omega (arith, c .before .match .keys6)) (omega (arith, c .before .match .keys6))
+token-three-requires-2 t c κs = raws-room (c .before .before .before .before .before .before .before .before .pre .1 .0) (omega (arith, c .before .match .keys6)) (omega (arith, c .before .match .keys6))
 
 token-procedure-requires : (t : ℕ) → token-lts.Need-procedure-requires (K-token t) (token-at t) token.Post
-token-procedure-requires t c κs = (omega (arith, c .before .before .before .before .before .before .before .pre .0), (c .before .before .before .before .before .before .before .pre .1, omega (arith, c .before .match .keys7), omega (arith, c .before .match .keys7)))
+token-procedure-requires t c κs = (omega (arith, c .before .before .before .before .before .before .before .before .pre .0), (c .before .before .before .before .before .before .before .before .pre .1 .0, omega (arith, c .before .match .keys7), omega (arith, c .before .match .keys7), c .before .before .before .before .before .before .before .before .pre .1 .1))
 
 token-procedure-requires-2 : (t : ℕ) → token-lts.Need-procedure-requires-2 (K-token t) (token-at t) token.Post
-token-procedure-requires-2 t c κs = (omega (arith, c .before .before .before .before .before .before .before .pre .0), (c .before .before .before .before .before .before .before .pre .1, omega (arith, c .before .match .keys8), omega (arith, c .before .match .keys8)))
+token-procedure-requires-2 t c κs = (omega (arith, c .before .before .before .before .before .before .before .before .pre .0), (c .before .before .before .before .before .before .before .before .pre .1 .0, omega (arith, c .before .match .keys8), omega (arith, c .before .match .keys8), c .before .before .before .before .before .before .before .before .pre .1 .1))
 
 token-calling-requires : (t : ℕ) → token-lts.Need-calling-requires (K-token t) (token-at t) token.Post
-token-calling-requires t c κs = (c .before .before .before .before .before .before .before .pre .1, c .before .match .keys9)
+token-calling-requires t c κs = (c .before .before .before .before .before .before .before .before .pre .1 .0, c .before .match .keys9)
 
 token-mul-out : (t : ℕ) → token-lts.Need-mul-out (K-token t) (token-at t) token.Post
-token-mul-out t c = omega (arith, token-inside (c .before .before .before .before .before .before .pre .1))
+token-mul-out t c = omega (arith, token-inside (c .before .before .before .before .before .before .before .pre .1 .0))
 
 token-slice-write-out : (t : ℕ) → token-lts.Need-slice-write-out (K-token t) (token-at t) token.Post
-token-slice-write-out t c = token-inside (c .before .before .before .before .before .before .pre .1) .1
+token-slice-write-out t c = token-inside (c .before .before .before .before .before .before .before .pre .1 .0) .1
 
-token-add-t32 : (t : ℕ) → token-lts.Need-add-t32 (K-token t) (token-at t) token.Post
-token-add-t32 t c = omega (arith, token-inside (c .before .before .before .before .before .before .pre .1))
+token-add-t33 : (t : ℕ) → token-lts.Need-add-t33 (K-token t) (token-at t) token.Post
+token-add-t33 t c = omega (arith, token-inside (c .before .before .before .before .before .before .before .pre .1 .0))
 
-token-add-t34 : (t : ℕ) → token-lts.Need-add-t34 (K-token t) (token-at t) token.Post
-token-add-t34 t c = omega (arith, token-inside (c .before .before .before .before .before .before .pre .1))
+token-add-t35 : (t : ℕ) → token-lts.Need-add-t35 (K-token t) (token-at t) token.Post
+token-add-t35 t c = omega (arith, token-inside (c .before .before .before .before .before .before .before .pre .1 .0))
 
 token-same-length : (t : ℕ) → token-lts.Need-same-length (K-token t) (token-at t) token.Post
 token-same-length t c = c .before .before .call .kept .1 .1 .1 .1 .1 .0
@@ -252,7 +252,7 @@ pub +procedure+scan+token-spec : {M : Type 1} → statement M
     (token-mul-w t)
     (token-shared-slice-read-w t)
     (token-call-requires t)
-    (token-add-t17 t)
+    (token-add-t18 t)
     (token-two-requires t)
     (token-two-requires-2 t)
     (token-three-requires t)
@@ -262,8 +262,8 @@ pub +procedure+scan+token-spec : {M : Type 1} → statement M
     (token-calling-requires t)
     (token-mul-out t)
     (token-slice-write-out t)
-    (token-add-t32 t)
-    (token-add-t34 t)
+    (token-add-t33 t)
+    (token-add-t35 t)
     (token-same-length t)
     (token-returns t)
     (token-returns-2 t)

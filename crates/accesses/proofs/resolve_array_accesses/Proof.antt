@@ -1,17 +1,21 @@
--- A program is one item of a scan. Assumes nothing.
-use Rattle.accesses.proofs.Scanning.{ready-scan, program-done}
+-- A memo of zeros remembers nothing. Assumes nothing.
+use Rattle.tree.specs.Memo.{blank}
 use borrow.Author.Needs.{needs}
 use Rattle.accesses.proofs.resolve_array_accesses.Statement.{statement}
 use Rattle.accesses.proofs.resolve_array_accesses.Tie as tie
 
-scan-requires : tie.Need-scan-requires
-scan-requires c κs = ready-scan (c .before .before .before .before .before .pre)
+slice-aggregate-resolve-with : tie.Need-slice-aggregate-resolve-with
+slice-aggregate-resolve-with c = search needs
+
+resolve-with-requires : tie.Need-resolve-with-requires
+resolve-with-requires c κs = (search needs, blank _ _ _ 1)
 
 same-length : tie.Need-same-length
 same-length c = search needs
 
 returns : tie.Need-returns
-returns c = program-done (c .before .before .before .before .before .before .before .before .pre) (c .before .before .scan .ensures)
+returns c = search needs
 
 pub resolve-array-accesses-spec : {M : Type 1} → statement M
-resolve-array-accesses-spec = tie.close (tie.spec scan-requires same-length returns)
+resolve-array-accesses-spec =
+    tie.close (tie.spec slice-aggregate-resolve-with resolve-with-requires same-length returns)

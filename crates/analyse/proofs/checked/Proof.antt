@@ -1,27 +1,14 @@
--- 2 or 3, then 4, then 10, and then the run. Assumes nothing.
-use Rattle.collect.specs.PassedLaws.{passed, not-passed}
-use Rattle.analyse.proofs.Laws.{not-accepted, short-tells}
+-- A memo of zeros remembers nothing. Assumes nothing.
+use Rattle.tree.specs.Memo.{blank}
 use borrow.Author.Needs.{needs}
 use Rattle.analyse.proofs.checked.Statement.{statement}
 use Rattle.analyse.proofs.checked.Tie as tie
 
-check-program-requires : tie.Need-check-program-requires
-check-program-requires c κs = search needs
+slice-aggregate-noted : tie.Need-slice-aggregate-noted
+slice-aggregate-noted c = search needs
 
-enum-known-f : tie.Need-enum-known-f
-enum-known-f c = search needs
-
-enum-told : tie.Need-enum-told
-enum-told c = search needs
-
-returns : tie.Need-returns
-returns c = short-tells (passed (c .before .before .before .before .before .before .before .before .before .before .before .before .pre .0) (c .before .before .before .before .before .before .before .before .before .before .before .before .pre .1) (c .before .before .before .check-program .ensures) (c .before .enum-told .given .1)) (c .before .before .before .before .before .before .before .before .before .before .before .before .args .notes .now) (c .before .before .before .before .before .before .before .before .before .before .before .before .args .rows .now) (c .before .before .before .before .before .before .before .before .before .before .before .before .args .out .now) (c .if1 .taken)
-
-run-requires : tie.Need-run-requires
-run-requires c κs = (passed (c .before .before .before .before .before .before .before .before .before .before .before .before .before .before .before .pre .0) (c .before .before .before .before .before .before .before .before .before .before .before .before .before .before .before .pre .1) (c .before .before .before .before .before .before .check-program .ensures) (c .before .before .before .before .enum-told .given .1), c .before .before .before .if1 .left)
-
-returns-2 : tie.Need-returns-2
-returns-2 c = not-accepted (c .before .before .before .before .before .before .before .before .before .before .before .before .args .bytes .now) (c .before .before .before .before .before .before .before .before .before .before .before .before .args .ends .now) (c .before .before .before .before .before .before .before .before .before .before .before .before .args .erased .now) (c .before .before .before .before .before .before .before .before .before .before .before .before .args .words .now) (c .before .before .before .before .before .before .before .before .before .before .before .before .args .notes .now) (c .before .before .before .before .before .before .before .before .before .before .before .before .args .rows .now) (c .before .before .before .before .before .before .before .before .before .before .before .before .args .out .now) (not-passed (c .before .before .before .before .before .before .before .before .before .before .before .before .args .erased .now) (c .before .before .before .before .before .before .before .before .before .before .before .before .args .words .now) (c .before .before .before .before .before .before .before .before .before .before .before .before .pre .0) (c .before .before .before .check-program .ensures) (c .before .f .given .1))
+noted-requires : tie.Need-noted-requires
+noted-requires c κs = (search needs, search needs, blank _ _ _ 128)
 
 same-length : tie.Need-same-length
 same-length c = search needs
@@ -32,20 +19,8 @@ same-length-2 c = search needs
 same-length-3 : tie.Need-same-length-3
 same-length-3 c = search needs
 
-returns-3 : tie.Need-returns-3
-returns-3 c = search needs
+returns : tie.Need-returns
+returns c = search needs
 
 pub checked-spec : {M : Type 1} → statement M
-checked-spec =
-    tie.close
-    (tie.spec
-    check-program-requires
-    enum-known-f
-    enum-told
-    returns
-    run-requires
-    returns-2
-    same-length
-    same-length-2
-    same-length-3
-    returns-3)
+checked-spec = tie.close (tie.spec slice-aggregate-noted noted-requires same-length same-length-2 same-length-3 returns)

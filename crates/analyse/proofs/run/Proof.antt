@@ -8,7 +8,7 @@ tables-requires : tie.Need-tables-requires
 tables-requires c κs = search needs
 
 refusal-requires : tie.Need-refusal-requires
-refusal-requires c κs = stopped-zeroing (c .before .before .before .before .before .before .before .before .before .before .before .before .before .before .before .before .before .pre .0) (c .before .before .before .before .before .before .tables .ensures) (c .if1 .taken)
+refusal-requires c κs = stopped-zeroing (c .before .before .before .before .before .before .before .before .before .before .before .before .before .before .before .before .before .before .pre .0) (c .before .before .before .before .before .before .tables .ensures) (c .if1 .taken)
 
 same-length : tie.Need-same-length
 same-length c = search needs
@@ -17,10 +17,10 @@ same-length-2 : tie.Need-same-length-2
 same-length-2 c = search needs
 
 returns : tie.Need-returns
-returns c = run-stopped (c .before .before .before .before .before .before .before .before .before .before .before .before .before .before .before .before .before .before .pre .0) (c .before .before .before .before .before .before .before .before .before .before .before .before .before .before .before .before .before .before .pre .1) (c .before .before .before .before .before .before .before .tables .ensures) (c .before .if1 .taken) (c .refusal .ensures)
+returns c = run-stopped (c .before .before .before .before .before .before .before .before .before .before .before .before .before .before .before .before .before .before .before .pre .0) (c .before .before .before .before .before .before .before .before .before .before .before .before .before .before .before .before .before .before .before .pre .1) (c .before .before .before .before .before .before .before .tables .ensures) (c .before .if1 .taken) (c .refusal .ensures)
 
-resolve-array-accesses-requires : tie.Need-resolve-array-accesses-requires
-resolve-array-accesses-requires c κs = run-ready (c .before .before .before .before .before .before .before .before .before .before .before .before .before .before .before .before .before .before .before .pre .0) (c .before .before .before .before .before .before .before .before .before .before .before .before .before .before .before .before .before .before .before .pre .1) (c .before .before .before .before .before .before .before .before .tables .ensures) (c .before .before .if1 .left)
+resolve-with-requires : tie.Need-resolve-with-requires
+resolve-with-requires c κs = (run-ready (c .before .before .before .before .before .before .before .before .before .before .before .before .before .before .before .before .before .before .before .before .pre .0) (c .before .before .before .before .before .before .before .before .before .before .before .before .before .before .before .before .before .before .before .before .pre .1) (c .before .before .before .before .before .before .before .before .tables .ensures) (c .before .before .if1 .left), c .before .before .before .before .before .before .before .before .before .before .before .before .before .before .before .before .before .before .before .before .pre .2)
 
 same-length-3 : tie.Need-same-length-3
 same-length-3 c = search needs
@@ -32,7 +32,7 @@ same-length-5 : tie.Need-same-length-5
 same-length-5 c = search needs
 
 returns-2 : tie.Need-returns-2
-returns-2 c = run-resolved (c .before .before .before .before .before .before .before .before .before .before .before .before .before .before .before .before .before .before .before .before .before .before .pre .0) (c .before .before .before .before .before .before .before .before .before .before .before .before .before .before .before .before .before .before .before .before .before .before .pre .1) (c .before .before .before .before .before .before .before .before .before .before .before .tables .ensures) (c .before .before .before .before .before .if1 .left) (c .before .before .resolve-array-accesses .ensures)
+returns-2 c = run-resolved (c .before .before .before .before .before .before .before .before .before .before .before .before .before .before .before .before .before .before .before .before .before .before .before .pre .0) (c .before .before .before .before .before .before .before .before .before .before .before .before .before .before .before .before .before .before .before .before .before .before .before .pre .1) (c .before .before .before .before .before .before .before .before .before .before .before .tables .ensures) (c .before .before .before .before .before .if1 .left) (c .before .before .resolve-with .ensures)
 
 pub run-spec : {M : Type 1} → statement M
 run-spec =
@@ -43,7 +43,7 @@ run-spec =
     same-length
     same-length-2
     returns
-    resolve-array-accesses-requires
+    resolve-with-requires
     same-length-3
     same-length-4
     same-length-5

@@ -1,28 +1,14 @@
--- 2 or 3, then 4, then the run. Assumes nothing.
-use lib.ListN.{length}
-use Rattle.collect.specs.PassedLaws.{passed, not-passed}
-use Rattle.collection.proofs.Entry.{refused-tells, run-stops, run-refused, run-done}
+-- A memo of zeros remembers nothing. Assumes nothing.
+use Rattle.tree.specs.Memo.{blank}
 use borrow.Author.Needs.{needs}
 use Rattle.collection.proofs.checked.Statement.{statement}
 use Rattle.collection.proofs.checked.Tie as tie
 
-check-program-requires : tie.Need-check-program-requires
-check-program-requires c κs = search needs
+slice-aggregate-noted : tie.Need-slice-aggregate-noted
+slice-aggregate-noted c = search needs
 
-enum-known-a : tie.Need-enum-known-a
-enum-known-a c = search needs
-
-returns : tie.Need-returns
-returns c = refused-tells (c .before .before .before .before .before .before .before .before .before .before .before .args .bytes .now) (c .before .before .before .before .before .before .before .before .before .before .before .args .ends .now) (c .before .before .before .before .before .before .before .before .before .before .before .args .erased .now) (c .before .before .before .before .before .before .before .before .before .before .before .args .words .now) (length (c .before .before .before .before .before .before .before .before .before .before .before .args .b .now)) (length (c .before .before .before .before .before .before .before .before .before .before .before .args .d .now)) (c .before .before .before .before .before .before .before .before .before .before .before .args .b .now) (c .before .before .before .before .before .before .before .before .before .before .before .args .d .now) (not-passed (c .before .before .before .before .before .before .before .before .before .before .before .args .erased .now) (c .before .before .before .before .before .before .before .before .before .before .before .args .words .now) (c .before .before .before .before .before .before .before .before .before .before .before .pre .0) (c .before .before .before .check-program .ensures) (c .before .a .given .1))
-
-enum-told : tie.Need-enum-told
-enum-told c = search needs
-
-tables-requires : tie.Need-tables-requires
-tables-requires c κs = passed (c .before .before .before .before .before .before .before .before .before .before .before .before .pre .0) (c .before .before .before .before .before .before .before .before .before .before .before .before .pre .1) (c .before .before .before .before .check-program .ensures) (c .before .before .enum-told .given .1)
-
-refusal-requires : tie.Need-refusal-requires
-refusal-requires c κs = run-stops (passed (c .before .before .before .before .before .before .before .before .before .before .before .before .before .before .before .before .before .before .before .pre .0) (c .before .before .before .before .before .before .before .before .before .before .before .before .before .before .before .before .before .before .before .pre .1) (c .before .before .before .before .before .before .before .before .before .before .before .check-program .ensures) (c .before .before .before .before .before .before .before .before .before .enum-told .given .1)) (c .before .before .before .before .before .before .tables .ensures) (c .if1 .taken)
+noted-requires : tie.Need-noted-requires
+noted-requires c κs = (search needs, search needs, blank _ _ _ 128)
 
 same-length : tie.Need-same-length
 same-length c = search needs
@@ -30,31 +16,8 @@ same-length c = search needs
 same-length-2 : tie.Need-same-length-2
 same-length-2 c = search needs
 
-returns-2 : tie.Need-returns-2
-returns-2 c = run-refused (passed (c .before .before .before .before .before .before .before .before .before .before .before .before .before .before .before .before .before .before .before .before .pre .0) (c .before .before .before .before .before .before .before .before .before .before .before .before .before .before .before .before .before .before .before .before .pre .1) (c .before .before .before .before .before .before .before .before .before .before .before .before .check-program .ensures) (c .before .before .before .before .before .before .before .before .before .before .enum-told .given .1)) (c .before .before .before .before .before .before .before .tables .ensures) (c .before .if1 .taken) (c .refusal .ensures)
-
-same-length-3 : tie.Need-same-length-3
-same-length-3 c = search needs
-
-same-length-4 : tie.Need-same-length-4
-same-length-4 c = search needs
-
-returns-3 : tie.Need-returns-3
-returns-3 c = run-done (passed (c .before .before .before .before .before .before .before .before .before .before .before .before .before .before .before .before .before .before .before .pre .0) (c .before .before .before .before .before .before .before .before .before .before .before .before .before .before .before .before .before .before .before .pre .1) (c .before .before .before .before .before .before .before .before .before .before .before .check-program .ensures) (c .before .before .before .before .before .before .before .before .before .enum-told .given .1)) (c .before .before .before .before .before .before .tables .ensures) (c .if1 .left)
+returns : tie.Need-returns
+returns c = search needs
 
 pub checked-spec : {M : Type 1} → statement M
-checked-spec =
-    tie.close
-    (tie.spec
-    check-program-requires
-    enum-known-a
-    returns
-    enum-told
-    tables-requires
-    refusal-requires
-    same-length
-    same-length-2
-    returns-2
-    same-length-3
-    same-length-4
-    returns-3)
+checked-spec = tie.close (tie.spec slice-aggregate-noted noted-requires same-length same-length-2 returns)

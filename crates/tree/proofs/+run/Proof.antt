@@ -1,4 +1,4 @@
--- `run` meets its contract, with the calls that it makes of itself: what is left is what was asked, and its weight falls. Assumes nothing.
+-- `run` meets its contract, with the calls that it makes of itself: what is left is what was asked, its weight falls, and what the memo has is right. Assumes nothing.
 use Prim.Native.Nat.{ℕ, _+_, _-_, _*_, _<_}
 use mathlib.Core.Path.{refl, sym, _∙_}
 use native.Mathlib.Omega.{arith}
@@ -7,6 +7,7 @@ use lib.ListN.{length, length-set}
 use denote.Ref.{now}
 use Rattle.tree.proofs.Steps.{pos}
 use Rattle.tree.proofs.Machine.{sizeF, onStack, weight, Held, ends, goes-again, goes-up, goes-past, stops-wrong, stops-deep, stops-inner, next-frame, held-first, held-next, lighter, push, inner-less, opens-small, as-turn, past-is, into-is, refused-is, deep-is}
+use Rattle.tree.proofs.Memo.{Memo, memo-first, field-ends, keeps-then, keeps-noted}
 use borrow.Fn.Kinds.{In}
 use borrow.Fn.PlainCycle.{Measures, is, falls, and}
 use Rattle.tree.proofs.run.Reads as run
@@ -14,60 +15,65 @@ use Rattle.tree.proofs.run.Kinds as run-kinds
 use Rattle.tree.proofs.+run.Lts-run as run-lts
 use Rattle.tree.proofs.again.Reads as again-reads
 use Rattle.tree.proofs.look.Reads as look-reads
+use Rattle.tree.proofs.note.Reads as note-reads
 use Rattle.tree.proofs.remains.Reads as remains-reads
 use Rattle.tree.proofs.rest.Reads as rest-reads
+use Rattle.tree.proofs.room.Reads as room-reads
 use Rattle.tree.proofs.+run.{statement}
 use Rattle.tree.proofs.+run.Tie.{close}
 
-abbrev μ-run : Measures 2 run-kinds.ps ℕ
+abbrev μ-run : Measures 3 run-kinds.ps ℕ
 μ-run κs a = (length (now (a .0)) - a .1 .1 .1 .1 .0) * 1099511627776 + sizeF (a .1 .1 .1 .0)
 
-abbrev run-at : ℕ → In 2 run-kinds.ps
-run-at t = and 2 run-kinds.ps (is 2 run-kinds.ps μ-run t) run.Pre
+abbrev run-at : ℕ → In 3 run-kinds.ps
+run-at t = and 3 run-kinds.ps (is 3 run-kinds.ps μ-run t) run.Pre
 
-abbrev run-below : ℕ → In 2 run-kinds.ps
-run-below t = and 2 run-kinds.ps (falls 2 run-kinds.ps _<_ μ-run t) run.Pre
+abbrev run-below : ℕ → In 3 run-kinds.ps
+run-below t = and 3 run-kinds.ps (falls 3 run-kinds.ps _<_ μ-run t) run.Pre
 
 -- what it may take of the functions that it calls
 abbrev K : ℕ → run-lts.Claims
-K t = (again-reads.Asked, again-reads.Learnt, look-reads.Asked, look-reads.Learnt, rest-reads.Asked, rest-reads.Learnt, remains-reads.Asked, remains-reads.Learnt, run-below t, run.Post)
+K t = (again-reads.Asked, again-reads.Learnt, look-reads.Asked, look-reads.Learnt, rest-reads.Asked, rest-reads.Learnt, room-reads.Asked, room-reads.Learnt, remains-reads.Asked, remains-reads.Learnt, run-below t, run.Post, note-reads.Asked, note-reads.Learnt)
 
 abbrev run-Inv-loop : run-lts.InvT-loop
-run-Inv-loop words names n from stack₀ sp₀ at₀ cur₀ stack sp at cur = Held words names n cur₀ at₀ stack sp at cur
+run-Inv-loop words names n from memo₀ stack₀ sp₀ at₀ cur₀ memo stack sp at cur = Held words names n cur₀ at₀ stack sp at cur × Memo words names n memo₀ memo
 
 abbrev run-μ-loop : run-lts.MeasureT-loop
-run-μ-loop words names n from stack₀ sp₀ at₀ cur₀ stack sp at cur = weight words names n (onStack stack) sp cur at
+run-μ-loop words names n from memo₀ stack₀ sp₀ at₀ cur₀ memo stack sp at cur = weight words names n (onStack stack) sp cur at
 
 module _ (t : ℕ) where
   run-loop-holds : run-lts.Need-loop-holds (K t) (run-at t) run.Post run-Inv-loop run-μ-loop
-  run-loop-holds c = held-first _ _ _ _ _ _ refl
+  run-loop-holds c = (held-first _ _ _ _ _ _ refl, memo-first)
 
   run-again-requires : run-lts.Need-again-requires (K t) (run-at t) run.Post run-Inv-loop run-μ-loop
   run-again-requires c κs = pos (c .if2 .taken)
 
   run-loop-less : run-lts.Need-loop-less (K t) (run-at t) run.Post run-Inv-loop run-μ-loop
-  run-loop-less c = lighter _ _ _ (c .before .before .before .before .before .loop .inv) (next-frame _ _ _ (c .again .ensures) (goes-again _ _ _ _ _ _ _ (c .before .before .before .if1 .taken) (pos (c .before .if2 .taken))))
+  run-loop-less c = lighter _ _ _ (c .before .before .before .before .before .loop .inv .0) (next-frame _ _ _ (c .again .ensures) (goes-again _ _ _ _ _ _ _ (c .before .before .before .if1 .taken) (pos (c .before .if2 .taken))))
 
   run-loop-again : run-lts.Need-loop-again (K t) (run-at t) run.Post run-Inv-loop run-μ-loop
-  run-loop-again c = held-next _ _ _ (c .before .before .before .before .before .loop .inv) (next-frame _ _ _ (c .again .ensures) (goes-again _ _ _ _ _ _ _ (c .before .before .before .if1 .taken) (pos (c .before .if2 .taken)))) (c .before .before .before .before .before .loop .inv .room) (c .before .before .before .before .before .loop .inv .long)
+  run-loop-again c = (held-next _ _ _ (c .before .before .before .before .before .loop .inv .0) (next-frame _ _ _ (c .again .ensures) (goes-again _ _ _ _ _ _ _ (c .before .before .before .if1 .taken) (pos (c .before .if2 .taken)))) (c .before .before .before .before .before .loop .inv .0 .room) (c .before .before .before .before .before .loop .inv .0 .long), c .before .before .before .before .before .loop .inv .1)
+
+  run-same-length : run-lts.Need-same-length (K t) (run-at t) run.Post run-Inv-loop run-μ-loop
+  run-same-length c = c .before .before .before .before .before .loop .inv .1 .same
 
   run-returns : run-lts.Need-returns (K t) (run-at t) run.Post run-Inv-loop run-μ-loop
-  run-returns c = sym (c .before .before .before .before .before .loop .inv .is ∙ ends _ _ _ _ _ _ _ (c .before .before .before .if1 .taken) (c .before .if2 .left) (c .if3 .taken))
+  run-returns c = (sym (c .before .before .before .before .before .loop .inv .0 .is ∙ ends _ _ _ _ _ _ _ (c .before .before .before .if1 .taken) (c .before .if2 .left) (c .if3 .taken)), c .before .before .before .before .before .loop .inv .1 .keeps)
 
   run-sub-sp : run-lts.Need-sub-sp (K t) (run-at t) run.Post run-Inv-loop run-μ-loop
   run-sub-sp c = omega (arith, c .if3 .left)
 
   run-mul-cur : run-lts.Need-mul-cur (K t) (run-at t) run.Post run-Inv-loop run-μ-loop
-  run-mul-cur c = omega (arith, c .before .before .before .before .before .loop .inv .room)
+  run-mul-cur c = omega (arith, c .before .before .before .before .before .loop .inv .0 .room)
 
   run-array-copy-out-cur : run-lts.Need-array-copy-out-cur (K t) (run-at t) run.Post run-Inv-loop run-μ-loop
-  run-array-copy-out-cur c = omega (arith, c .before .before .before .before .before .loop .inv .room, c .if3 .left)
+  run-array-copy-out-cur c = omega (arith, c .before .before .before .before .before .loop .inv .0 .room, c .if3 .left)
 
   run-loop-less-2 : run-lts.Need-loop-less-2 (K t) (run-at t) run.Post run-Inv-loop run-μ-loop
-  run-loop-less-2 c = lighter _ _ _ (c .before .before .before .before .before .before .loop .inv) (goes-up _ _ _ (onStack (c .before .before .before .before .before .before .loop .stack)) _ _ _ (c .before .before .before .before .if1 .taken) (c .before .before .if2 .left) (pos (c .before .if3 .left)))
+  run-loop-less-2 c = lighter _ _ _ (c .before .before .before .before .before .before .loop .inv .0) (goes-up _ _ _ (onStack (c .before .before .before .before .before .before .loop .stack)) _ _ _ (c .before .before .before .before .if1 .taken) (c .before .before .if2 .left) (pos (c .before .if3 .left)))
 
   run-loop-again-2 : run-lts.Need-loop-again-2 (K t) (run-at t) run.Post run-Inv-loop run-μ-loop
-  run-loop-again-2 c = held-next _ _ _ (c .before .before .before .before .before .before .loop .inv) (goes-up _ _ _ (onStack (c .before .before .before .before .before .before .loop .stack)) _ _ _ (c .before .before .before .before .if1 .taken) (c .before .before .if2 .left) (pos (c .before .if3 .left))) (omega (arith, c .before .before .before .before .before .before .loop .inv .room)) (c .before .before .before .before .before .before .loop .inv .long)
+  run-loop-again-2 c = (held-next _ _ _ (c .before .before .before .before .before .before .loop .inv .0) (goes-up _ _ _ (onStack (c .before .before .before .before .before .before .loop .stack)) _ _ _ (c .before .before .before .before .if1 .taken) (c .before .before .if2 .left) (pos (c .before .if3 .left))) (omega (arith, c .before .before .before .before .before .before .loop .inv .0 .room)) (c .before .before .before .before .before .before .loop .inv .0 .long), c .before .before .before .before .before .before .loop .inv .1)
 
   run-cast-sort : run-lts.Need-cast-sort (K t) (run-at t) run.Post run-Inv-loop run-μ-loop
   run-cast-sort c = omega arith
@@ -82,58 +88,73 @@ module _ (t : ℕ) where
   run-enum-known-t c = search needs
 
   run-loop-less-3 : run-lts.Need-loop-less-3 (K t) (run-at t) run.Post run-Inv-loop run-μ-loop
-  run-loop-less-3 c = lighter _ _ _ (c .before .before .before .before .before .before .before .before .loop .inv) (next-frame _ _ _ (c .before .before .before .rest .ensures) (goes-past _ _ _ _ _ _ _ (c .before .before .before .before .before .before .if1 .left) (past-is (as-turn (c .before .t .given .1) (c .before .before .before .before .look .ensures)))))
+  run-loop-less-3 c = lighter _ _ _ (c .before .before .before .before .before .before .before .before .loop .inv .0) (next-frame _ _ _ (c .before .before .before .rest .ensures) (goes-past _ _ _ _ _ _ _ (c .before .before .before .before .before .before .if1 .left) (past-is (as-turn (c .before .t .given .1) (c .before .before .before .before .look .ensures)))))
 
   run-loop-again-3 : run-lts.Need-loop-again-3 (K t) (run-at t) run.Post run-Inv-loop run-μ-loop
-  run-loop-again-3 c = held-next _ _ _ (c .before .before .before .before .before .before .before .before .loop .inv) (next-frame _ _ _ (c .before .before .before .rest .ensures) (goes-past _ _ _ _ _ _ _ (c .before .before .before .before .before .before .if1 .left) (past-is (as-turn (c .before .t .given .1) (c .before .before .before .before .look .ensures))))) (c .before .before .before .before .before .before .before .before .loop .inv .room) (c .before .before .before .before .before .before .before .before .loop .inv .long)
+  run-loop-again-3 c = (held-next _ _ _ (c .before .before .before .before .before .before .before .before .loop .inv .0) (next-frame _ _ _ (c .before .before .before .rest .ensures) (goes-past _ _ _ _ _ _ _ (c .before .before .before .before .before .before .if1 .left) (past-is (as-turn (c .before .t .given .1) (c .before .before .before .before .look .ensures))))) (c .before .before .before .before .before .before .before .before .loop .inv .0 .room) (c .before .before .before .before .before .before .before .before .loop .inv .0 .long), c .before .before .before .before .before .before .before .before .loop .inv .1)
 
   run-enum-known-t-2 : run-lts.Need-enum-known-t-2 (K t) (run-at t) run.Post run-Inv-loop run-μ-loop
   run-enum-known-t-2 c = search needs
 
+  run-room-requires : run-lts.Need-room-requires (K t) (run-at t) run.Post run-Inv-loop run-μ-loop
+  run-room-requires c κs = search needs
+
   run-mul-stack : run-lts.Need-mul-stack (K t) (run-at t) run.Post run-Inv-loop run-μ-loop
-  run-mul-stack c = omega (arith, c .if4 .taken)
+  run-mul-stack c = omega (arith, c .if4 .taken, c .before .room .ensures)
 
   run-array-set-from-stack : run-lts.Need-array-set-from-stack (K t) (run-at t) run.Post run-Inv-loop run-μ-loop
-  run-array-set-from-stack c = c .if4 .taken
+  run-array-set-from-stack c = omega (arith, c .if4 .taken, c .before .room .ensures)
 
   run-remains-requires : run-lts.Need-remains-requires (K t) (run-at t) run.Post run-Inv-loop run-μ-loop
   run-remains-requires c κs = search needs
 
   run-add-sp : run-lts.Need-add-sp (K t) (run-at t) run.Post run-Inv-loop run-μ-loop
-  run-add-sp c = omega (arith, opens-small (c .remains .ensures), c .before .if4 .taken)
+  run-add-sp c = omega (arith, opens-small (c .remains .ensures), c .before .if4 .taken, c .before .before .room .ensures)
 
   run-loop-less-4 : run-lts.Need-loop-less-4 (K t) (run-at t) run.Post run-Inv-loop run-μ-loop
-  run-loop-less-4 c = lighter _ _ _ (c .before .before .before .before .before .before .before .before .before .before .loop .inv) (push _ _ _ (c .before .before .before .before .before .before .before .before .before .before .loop .stack) (c .before .before .before .before .before .before .before .before .before .before .loop .inv .long) (c .before .if4 .taken) (c .before .before .before .before .before .before .before .before .if1 .left) (as-turn (c .before .before .before .t2 .given .1) (c .before .before .before .before .before .before .look .ensures)) (c .before .before .before .before .before .rest .ensures) (c .remains .ensures))
+  run-loop-less-4 c = lighter _ _ _ (c .before .before .before .before .before .before .before .before .before .before .before .loop .inv .0) (push _ _ _ (c .before .before .before .before .before .before .before .before .before .before .before .loop .stack) (c .before .before .before .before .before .before .before .before .before .before .before .loop .inv .0 .long) (omega (arith, c .before .if4 .taken, c .before .before .room .ensures)) (c .before .before .before .before .before .before .before .before .before .if1 .left) (as-turn (c .before .before .before .before .t2 .given .1) (c .before .before .before .before .before .before .before .look .ensures)) (c .before .before .before .before .before .before .rest .ensures) (c .remains .ensures))
 
   run-loop-again-4 : run-lts.Need-loop-again-4 (K t) (run-at t) run.Post run-Inv-loop run-μ-loop
-  run-loop-again-4 c = held-next _ _ _ (c .before .before .before .before .before .before .before .before .before .before .loop .inv) (push _ _ _ (c .before .before .before .before .before .before .before .before .before .before .loop .stack) (c .before .before .before .before .before .before .before .before .before .before .loop .inv .long) (c .before .if4 .taken) (c .before .before .before .before .before .before .before .before .if1 .left) (as-turn (c .before .before .before .t2 .given .1) (c .before .before .before .before .before .before .look .ensures)) (c .before .before .before .before .before .rest .ensures) (c .remains .ensures)) (omega (arith, opens-small (c .remains .ensures), c .before .if4 .taken)) (length-set (c .before .before .before .before .before .before .before .before .before .before .loop .stack) _ _ ∙ c .before .before .before .before .before .before .before .before .before .before .loop .inv .long)
+  run-loop-again-4 c = (held-next _ _ _ (c .before .before .before .before .before .before .before .before .before .before .before .loop .inv .0) (push _ _ _ (c .before .before .before .before .before .before .before .before .before .before .before .loop .stack) (c .before .before .before .before .before .before .before .before .before .before .before .loop .inv .0 .long) (omega (arith, c .before .if4 .taken, c .before .before .room .ensures)) (c .before .before .before .before .before .before .before .before .before .if1 .left) (as-turn (c .before .before .before .before .t2 .given .1) (c .before .before .before .before .before .before .before .look .ensures)) (c .before .before .before .before .before .before .rest .ensures) (c .remains .ensures)) (omega (arith, opens-small (c .remains .ensures), c .before .if4 .taken, c .before .before .room .ensures)) (length-set (c .before .before .before .before .before .before .before .before .before .before .before .loop .stack) _ _ ∙ c .before .before .before .before .before .before .before .before .before .before .before .loop .inv .0 .long), c .before .before .before .before .before .before .before .before .before .before .before .loop .inv .1)
 
   run-run-requires : run-lts.Need-run-requires (K t) (run-at t) run.Post run-Inv-loop run-μ-loop
-  run-run-requires c κs = (omega (arith, inner-less _ _ _ (c .before .before .before .before .before .before .before .before .before .loop .inv) (c .before .before .before .before .before .before .before .if1 .left) (as-turn (c .before .before .t2 .given .1) (c .before .before .before .before .before .look .ensures)), c .before .before .before .before .before .before .before .before .before .before .before .before .pre .0), tt)
+  run-run-requires c κs = (omega (arith, inner-less _ _ _ (c .before .before .before .before .before .before .before .before .before .before .before .loop .inv .0) (c .before .before .before .before .before .before .before .before .before .if1 .left) (as-turn (c .before .before .before .before .t2 .given .1) (c .before .before .before .before .before .before .before .look .ensures)), c .before .before .before .before .before .before .before .before .before .before .before .before .before .before .before .pre .0), tt)
 
   run-enum-known-s : run-lts.Need-enum-known-s (K t) (run-at t) run.Post run-Inv-loop run-μ-loop
   run-enum-known-s c = search needs
 
+  run-same-length-2 : run-lts.Need-same-length-2 (K t) (run-at t) run.Post run-Inv-loop run-μ-loop
+  run-same-length-2 c = c .before .before .before .run .kept .1 .1 .1 .1 .1 .0 ∙ c .before .before .before .before .before .before .before .before .before .before .before .before .before .before .before .loop .inv .1 .same
+
   run-returns-2 : run-lts.Need-returns-2 (K t) (run-at t) run.Post run-Inv-loop run-μ-loop
-  run-returns-2 c = stops-inner _ _ _ _ _ _ _ (c .before .before .before .before .before .before .before .before .before .if1 .left) (c .before .run .ensures ∙ sym (into-is (as-turn (c .before .before .before .before .t2 .given .1) (c .before .before .before .before .before .before .before .look .ensures)))) (c .match2 .keys2) ∙ sym (c .before .before .before .before .before .before .before .before .before .before .before .loop .inv .is)
+  run-returns-2 c = (stops-inner _ _ _ _ _ _ _ (c .before .before .before .before .before .before .before .before .before .before .before .before .before .if1 .left) (c .before .before .before .run .ensures .0 ∙ sym (into-is (as-turn (c .before .before .before .before .before .before .before .before .t2 .given .1) (c .before .before .before .before .before .before .before .before .before .before .before .look .ensures)))) (c .match2 .keys2) ∙ sym (c .before .before .before .before .before .before .before .before .before .before .before .before .before .before .before .loop .inv .0 .is), keeps-then (c .before .before .before .before .before .before .before .before .before .before .before .before .before .before .before .loop .inv .1 .keeps) (c .before .before .before .run .ensures .1))
+
+  run-note-requires : run-lts.Need-note-requires (K t) (run-at t) run.Post run-Inv-loop run-μ-loop
+  run-note-requires c κs = search needs
 
   run-loop-less-5 : run-lts.Need-loop-less-5 (K t) (run-at t) run.Post run-Inv-loop run-μ-loop
-  run-loop-less-5 c = lighter _ _ _ (c .before .before .before .before .before .before .before .before .before .before .before .before .before .loop .inv) (next-frame _ _ _ (c .before .before .before .before .before .before .before .before .rest .ensures) (goes-past _ _ _ _ _ _ _ (c .before .before .before .before .before .before .before .before .before .before .before .if1 .left) (into-is (as-turn (c .before .before .before .before .before .before .t2 .given .1) (c .before .before .before .before .before .before .before .before .before .look .ensures)) ∙ sym (c .before .before .before .run .ensures) ∙ c .before .s .given .1)))
+  run-loop-less-5 c = lighter _ _ _ (c .before .before .before .before .before .before .before .before .before .before .before .before .before .before .before .before .before .before .before .before .before .loop .inv .0) (next-frame _ _ _ (c .before .before .before .before .before .before .before .before .before .before .before .before .before .before .before .before .rest .ensures) (goes-past _ _ _ _ _ _ _ (c .before .before .before .before .before .before .before .before .before .before .before .before .before .before .before .before .before .before .before .if1 .left) (into-is (as-turn (c .before .before .before .before .before .before .before .before .before .before .before .before .before .before .t2 .given .1) (c .before .before .before .before .before .before .before .before .before .before .before .before .before .before .before .before .before .look .ensures)) ∙ sym (c .before .before .before .before .before .before .before .before .before .run .ensures .0) ∙ c .before .before .before .before .before .s .given .1)))
 
   run-loop-again-5 : run-lts.Need-loop-again-5 (K t) (run-at t) run.Post run-Inv-loop run-μ-loop
-  run-loop-again-5 c = held-next _ _ _ (c .before .before .before .before .before .before .before .before .before .before .before .before .before .loop .inv) (next-frame _ _ _ (c .before .before .before .before .before .before .before .before .rest .ensures) (goes-past _ _ _ _ _ _ _ (c .before .before .before .before .before .before .before .before .before .before .before .if1 .left) (into-is (as-turn (c .before .before .before .before .before .before .t2 .given .1) (c .before .before .before .before .before .before .before .before .before .look .ensures)) ∙ sym (c .before .before .before .run .ensures) ∙ c .before .s .given .1))) (c .before .before .before .before .before .before .before .before .before .before .before .before .before .loop .inv .room) (c .before .before .before .before .before .before .before .before .before .before .before .before .before .loop .inv .long)
+  run-loop-again-5 c = (held-next _ _ _ (c .before .before .before .before .before .before .before .before .before .before .before .before .before .before .before .before .before .before .before .before .before .loop .inv .0) (next-frame _ _ _ (c .before .before .before .before .before .before .before .before .before .before .before .before .before .before .before .before .rest .ensures) (goes-past _ _ _ _ _ _ _ (c .before .before .before .before .before .before .before .before .before .before .before .before .before .before .before .before .before .before .before .if1 .left) (into-is (as-turn (c .before .before .before .before .before .before .before .before .before .before .before .before .before .before .t2 .given .1) (c .before .before .before .before .before .before .before .before .before .before .before .before .before .before .before .before .before .look .ensures)) ∙ sym (c .before .before .before .before .before .before .before .before .before .run .ensures .0) ∙ c .before .before .before .before .before .s .given .1))) (c .before .before .before .before .before .before .before .before .before .before .before .before .before .before .before .before .before .before .before .before .before .loop .inv .0 .room) (c .before .before .before .before .before .before .before .before .before .before .before .before .before .before .before .before .before .before .before .before .before .loop .inv .0 .long), record { same = c .before .before .note .kept .0 ∙ c .before .before .before .before .before .before .before .before .before .run .kept .1 .1 .1 .1 .1 .0 ∙ c .before .before .before .before .before .before .before .before .before .before .before .before .before .before .before .before .before .before .before .before .before .loop .inv .1 .same; keeps = keeps-noted (c .before .before .before .before .before .before .before .before .before .before .before .before .before .before .before .before .before .before .before .before .before .loop .inv .1 .keeps) (c .before .before .before .before .before .before .before .before .before .run .ensures .1) (c .before .before .note .ensures) (field-ends _ _ _ _ _ _ (into-is (as-turn (c .before .before .before .before .before .before .before .before .before .before .before .before .before .before .t2 .given .1) (c .before .before .before .before .before .before .before .before .before .before .before .before .before .before .before .before .before .look .ensures)) ∙ sym (c .before .before .before .before .before .before .before .before .before .run .ensures .0) ∙ c .before .before .before .before .before .s .given .1)) })
 
   run-enum-known-t-3 : run-lts.Need-enum-known-t-3 (K t) (run-at t) run.Post run-Inv-loop run-μ-loop
   run-enum-known-t-3 c = search needs
 
+  run-same-length-3 : run-lts.Need-same-length-3 (K t) (run-at t) run.Post run-Inv-loop run-μ-loop
+  run-same-length-3 c = c .before .before .before .before .before .before .before .before .loop .inv .1 .same
+
   run-returns-3 : run-lts.Need-returns-3 (K t) (run-at t) run.Post run-Inv-loop run-μ-loop
-  run-returns-3 c = sym (c .before .before .before .before .before .before .before .before .loop .inv .is ∙ stops-wrong _ _ _ _ _ _ _ (c .before .before .before .before .before .before .if1 .left) (refused-is (as-turn (c .before .t3 .given .1) (c .before .before .before .before .look .ensures))))
+  run-returns-3 c = (sym (c .before .before .before .before .before .before .before .before .loop .inv .0 .is ∙ stops-wrong _ _ _ _ _ _ _ (c .before .before .before .before .before .before .if1 .left) (refused-is (as-turn (c .before .t3 .given .1) (c .before .before .before .before .look .ensures)))), c .before .before .before .before .before .before .before .before .loop .inv .1 .keeps)
 
   run-enum-known-t-4 : run-lts.Need-enum-known-t-4 (K t) (run-at t) run.Post run-Inv-loop run-μ-loop
   run-enum-known-t-4 c = search needs
 
+  run-same-length-4 : run-lts.Need-same-length-4 (K t) (run-at t) run.Post run-Inv-loop run-μ-loop
+  run-same-length-4 c = c .before .before .before .before .before .before .before .before .loop .inv .1 .same
+
   run-returns-4 : run-lts.Need-returns-4 (K t) (run-at t) run.Post run-Inv-loop run-μ-loop
-  run-returns-4 c = sym (c .before .before .before .before .before .before .before .before .loop .inv .is ∙ stops-deep _ _ _ _ _ _ _ (c .before .before .before .before .before .before .if1 .left) (deep-is (as-turn (c .before .t4 .given .1) (c .before .before .before .before .look .ensures))))
+  run-returns-4 c = (sym (c .before .before .before .before .before .before .before .before .loop .inv .0 .is ∙ stops-deep _ _ _ _ _ _ _ (c .before .before .before .before .before .before .if1 .left) (deep-is (as-turn (c .before .t4 .given .1) (c .before .before .before .before .look .ensures)))), c .before .before .before .before .before .before .before .before .loop .inv .1 .keeps)
 
 pub +run-spec : {M : Type 1} → statement M
-+run-spec = close μ-run (λ t. run-lts.spec (K t) (run-at t) run.Post run-Inv-loop run-μ-loop (run-loop-holds t) (run-again-requires t) (run-loop-less t) (run-loop-again t) (run-returns t) (run-sub-sp t) (run-mul-cur t) (run-array-copy-out-cur t) (run-loop-less-2 t) (run-loop-again-2 t) (run-cast-sort t) (run-look-requires t) (run-rest-requires t) (run-enum-known-t t) (run-loop-less-3 t) (run-loop-again-3 t) (run-enum-known-t-2 t) (run-mul-stack t) (run-array-set-from-stack t) (run-remains-requires t) (run-add-sp t) (run-loop-less-4 t) (run-loop-again-4 t) (run-run-requires t) (run-enum-known-s t) (run-returns-2 t) (run-loop-less-5 t) (run-loop-again-5 t) (run-enum-known-t-3 t) (run-returns-3 t) (run-enum-known-t-4 t) (run-returns-4 t))
++run-spec = close μ-run (λ t. run-lts.spec (K t) (run-at t) run.Post run-Inv-loop run-μ-loop (run-loop-holds t) (run-again-requires t) (run-loop-less t) (run-loop-again t) (run-same-length t) (run-returns t) (run-sub-sp t) (run-mul-cur t) (run-array-copy-out-cur t) (run-loop-less-2 t) (run-loop-again-2 t) (run-cast-sort t) (run-look-requires t) (run-rest-requires t) (run-enum-known-t t) (run-loop-less-3 t) (run-loop-again-3 t) (run-enum-known-t-2 t) (run-room-requires t) (run-mul-stack t) (run-array-set-from-stack t) (run-remains-requires t) (run-add-sp t) (run-loop-less-4 t) (run-loop-again-4 t) (run-run-requires t) (run-enum-known-s t) (run-same-length-2 t) (run-returns-2 t) (run-note-requires t) (run-loop-less-5 t) (run-loop-again-5 t) (run-enum-known-t-3 t) (run-same-length-3 t) (run-returns-3 t) (run-enum-known-t-4 t) (run-same-length-4 t) (run-returns-4 t))

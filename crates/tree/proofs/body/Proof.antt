@@ -7,11 +7,14 @@ use Rattle.tree.proofs.body.Tie as tie
 one-field-requires : tie.Need-one-field-requires
 one-field-requires c κs = search needs
 
+slice-aggregate-run : tie.Need-slice-aggregate-run
+slice-aggregate-run c = search needs
+
 run-requires : tie.Need-run-requires
 run-requires c κs = search needs
 
 returns : tie.Need-returns
-returns c = body-is _ _ _ _ _ (c .run .ensures) (c .before .one-field .ensures)
+returns c = body-is _ _ _ _ _ (c .before .run .ensures .0) (c .before .before .before .one-field .ensures)
 
 pub body-spec : {M : Type 1} → statement M
-body-spec = tie.close (tie.spec one-field-requires run-requires returns)
+body-spec = tie.close (tie.spec one-field-requires slice-aggregate-run run-requires returns)

@@ -7,11 +7,14 @@ use Rattle.tree.proofs.program.Tie as tie
 one-field-requires : tie.Need-one-field-requires
 one-field-requires c κs = search needs
 
+slice-aggregate-run : tie.Need-slice-aggregate-run
+slice-aggregate-run c = search needs
+
 run-requires : tie.Need-run-requires
 run-requires c κs = search needs
 
 returns : tie.Need-returns
-returns c = program-is _ _ _ (c .run .ensures) (c .before .one-field .ensures)
+returns c = program-is _ _ _ (c .before .run .ensures .0) (c .before .before .before .one-field .ensures)
 
 pub program-spec : {M : Type 1} → statement M
-program-spec = tie.close (tie.spec one-field-requires run-requires returns)
+program-spec = tie.close (tie.spec one-field-requires slice-aggregate-run run-requires returns)

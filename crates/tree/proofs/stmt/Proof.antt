@@ -7,11 +7,14 @@ use Rattle.tree.proofs.stmt.Tie as tie
 one-field-requires : tie.Need-one-field-requires
 one-field-requires c κs = search needs
 
+slice-aggregate-run : tie.Need-slice-aggregate-run
+slice-aggregate-run c = search needs
+
 run-requires : tie.Need-run-requires
 run-requires c κs = search needs
 
 returns : tie.Need-returns
-returns c = stmt-is _ _ _ _ _ (c .run .ensures) (c .before .one-field .ensures)
+returns c = stmt-is _ _ _ _ _ (c .before .run .ensures .0) (c .before .before .before .one-field .ensures)
 
 pub stmt-spec : {M : Type 1} → statement M
-stmt-spec = tie.close (tie.spec one-field-requires run-requires returns)
+stmt-spec = tie.close (tie.spec one-field-requires slice-aggregate-run run-requires returns)

@@ -1,0 +1,51 @@
+-- 2 or 3, then 4, then 10, and then the run. Assumes nothing.
+use Rattle.collect.specs.PassedLaws.{passed, not-passed}
+use Rattle.analyse.proofs.Laws.{not-accepted, short-tells}
+use borrow.Author.Needs.{needs}
+use Rattle.analyse.proofs.noted.Statement.{statement}
+use Rattle.analyse.proofs.noted.Tie as tie
+
+check-program-with-requires : tie.Need-check-program-with-requires
+check-program-with-requires c κs = search needs
+
+enum-known-f : tie.Need-enum-known-f
+enum-known-f c = search needs
+
+enum-told : tie.Need-enum-told
+enum-told c = search needs
+
+returns : tie.Need-returns
+returns c = short-tells (passed (c .before .before .before .before .before .before .before .before .before .before .before .before .before .before .before .before .pre .0) (c .before .before .before .before .before .before .before .before .before .before .before .before .before .before .before .before .pre .1) (c .before .before .before .before .before .check-program-with .ensures .0) (c .before .enum-told .given .1)) (c .before .before .before .before .before .before .before .before .before .before .before .before .before .before .before .before .args .notes .now) (c .before .before .before .before .before .before .before .before .before .before .before .before .before .before .before .before .args .rows .now) (c .before .before .before .before .before .before .before .before .before .before .before .before .before .before .before .before .args .out .now) (c .if1 .taken)
+
+run-requires : tie.Need-run-requires
+run-requires c κs = (passed (c .before .before .before .before .before .before .before .before .before .before .before .before .before .before .before .before .before .before .before .before .pre .0) (c .before .before .before .before .before .before .before .before .before .before .before .before .before .before .before .before .before .before .before .before .pre .1) (c .before .before .before .before .before .before .before .before .before .check-program-with .ensures .0) (c .before .before .before .before .before .enum-told .given .1), c .before .before .before .before .if1 .left, c .before .before .before .before .before .before .before .before .before .check-program-with .ensures .1 .gives (c .before .before .before .before .before .before .before .before .before .before .before .before .before .before .before .before .before .before .before .before .pre .2))
+
+returns-2 : tie.Need-returns-2
+returns-2 c = not-accepted (c .before .before .before .before .before .before .before .before .before .before .before .before .before .before .before .before .args .bytes .now) (c .before .before .before .before .before .before .before .before .before .before .before .before .before .before .before .before .args .ends .now) (c .before .before .before .before .before .before .before .before .before .before .before .before .before .before .before .before .args .erased .now) (c .before .before .before .before .before .before .before .before .before .before .before .before .before .before .before .before .args .words .now) (c .before .before .before .before .before .before .before .before .before .before .before .before .before .before .before .before .args .notes .now) (c .before .before .before .before .before .before .before .before .before .before .before .before .before .before .before .before .args .rows .now) (c .before .before .before .before .before .before .before .before .before .before .before .before .before .before .before .before .args .out .now) (not-passed (c .before .before .before .before .before .before .before .before .before .before .before .before .before .before .before .before .args .erased .now) (c .before .before .before .before .before .before .before .before .before .before .before .before .before .before .before .before .args .words .now) (c .before .before .before .before .before .before .before .before .before .before .before .before .before .before .before .before .pre .0) (c .before .before .before .before .before .check-program-with .ensures .0) (c .before .f .given .1))
+
+same-length : tie.Need-same-length
+same-length c = search needs
+
+same-length-2 : tie.Need-same-length-2
+same-length-2 c = search needs
+
+same-length-3 : tie.Need-same-length-3
+same-length-3 c = search needs
+
+returns-3 : tie.Need-returns-3
+returns-3 c = search needs
+
+pub noted-spec : {M : Type 1} → statement M
+noted-spec =
+    tie.close
+    (tie.spec
+    check-program-with-requires
+    enum-known-f
+    enum-told
+    returns
+    run-requires
+    returns-2
+    same-length
+    same-length-2
+    same-length-3
+    returns-3)

@@ -108,16 +108,18 @@ unfolding writtenI writtenIs
 paren-done {scope = scope} {at} {to} h = record {
   gives = λ rs H xs end s z.
       let P = at-paren s z h in
-      let T : Tables = tablesOf rs in
-      (record {
-        left = exprItem (P .inner) ∷ P .rest;
-        there = P .there;
-        wrote = [];
-        upto = sym (add-zero to);
-        short = omega arith;
-        is = refl;
-        rest = P .writes (resolved T scope) (parted T scope) ∙ ap (λ (l : List ℕ). l ++ writtenIs (resolved T scope) (P .rest)) (paren-is T scope (P .inner));
-      }, omega arith);
+      let T : Tables = tablesOf rs in (
+        record {
+          left = exprItem (P .inner) ∷ P .rest;
+          there = P .there;
+          wrote = [];
+          upto = sym (add-zero to);
+          short = omega arith;
+          is = refl;
+          rest = P .writes (resolved T scope) (parted T scope) ∙ ap (λ (l : List ℕ). l ++ writtenIs (resolved T scope) (P .rest)) (paren-is T scope (P .inner));
+        },
+        omega arith,
+      );
 }
 
 -- ---- a plain word, a statement's head among them
@@ -136,6 +138,7 @@ is-plain k a b c d e f g h i = record { no-call = a; no-raw = λ x y. five x y (
   where
     five : 23 ≤ k → k < 28 → 28 ≤ k → ⊥
     five x y z = omega (arith, y, z)
+
     three : 84 ≤ k → k < 87 → 87 ≤ k → ⊥
     three x y z = omega (arith, y, z)
 
@@ -149,9 +152,9 @@ stmt-moved {ws = ws} {xs} {at} S p T σ {to} out =
     let b : numberOf (S .kind) ≡ 21 → ⊥ = λ q. p (omega arith) (omega arith) in
     let g = resolved T σ in
     let is : g (Rattle.plans.specs.Pieces.stmtPiece (S .kind) (S .line) (S .fields)) ≡ getD ws at 0 ∷ written g (S .fields) =
-        stmt-words s (λ q. p (omega arith) (omega arith)) T σ
-        ∙ ap (λ (i : ℕ). getD ws at 0 ∷ wordsT (resolveTree T i nowhere (S .fields))) (inside-other σ (S .kind) (first (S .fields)) a b)
-        ∙ ap (λ (l : List ℕ). getD ws at 0 ∷ l) (tree-is T σ (S .fields)) in
+    stmt-words s (λ q. p (omega arith) (omega arith)) T σ
+    ∙ ap (λ (i : ℕ). getD ws at 0 ∷ wordsT (resolveTree T i nowhere (S .fields))) (inside-other σ (S .kind) (first (S .fields)) a b)
+    ∙ ap (λ (l : List ℕ). getD ws at 0 ∷ l) (tree-is T σ (S .fields)) in
     record {
       left = treeItem (S .fields) ∷ S .rest;
       there = S .there;

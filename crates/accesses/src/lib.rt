@@ -61,13 +61,7 @@ fn call(
     if lookup::has(rows, count, 135, f, 0) {
         return resolver::resolve_expr(words, rows, count, scope, out, at, to);
     }
-    three(
-        words,
-        out,
-        at,
-        to,
-        resolver::head(rows, count, scope, f),
-    )
+    three(words, out, at, to, resolver::head(rows, count, scope, f))
 }
 
 // A CALL, in the same way: it never turns into an element.

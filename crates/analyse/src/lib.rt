@@ -39,7 +39,19 @@ fn tables(
     ensures { λ r. ⌜ Tabled (now (bytes .entry)) (now (ends .entry)) (now (erased .entry)) (now (words .entry)) r (now (rows .entry)) (now (notes .entry)) (now (rows .exit)) (now (notes .exit)) ⌝ }
 {
     let s = steps::begin(rows, notes);
-    let m = collecting::statements(words, names, bytes, ends, erased, rows, notes, s, 0, 0, memo);
+    let m = collecting::statements(
+        words,
+        names,
+        bytes,
+        ends,
+        erased,
+        rows,
+        notes,
+        s,
+        0,
+        0,
+        memo,
+    );
     let c = m.counts;
     let d = collisions::collisions(bytes, ends, rows, notes, c);
     steps::finish(rows, notes, d)
@@ -113,7 +125,17 @@ fn checked(
     ensures { λ r. ⌜ Tells r (now (notes .entry)) (now (rows .entry)) (now (out .entry)) (now (notes .exit)) (now (rows .exit)) (now (out .exit)) (work (length (now (rows .entry))) (length (now (notes .entry))) (length (now (out .entry))) (now (bytes .entry)) (now (ends .entry)) (now (erased .entry)) (now (words .entry))) ⌝ }
 {
     let mut memo = [0u32; 128];
-    noted(words, names, bytes, ends, erased, notes, rows, out, &mut memo)
+    noted(
+        words,
+        names,
+        bytes,
+        ends,
+        erased,
+        notes,
+        rows,
+        out,
+        &mut memo,
+    )
 }
 
 // A refusal leaves the buffers as they came, but for 7, 8 and 9, which leave rows and diagnostics zero.

@@ -97,7 +97,20 @@ fn scan(
                 let e = tree::past(words, names, ends.len() as u32, memo, at);
                 let inner = plans::inside(words, at, scope);
                 t = procedure(words, names, bytes, ends, b, d, t, scope, at, e);
-                t = scan(words, names, bytes, ends, erased, b, d, t, inner, at + 1, e, memo);
+                t = scan(
+                    words,
+                    names,
+                    bytes,
+                    ends,
+                    erased,
+                    b,
+                    d,
+                    t,
+                    inner,
+                    at + 1,
+                    e,
+                    memo,
+                );
                 at = e;
             }
             64..=93 => {
@@ -128,6 +141,19 @@ pub fn statements(
     ensures { λ r. ⌜ Collects (now (words .entry)) (now (names .entry)) (now (bytes .entry)) (now (ends .entry)) (now (erased .entry)) scope at (r .next) s (r .counts) (now (b .entry)) (now (d .entry)) (now (b .exit)) (now (d .exit)) ⌝ }
 {
     let n = words.len();
-    let c = scan(words, names, bytes, ends, erased, b, d, s, scope, at, n, memo);
+    let c = scan(
+        words,
+        names,
+        bytes,
+        ends,
+        erased,
+        b,
+        d,
+        s,
+        scope,
+        at,
+        n,
+        memo,
+    );
     Moved { counts: c, next: n }
 }

@@ -23,6 +23,9 @@ run-requires c κs = (passed (c .before .before .before .before .before .before 
 returns-2 : tie.Need-returns-2
 returns-2 c = not-accepted (c .before .before .before .before .before .before .before .before .before .before .before .before .before .before .before .before .args .bytes .now) (c .before .before .before .before .before .before .before .before .before .before .before .before .before .before .before .before .args .ends .now) (c .before .before .before .before .before .before .before .before .before .before .before .before .before .before .before .before .args .erased .now) (c .before .before .before .before .before .before .before .before .before .before .before .before .before .before .before .before .args .words .now) (c .before .before .before .before .before .before .before .before .before .before .before .before .before .before .before .before .args .notes .now) (c .before .before .before .before .before .before .before .before .before .before .before .before .before .before .before .before .args .rows .now) (c .before .before .before .before .before .before .before .before .before .before .before .before .before .before .before .before .args .out .now) (not-passed (c .before .before .before .before .before .before .before .before .before .before .before .before .before .before .before .before .args .erased .now) (c .before .before .before .before .before .before .before .before .before .before .before .before .before .before .before .before .args .words .now) (c .before .before .before .before .before .before .before .before .before .before .before .before .before .before .before .before .pre .0) (c .before .before .before .before .before .check-program-with .ensures .0) (c .before .f .given .1))
 
+returns-3 : tie.Need-returns-3
+returns-3 c = search needs
+
 same-length : tie.Need-same-length
 same-length c = search needs
 
@@ -32,8 +35,14 @@ same-length-2 c = search needs
 same-length-3 : tie.Need-same-length-3
 same-length-3 c = search needs
 
-returns-3 : tie.Need-returns-3
-returns-3 c = search needs
+same-length-4 : tie.Need-same-length-4
+same-length-4 c = search needs
+
+same-length-5 : tie.Need-same-length-5
+same-length-5 c = search needs
+
+same-length-6 : tie.Need-same-length-6
+same-length-6 c = search needs
 
 pub noted-spec : {M : Type 1} → statement M
 noted-spec =
@@ -42,10 +51,13 @@ noted-spec =
     check-program-with-requires
     enum-known-f
     enum-told
+    same-length
     returns
     run-requires
-    returns-2
-    same-length
     same-length-2
+    returns-2
     same-length-3
+    same-length-4
+    same-length-5
+    same-length-6
     returns-3)

@@ -18,10 +18,9 @@ use Rattle.tree.specs.Sorts.{Sort, expr, stmt, many, group, opt, Sorts, 
 use Rattle.tree.specs.Tree.{strings}
 use Rattle.tree.specs.Codes.{partCodes, stmtCodes, codes, pack, parts, allRows, rowOf, sortAt, unpack, sortsOf, unpacked}
 use Rattle.tree.specs.Reader.{wordAt, rowsAt, fieldAt, rowAt, stmtAt, programAt}
-use Rattle.tree.specs.Frames.{toldOf, restOf, againOf, fieldStep, frameAt, Goes, past, into, refused, deep as low, Turned, goes, same}
+use Rattle.tree.specs.Frames.{Past, Into, Refused, TooDeep, toldOf, restOf, againOf, fieldStep, frameAt, Goes, past, into, refused, deep as low, Turned, goes, same}
 use Rattle.tree.specs.declared.Frame.{Frame}
 use Rattle.tree.specs.declared.Turn.{Turn}
-use Rattle.tree.specs.declared.Turn.the-variants.{Past, Into, Refused, TooDeep}
 use Rattle.tree.proofs.Steps.{then-read, is-1, is-9, is-10, row-none, row-more, row-one, rows-none, rows-more, expr-arm, leaf-arm, stmt-arm, many-go}
 
 -- ---- fields in one number
@@ -177,6 +176,10 @@ module _ (ws ns : List ℕ) (n : ℕ) where
   told-goes {at} (Read c) {S} e q = subst (λ (x : Turn). Goes ws ns n at S x) (sym q) (past (sym e))
   told-goes {at} (Wrong p) {S} e q = subst (λ (x : Turn). Goes ws ns n at S x) (sym q) (refused (sym e))
   told-goes {at} (Deep p) {S} e q = subst (λ (x : Turn). Goes ws ns n at S x) (sym q) (low (sym e))
+
+  -- by what a function answers
+  pub goes-by : {at : ℕ} {s : Step} {t u : Turn} → t ≡ u → Goes ws ns n at s u → Goes ws ns n at s t
+  goes-by {at} {s} e h = subst (λ (x : Turn). Goes ws ns n at s x) (sym e) h
 
   -- an answer that goes on, where the one before it stopped at a place
   pub goes-same : {at : ℕ} {s S : Step} {t : Turn} → S ≡ s → Goes ws ns n at s t → Goes ws ns n at S t

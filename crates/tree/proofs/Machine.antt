@@ -8,8 +8,9 @@ use native.Mathlib.Omega.{arith}
 use native.Mathlib.Nat.{le-trans}
 use lib.ListN.{length, getD, set}
 use lib.Seq.{getD-set-same, getD-set-other}
-use lib.Dec.{ltb}
-use borrow.Author.Tests.{lt-ltb, ltb-true, ltb-false}
+use lib.Dec.{ltb, eqb}
+use Rattle.words.specs.Word.{pick}
+use borrow.Author.Tests.{lt-ltb, ltb-true, ltb-false, eq-eqb, ne-eqb}
 use types.Run.{OneOf}
 use denote.Enum.Declared.{tagOf}
 use Rattle.expr.proofs.Step.{the-type}
@@ -20,10 +21,9 @@ use Rattle.expr.specs.declared.Step.the-variants.{Read, Wrong, Deep}
 use Rattle.expr.proofs.Steps.{halt}
 use Rattle.tree.specs.Sorts.{Sort, never, group, opt, Sorts, nil, _&_}
 use Rattle.tree.specs.Codes.{codes, pack, rowOf, singles, sortAt, unpack, sortsOf}
-use Rattle.tree.specs.Frames.{restOf, againOf, Opens, over, more, fieldStep, frameAt, Goes, past, into, refused, deep as low, Turned, goes, same}
+use Rattle.tree.specs.Frames.{failedOf, restOf, againOf, Opens, over, more, fieldStep, frameAt, Goes, past, into, refused, deep as low, Turned, goes, same}
 use Rattle.tree.specs.declared.Frame.{Frame}
 use Rattle.tree.specs.declared.Turn.{Turn}
-use Rattle.tree.specs.declared.Turn.the-variants.{Past, Into, Refused, TooDeep}
 use Rattle.tree.proofs.Steps.{then-read, and-left, and-right, sizeS, sizeR, size-none, size-pos, size-cons, size-many, size-group, size-opt, small-row, sort-opt, sort-many, sort-group}
 use Rattle.tree.proofs.Sound.{field-after}
 use Rattle.tree.proofs.Frames.{sorts-next, sorts-none, sorts-packed, then-then, then-same, frame-end, frame-again, frame-next}
@@ -115,24 +115,53 @@ unfolding total
 total-same g h zero e = refl
 total-same g h (suc i) e = let q : sizeF (g i) ≡ sizeF (h i) = ap sizeF (e i (omega arith)) in omega (arith, q, total-same g h i (λ j z. e j (omega (arith, z))))
 
--- ---- what a turn that enters a frame says
+-- ---- what a turn says, by its kind
 
-pub into-is : {ws ns : List ℕ} {n left at m : ℕ} {s : Sort} {f : Frame} → Turned ws ns n left at s (Into m f) → fieldStep ws ns n left s at ≡ frameAt ws ns n f m
-into-is (goes (into e a b c d)) = e
-into-is (same k e) = e
+pub past-is : {ws ns : List ℕ} {n left at : ℕ} {s : Sort} {t : Turn} → t .kind ≡ 0 → Turned ws ns n left at s t → fieldStep ws ns n left s at ≡ Read (record { at = t .at })
+past-is k (goes (past e)) = e
+past-is k (goes (into e a b c d)) = absurd (omega arith)
+past-is k (goes (refused e)) = absurd (omega arith)
+past-is k (goes (low e)) = absurd (omega arith)
+past-is k (same r e) = absurd (omega arith)
 
-pub into-less : {ws ns : List ℕ} {n left at m : ℕ} {s : Sort} {f : Frame} → Turned ws ns n left at s (Into m f) → (length ws - m) * 1099511627776 + sizeF f ≤ (length ws - at) * 1099511627776 + sizeS s
-into-less {f = f} (goes (into e a b c d)) = omega (arith, frame-small f c d)
-into-less {left = left} {at = at} {s = s} (same {r} k e) = omega (arith, size-same s r left k)
+pub into-is : {ws ns : List ℕ} {n left at : ℕ} {s : Sort} {t : Turn} → t .kind ≡ 1 → Turned ws ns n left at s t → fieldStep ws ns n left s at ≡ frameAt ws ns n (t .frame) (t .at)
+into-is k (goes (past e)) = absurd (omega arith)
+into-is k (goes (into e a b c d)) = e
+into-is k (goes (refused e)) = absurd (omega arith)
+into-is k (goes (low e)) = absurd (omega arith)
+into-is k (same r e) = e
 
-pub past-is : {ws ns : List ℕ} {n left at m : ℕ} {s : Sort} → Turned ws ns n left at s (Past m) → fieldStep ws ns n left s at ≡ Read (record { at = m })
-past-is (goes (past e)) = e
+pub into-less : {ws ns : List ℕ} {n left at : ℕ} {s : Sort} {t : Turn} → t .kind ≡ 1 → Turned ws ns n left at s t → (length ws - t .at) * 1099511627776 + sizeF (t .frame) ≤ (length ws - at) * 1099511627776 + sizeS s
+into-less k (goes (past e)) = absurd (omega arith)
+into-less k (goes (into {m} {f} e a b c d)) = omega (arith, frame-small f c d)
+into-less k (goes (refused e)) = absurd (omega arith)
+into-less k (goes (low e)) = absurd (omega arith)
+into-less {left = left} {at = at} {s = s} k (same {r} q e) = omega (arith, size-same s r left q)
 
-pub refused-is : {ws ns : List ℕ} {n left at p : ℕ} {s : Sort} → Turned ws ns n left at s (Refused p) → fieldStep ws ns n left s at ≡ Wrong p
-refused-is (goes (refused e)) = e
+failed-is : {ws ns : List ℕ} {n left at : ℕ} {s : Sort} {t : Turn} → (t .kind ≡ 0 → ⊥) → (t .kind ≡ 1 → ⊥) → Turned ws ns n left at s t → fieldStep ws ns n left s at ≡ failedOf t
+unfolding failedOf
+failed-is j k (goes (past e)) = absurd (j refl)
+failed-is j k (goes (into e a b c d)) = absurd (k refl)
+failed-is j k (goes (refused e)) = e
+failed-is j k (goes (low e)) = e
+failed-is j k (same r e) = absurd (k refl)
 
-pub deep-is : {ws ns : List ℕ} {n left at p : ℕ} {s : Sort} → Turned ws ns n left at s (TooDeep p) → fieldStep ws ns n left s at ≡ Deep p
-deep-is (goes (low e)) = e
+pub failed-2 : (t : Turn) → t .kind ≡ 2 → Wrong (t .at) ≡ failedOf t
+unfolding failedOf
+failed-2 t k = simp (eq-eqb (t .kind) 2 k) refl
+
+pub failed-3 : (t : Turn) → (t .kind ≡ 2 → ⊥) → Deep (t .at) ≡ failedOf t
+unfolding failedOf
+failed-3 t k = simp (ne-eqb (t .kind) 2 k) refl
+
+-- nothing is read after it
+then-failed : (t : Turn) (f : ℕ → Step) → then (failedOf t) f ≡ failedOf t
+unfolding then failedOf
+then-failed t f = go (eqb (t .kind) 2)
+  where
+    go : (b : Bool) → then (pick b (Wrong (t .at)) (Deep (t .at))) f ≡ pick b (Wrong (t .at)) (Deep (t .at))
+    go true = refl
+    go false = refl
 
 -- ---- the stack, by its top
 
@@ -225,13 +254,8 @@ module _ (ws ns : List ℕ) (n : ℕ) where
           less = omega (arith, size-next f z, field-after ws ns n (f .left) (sortAt (f .fields % 256)) at e);
         }
 
-    pub stops-wrong : {p : ℕ} → (f .fields ≡ 0 → ⊥) → fieldStep ws ns n (f .left) (sortAt (f .fields % 256)) at ≡ Wrong p → whole g sp f at ≡ Wrong p
-    unfolding then
-    stops-wrong z e = next-field z ∙ ap (λ (s : Step). then s (λ m. whole g sp (restOf f) m)) e
-
-    pub stops-deep : {p : ℕ} → (f .fields ≡ 0 → ⊥) → fieldStep ws ns n (f .left) (sortAt (f .fields % 256)) at ≡ Deep p → whole g sp f at ≡ Deep p
-    unfolding then
-    stops-deep z e = next-field z ∙ ap (λ (s : Step). then s (λ m. whole g sp (restOf f) m)) e
+    pub stops : {t : Turn} → (f .fields ≡ 0 → ⊥) → (t .kind ≡ 0 → ⊥) → (t .kind ≡ 1 → ⊥) → Turned ws ns n (f .left) at (sortAt (f .fields % 256)) t → whole g sp f at ≡ failedOf t
+    stops {t} z j k h = next-field z ∙ ap (λ (s : Step). then s (λ m. whole g sp (restOf f) m)) (failed-is j k h) ∙ then-failed t _
 
     -- a frame that was read by a call
     pub stops-inner : {s : Step} → (f .fields ≡ 0 → ⊥) → s ≡ fieldStep ws ns n (f .left) (sortAt (f .fields % 256)) at → OneOf (1 ∷ 2 ∷ []) (tagOf the-type s) → s ≡ whole g sp f at
@@ -268,19 +292,16 @@ module _ (ws ns : List ℕ) (n : ℕ) where
   lighter h x = x .less
 
   -- a frame is entered: the list with the rest of the one in hand put on top
-  pub push : (st : List Frame) {sp at m o : ℕ} {f f′ r : Frame} → length st ≡ 32 → sp < 32 → (f .fields ≡ 0 → ⊥) → Turned ws ns n (f .left) at (sortAt (f .fields % 256)) (Into m f′) → r ≡ restOf f → Opens r o → Next (onStack st) sp f at (onStack (set st sp r)) (sp + o) f′ m
-  push st {sp} {at} {m} {o} {f} {f′} {r} l h z t q p =
-      goes-into (onStack st) sp f at (onStack (set st sp r)) r o m f′ z (into-is t) (into-less t) q p
-      (λ i k. getD-set-other st sp i r _ (λ e. omega (arith, e, k)))
+  pub push : (st : List Frame) {sp at o : ℕ} {f r : Frame} {t : Turn} → length st ≡ 32 → sp < 32 → (f .fields ≡ 0 → ⊥) → t .kind ≡ 1 → Turned ws ns n (f .left) at (sortAt (f .fields % 256)) t → r ≡ restOf f → Opens r o → Next (onStack st) sp f at (onStack (set st sp r)) (sp + o) (t .frame) (t .at)
+  push st {sp} {at} {o} {f} {r} {t} l h z k x q p =
+      goes-into (onStack st) sp f at (onStack (set st sp r)) r o (t .at) (t .frame) z (into-is k x) (into-less k x) q p
+      (λ i j. getD-set-other st sp i r _ (λ e. omega (arith, e, j)))
       (getD-set-same st sp r _ (omega arith))
 
   -- what a frame that is entered weighs, beside what was asked at first
-  pub inner-less : {f₀ f f′ : Frame} {at₀ sp at m : ℕ} {st : List Frame} → Held f₀ at₀ st sp at f → (f .fields ≡ 0 → ⊥) → Turned ws ns n (f .left) at (sortAt (f .fields % 256)) (Into m f′) → (length ws - m) * 1099511627776 + sizeF f′ < (length ws - at₀) * 1099511627776 + sizeF f₀
-  inner-less {f₀} {f} h z t = omega (arith, h .light, into-less t, size-next f z)
+  pub inner-less : {f₀ f : Frame} {at₀ sp at : ℕ} {st : List Frame} {t : Turn} → Held f₀ at₀ st sp at f → (f .fields ≡ 0 → ⊥) → t .kind ≡ 1 → Turned ws ns n (f .left) at (sortAt (f .fields % 256)) t → (length ws - t .at) * 1099511627776 + sizeF (t .frame) < (length ws - at₀) * 1099511627776 + sizeF f₀
+  inner-less {f₀} {f} h z k x = omega (arith, h .light, into-less k x, size-next f z)
 
 pub opens-small : {f : Frame} {o : ℕ} → Opens f o → o ≤ 1
 opens-small (over z e) = omega arith
 opens-small more = omega arith
-
-pub as-turn : {ws ns : List ℕ} {n left at : ℕ} {s : Sort} {t u : Turn} → t ≡ u → Turned ws ns n left at s t → Turned ws ns n left at s u
-as-turn {ws} {ns} {n} {left} {at} {s} e x = subst (λ (y : Turn). Turned ws ns n left at s y) e x

@@ -4,6 +4,8 @@ use mathlib.Core.Path.{_≡_}
 use mathlib.Core.Logic.{_⊎_}
 use mathlib.Core.List.{List}
 use lib.ListN.{length}
+use lib.Dec.{eqb}
+use Rattle.words.specs.Word.{pick}
 use Rattle.expr.specs.Reader.{exprAt}
 use Rattle.expr.specs.Answer.{stepOf, then}
 use Rattle.expr.specs.declared.Cursor.{Cursor}
@@ -15,7 +17,27 @@ use Rattle.tree.specs.Codes.{codes, pack, rowOf, sortsOf}
 use Rattle.tree.specs.Reader.{rowsAt, fieldAt, rowAt, stmtAt}
 use Rattle.tree.specs.declared.Frame.{Frame}
 use Rattle.tree.specs.declared.Turn.{Turn}
-use Rattle.tree.specs.declared.Turn.the-variants.{Past, Into, Refused, TooDeep}
+
+-- a turn with no frame
+abbrev pub bareOf : ℕ → ℕ → Turn
+bareOf kind at = record { kind = kind; at = at; frame = record { fields = 0; row = 0; times = 0; left = 0 } }
+
+-- past the whole field; from a place on a frame is left of it; the first wrong word; a head that stands too deep
+abbrev pub Past : ℕ → Turn
+Past m = bareOf 0 m
+
+abbrev pub Into : ℕ → Frame → Turn
+Into m f = record { kind = 1; at = m; frame = f }
+
+abbrev pub Refused : ℕ → Turn
+Refused p = bareOf 2 p
+
+abbrev pub TooDeep : ℕ → Turn
+TooDeep p = bareOf 3 p
+
+-- the answer of the last two
+unfoldable pub failedOf : Turn → Step
+failedOf t = pick (eqb (t .kind) 2) (Wrong (t .at)) (Deep (t .at))
 
 -- a whole field's answer as a turn
 unfoldable pub toldOf : Step → Turn

@@ -11,7 +11,7 @@ ghost use Rattle.tree.specs.Tree.{between, strings};
 ghost use Rattle.tree.specs.Codes.{partCodes, stmtCodes, codes, joined, pack, sortAt, rowOf, chain, allRows};
 ghost use Rattle.tree.specs.Reader.{wordAt, neverAt, fieldAt, stmtAt, programAt};
 ghost use Rattle.tree.specs.Memo.{Recalled, Remembered, Noted, Keeps, Past};
-ghost use Rattle.tree.specs.Frames.{toldOf, fieldStep, frameAt, Goes, Turned, restOf, againOf, Opens};
+ghost use Rattle.tree.specs.Frames.{bareOf, toldOf, failedOf, fieldStep, frameAt, Goes, Turned, restOf, againOf, Opens};
 ghost use Rattle.expr.specs.Reader.{leafAt, nameAt, listAt, bodyAt, exprAt};
 ghost use Rattle.expr.specs.Answer.{stepOf, then};
 
@@ -24,16 +24,12 @@ struct Frame {
     left: usize,
 }
 
-// What reading a field's own words tells.
-enum Turn {
-    // past the whole field
-    Past(usize),
-    // from this place on, this is left of it
-    Into(usize, Frame),
-    // the first wrong word
-    Refused(usize),
-    // a right head that stands too deep
-    TooDeep(usize),
+// What reading a field's own words tells: 0, past the whole field, at a place; 1, from a place on a frame is left of it; 2, the
+// first wrong word; 3, a right head that stands too deep. It is no enum, so that its numbers stay in registers.
+struct Turn {
+    kind: u8,
+    at: usize,
+    frame: Frame,
 }
 
 const FIELDS: [[u8; 6]; 54] = [
@@ -362,14 +358,40 @@ fn type_ref(c: Cursor, words: &[u32], names: &[u8], n: u32, left: usize) -> Step
     }
 }
 
+// a turn with no frame
+fn bare(kind: u8, at: usize) -> Turn
+    ensures { λ r. ⌜ r ≡ bareOf kind at ⌝ }
+{
+    Turn {
+        kind,
+        at,
+        frame: Frame {
+            fields: 0,
+            row: 0,
+            times: 0,
+            left: 0,
+        },
+    }
+}
+
+// the answer that a turn of kind 2 or 3 is
+fn failed(t: Turn) -> Step
+    ensures { λ r. ⌜ r ≡ failedOf t ⌝ }
+{
+    if t.kind == 2 {
+        return Step::Wrong(t.at);
+    }
+    Step::Deep(t.at)
+}
+
 // a whole field's answer as a turn
 fn told(s: Step) -> Turn
     ensures { λ r. ⌜ r ≡ toldOf s ⌝ }
 {
     match s {
-        Step::Read(c) => Turn::Past(c.at),
-        Step::Wrong(p) => Turn::Refused(p),
-        Step::Deep(p) => Turn::TooDeep(p),
+        Step::Read(c) => bare(0, c.at),
+        Step::Wrong(p) => bare(2, p),
+        Step::Deep(p) => bare(3, p),
     }
 }
 
@@ -383,15 +405,16 @@ fn list(c: Cursor, words: &[u32], left: usize, row: usize) -> Turn
         return told(s);
     };
     let times = words[at] % 16777216;
-    Turn::Into(
-        d.at,
-        Frame {
+    Turn {
+        kind: 1,
+        at: d.at,
+        frame: Frame {
             fields: 0,
             row,
             times,
             left,
         },
-    )
+    }
 }
 
 // the name of a call or of an array, and the count of what it is given
@@ -414,15 +437,16 @@ fn operator(c: Cursor, words: &[u32], left: usize, below: u32, fields: u64) -> T
     let Step::Read(d) = s else {
         return told(s);
     };
-    Turn::Into(
-        d.at,
-        Frame {
+    Turn {
+        kind: 1,
+        at: d.at,
+        frame: Frame {
             fields,
             row: 0,
             times: 0,
             left,
         },
-    )
+    }
 }
 
 // an expression, past its head of the kind k: what stands before the expressions in it
@@ -444,9 +468,17 @@ fn value(c: Cursor, words: &[u32], names: &[u8], n: u32, left: usize, k: u32) ->
         20 => operator(c, words, left, 18, 2313),
         22 => {
             f.fields = 265;
-            Turn::Into(c.at, f)
+            Turn {
+                kind: 1,
+                at: c.at,
+                frame: f,
+            }
         }
-        _ => Turn::Into(c.at, f),
+        _ => Turn {
+            kind: 1,
+            at: c.at,
+            frame: f,
+        },
     }
 }
 
@@ -460,7 +492,7 @@ fn expression(c: Cursor, words: &[u32], names: &[u8], n: u32, left: usize) -> Tu
         return told(s);
     };
     if left == 0 {
-        return Turn::TooDeep(at);
+        return bare(3, at);
     }
     let k = words[at] / 16777216;
     value(d, words, names, n, left - 1, k)
@@ -472,17 +504,21 @@ fn statement(c: Cursor, words: &[u32], left: usize) -> Turn
 {
     let at = c.at;
     if words.len() <= at {
-        return Turn::Refused(words.len());
+        return bare(2, words.len());
     }
     let k = words[at] / 16777216;
     match k {
         64..=117 => {
             if left == 0 {
-                return Turn::TooDeep(at);
+                return bare(3, at);
             }
-            Turn::Into(at + 1, one_row((k - 64) as usize + 39, left - 1))
+            Turn {
+                kind: 1,
+                at: at + 1,
+                frame: one_row((k - 64) as usize + 39, left - 1),
+            }
         }
-        _ => Turn::Refused(at),
+        _ => bare(2, at),
     }
 }
 
@@ -505,22 +541,26 @@ fn choice(c: Cursor, words: &[u32], left: usize, first: u32, count: u32, r: usiz
 {
     let at = c.at;
     if words.len() <= at {
-        return Turn::Refused(words.len());
+        return bare(2, words.len());
     }
     let w = words[at];
     let k = w / 16777216;
     let p = w % 16777216;
     if p != 0 {
-        return Turn::Refused(at);
+        return bare(2, at);
     }
     if k < first {
-        return Turn::Refused(at);
+        return bare(2, at);
     }
     let i = k - first;
     if i < count {
-        return Turn::Into(at + 1, one_row(r + i as usize, left));
+        return Turn {
+            kind: 1,
+            at: at + 1,
+            frame: one_row(r + i as usize, left),
+        };
     }
-    Turn::Refused(at)
+    bare(2, at)
 }
 
 // the word 0, or a row that is left
@@ -529,12 +569,20 @@ fn optional(c: Cursor, words: &[u32], left: usize, row: usize) -> Turn
 {
     let at = c.at;
     if words.len() <= at {
-        return Turn::Into(at, one_row(row, left));
+        return Turn {
+            kind: 1,
+            at: at,
+            frame: one_row(row, left),
+        };
     }
     if words[at] == 0 {
-        return Turn::Past(at + 1);
+        return bare(0, at + 1);
     }
-    Turn::Into(at, one_row(row, left))
+    Turn {
+        kind: 1,
+        at: at,
+        frame: one_row(row, left),
+    }
 }
 
 // the own words of a field of a sort, with so many levels left for what stands in it
@@ -560,7 +608,11 @@ fn look(c: Cursor, words: &[u32], names: &[u8], n: u32, left: usize, sort: u8) -
         15 => choice(c, words, left, 52, 3, 36),
         16..=63 => optional(c, words, left, sort as usize - 16),
         64..=111 => list(c, words, left, sort as usize - 64),
-        _ => Turn::Into(c.at, one_row(sort as usize - 112, left)),
+        _ => Turn {
+            kind: 1,
+            at: c.at,
+            frame: one_row(sort as usize - 112, left),
+        },
     }
 }
 
@@ -641,30 +693,26 @@ fn run(words: &[u32], names: &[u8], n: u32, f: Frame, from: usize, memo: &mut [u
         let sort = (cur.fields % 256) as u8;
         let t = look(Cursor { at }, words, names, n, cur.left, sort);
         cur = rest(cur);
-        match t {
-            Turn::Past(m) => {
-                at = m;
-                continue;
-            }
-            Turn::Into(m, g) => {
-                if sp < room(sort, g.row) {
-                    stack[sp] = cur;
-                    sp += remains(cur);
-                    at = m;
-                    cur = g;
-                    continue;
-                }
-                let s = run(words, names, n, g, m, memo);
-                let Step::Read(d) = s else {
-                    return s;
-                };
-                note(memo, sort, at, d.at);
-                at = d.at;
-                continue;
-            }
-            Turn::Refused(p) => return Step::Wrong(p),
-            Turn::TooDeep(p) => return Step::Deep(p),
+        if t.kind == 0 {
+            at = t.at;
+            continue;
         }
+        if t.kind != 1 {
+            return failed(t);
+        }
+        if sp < room(sort, t.frame.row) {
+            stack[sp] = cur;
+            sp += remains(cur);
+            at = t.at;
+            cur = t.frame;
+            continue;
+        }
+        let s = run(words, names, n, t.frame, t.at, memo);
+        let Step::Read(d) = s else {
+            return s;
+        };
+        note(memo, sort, at, d.at);
+        at = d.at;
     }
 }
 

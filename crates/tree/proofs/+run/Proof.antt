@@ -6,7 +6,7 @@ use borrow.Author.Needs.{needs}
 use lib.ListN.{length, length-set}
 use denote.Ref.{now}
 use Rattle.tree.proofs.Steps.{pos}
-use Rattle.tree.proofs.Machine.{sizeF, onStack, weight, Held, ends, goes-again, goes-up, goes-past, stops-wrong, stops-deep, stops-inner, next-frame, held-first, held-next, lighter, push, inner-less, opens-small, as-turn, past-is, into-is, refused-is, deep-is}
+use Rattle.tree.proofs.Machine.{sizeF, onStack, weight, Held, ends, goes-again, goes-up, goes-past, stops, stops-inner, next-frame, held-first, held-next, lighter, push, inner-less, opens-small, past-is, into-is}
 use Rattle.tree.proofs.Memo.{Memo, memo-first, field-ends, keeps-then, keeps-noted}
 use borrow.Fn.Kinds.{In}
 use borrow.Fn.PlainCycle.{Measures, is, falls, and}
@@ -14,6 +14,7 @@ use Rattle.tree.proofs.run.Reads as run
 use Rattle.tree.proofs.run.Kinds as run-kinds
 use Rattle.tree.proofs.+run.Lts-run as run-lts
 use Rattle.tree.proofs.again.Reads as again-reads
+use Rattle.tree.proofs.failed.Reads as failed-reads
 use Rattle.tree.proofs.look.Reads as look-reads
 use Rattle.tree.proofs.note.Reads as note-reads
 use Rattle.tree.proofs.remains.Reads as remains-reads
@@ -33,7 +34,7 @@ run-below t = and 3 run-kinds.ps (falls 3 run-kinds.ps _<_ μ-run t) run.Pre
 
 -- what it may take of the functions that it calls
 abbrev K : ℕ → run-lts.Claims
-K t = (again-reads.Asked, again-reads.Learnt, look-reads.Asked, look-reads.Learnt, rest-reads.Asked, rest-reads.Learnt, room-reads.Asked, room-reads.Learnt, remains-reads.Asked, remains-reads.Learnt, run-below t, run.Post, note-reads.Asked, note-reads.Learnt)
+K t = (again-reads.Asked, again-reads.Learnt, look-reads.Asked, look-reads.Learnt, rest-reads.Asked, rest-reads.Learnt, failed-reads.Asked, failed-reads.Learnt, room-reads.Asked, room-reads.Learnt, remains-reads.Asked, remains-reads.Learnt, run-below t, run.Post, note-reads.Asked, note-reads.Learnt)
 
 abbrev run-Inv-loop : run-lts.InvT-loop
 run-Inv-loop words names n from memo₀ stack₀ sp₀ at₀ cur₀ memo stack sp at cur = Held words names n cur₀ at₀ stack sp at cur × Memo words names n memo₀ memo
@@ -84,77 +85,62 @@ module _ (t : ℕ) where
   run-rest-requires : run-lts.Need-rest-requires (K t) (run-at t) run.Post run-Inv-loop run-μ-loop
   run-rest-requires c κs = search needs
 
-  run-enum-known-t : run-lts.Need-enum-known-t (K t) (run-at t) run.Post run-Inv-loop run-μ-loop
-  run-enum-known-t c = search needs
-
   run-loop-less-3 : run-lts.Need-loop-less-3 (K t) (run-at t) run.Post run-Inv-loop run-μ-loop
-  run-loop-less-3 c = lighter _ _ _ (c .before .before .before .before .before .before .before .before .loop .inv .0) (next-frame _ _ _ (c .before .before .before .rest .ensures) (goes-past _ _ _ _ _ _ _ (c .before .before .before .before .before .before .if1 .left) (past-is (as-turn (c .before .t .given .1) (c .before .before .before .before .look .ensures)))))
+  run-loop-less-3 c = lighter _ _ _ (c .before .before .before .before .before .before .before .loop .inv .0) (next-frame _ _ _ (c .before .before .rest .ensures) (goes-past _ _ _ _ _ _ _ (c .before .before .before .before .before .if1 .left) (past-is (c .if4 .taken) (c .before .before .before .look .ensures))))
 
   run-loop-again-3 : run-lts.Need-loop-again-3 (K t) (run-at t) run.Post run-Inv-loop run-μ-loop
-  run-loop-again-3 c = (held-next _ _ _ (c .before .before .before .before .before .before .before .before .loop .inv .0) (next-frame _ _ _ (c .before .before .before .rest .ensures) (goes-past _ _ _ _ _ _ _ (c .before .before .before .before .before .before .if1 .left) (past-is (as-turn (c .before .t .given .1) (c .before .before .before .before .look .ensures))))) (c .before .before .before .before .before .before .before .before .loop .inv .0 .room) (c .before .before .before .before .before .before .before .before .loop .inv .0 .long), c .before .before .before .before .before .before .before .before .loop .inv .1)
+  run-loop-again-3 c = (held-next _ _ _ (c .before .before .before .before .before .before .before .loop .inv .0) (next-frame _ _ _ (c .before .before .rest .ensures) (goes-past _ _ _ _ _ _ _ (c .before .before .before .before .before .if1 .left) (past-is (c .if4 .taken) (c .before .before .before .look .ensures)))) (c .before .before .before .before .before .before .before .loop .inv .0 .room) (c .before .before .before .before .before .before .before .loop .inv .0 .long), c .before .before .before .before .before .before .before .loop .inv .1)
 
-  run-enum-known-t-2 : run-lts.Need-enum-known-t-2 (K t) (run-at t) run.Post run-Inv-loop run-μ-loop
-  run-enum-known-t-2 c = search needs
+  run-failed-requires : run-lts.Need-failed-requires (K t) (run-at t) run.Post run-Inv-loop run-μ-loop
+  run-failed-requires c κs = search needs
+
+  run-same-length-2 : run-lts.Need-same-length-2 (K t) (run-at t) run.Post run-Inv-loop run-μ-loop
+  run-same-length-2 c = c .before .before .before .before .before .before .before .before .before .before .loop .inv .1 .same
+
+  run-returns-2 : run-lts.Need-returns-2 (K t) (run-at t) run.Post run-Inv-loop run-μ-loop
+  run-returns-2 c = (c .failed .ensures ∙ sym (c .before .before .before .before .before .before .before .before .before .before .loop .inv .0 .is ∙ stops _ _ _ _ _ _ _ (c .before .before .before .before .before .before .before .before .if1 .left) (c .before .before .before .if4 .left) (c .before .if5 .taken) (c .before .before .before .before .before .before .look .ensures)), c .before .before .before .before .before .before .before .before .before .before .loop .inv .1 .keeps)
 
   run-room-requires : run-lts.Need-room-requires (K t) (run-at t) run.Post run-Inv-loop run-μ-loop
   run-room-requires c κs = search needs
 
   run-mul-stack : run-lts.Need-mul-stack (K t) (run-at t) run.Post run-Inv-loop run-μ-loop
-  run-mul-stack c = omega (arith, c .if4 .taken, c .before .room .ensures)
+  run-mul-stack c = omega (arith, c .if6 .taken, c .before .room .ensures)
 
   run-array-set-from-stack : run-lts.Need-array-set-from-stack (K t) (run-at t) run.Post run-Inv-loop run-μ-loop
-  run-array-set-from-stack c = omega (arith, c .if4 .taken, c .before .room .ensures)
+  run-array-set-from-stack c = omega (arith, c .if6 .taken, c .before .room .ensures)
 
   run-remains-requires : run-lts.Need-remains-requires (K t) (run-at t) run.Post run-Inv-loop run-μ-loop
   run-remains-requires c κs = search needs
 
   run-add-sp : run-lts.Need-add-sp (K t) (run-at t) run.Post run-Inv-loop run-μ-loop
-  run-add-sp c = omega (arith, opens-small (c .remains .ensures), c .before .if4 .taken, c .before .before .room .ensures)
+  run-add-sp c = omega (arith, opens-small (c .remains .ensures), c .before .if6 .taken, c .before .before .room .ensures)
 
   run-loop-less-4 : run-lts.Need-loop-less-4 (K t) (run-at t) run.Post run-Inv-loop run-μ-loop
-  run-loop-less-4 c = lighter _ _ _ (c .before .before .before .before .before .before .before .before .before .before .before .loop .inv .0) (push _ _ _ (c .before .before .before .before .before .before .before .before .before .before .before .loop .stack) (c .before .before .before .before .before .before .before .before .before .before .before .loop .inv .0 .long) (omega (arith, c .before .if4 .taken, c .before .before .room .ensures)) (c .before .before .before .before .before .before .before .before .before .if1 .left) (as-turn (c .before .before .before .before .t2 .given .1) (c .before .before .before .before .before .before .before .look .ensures)) (c .before .before .before .before .before .before .rest .ensures) (c .remains .ensures))
+  run-loop-less-4 c = lighter _ _ _ (c .before .before .before .before .before .before .before .before .before .before .before .before .before .loop .inv .0) (push _ _ _ (c .before .before .before .before .before .before .before .before .before .before .before .before .before .loop .stack) (c .before .before .before .before .before .before .before .before .before .before .before .before .before .loop .inv .0 .long) (omega (arith, c .before .before .if6 .taken, c .before .before .before .room .ensures)) (c .before .before .before .before .before .before .before .before .before .before .before .if1 .left) (c .before .before .before .before .if5 .left) (c .before .before .before .before .before .before .before .before .before .look .ensures) (c .before .before .before .before .before .before .before .before .rest .ensures) (c .before .remains .ensures))
 
   run-loop-again-4 : run-lts.Need-loop-again-4 (K t) (run-at t) run.Post run-Inv-loop run-μ-loop
-  run-loop-again-4 c = (held-next _ _ _ (c .before .before .before .before .before .before .before .before .before .before .before .loop .inv .0) (push _ _ _ (c .before .before .before .before .before .before .before .before .before .before .before .loop .stack) (c .before .before .before .before .before .before .before .before .before .before .before .loop .inv .0 .long) (omega (arith, c .before .if4 .taken, c .before .before .room .ensures)) (c .before .before .before .before .before .before .before .before .before .if1 .left) (as-turn (c .before .before .before .before .t2 .given .1) (c .before .before .before .before .before .before .before .look .ensures)) (c .before .before .before .before .before .before .rest .ensures) (c .remains .ensures)) (omega (arith, opens-small (c .remains .ensures), c .before .if4 .taken, c .before .before .room .ensures)) (length-set (c .before .before .before .before .before .before .before .before .before .before .before .loop .stack) _ _ ∙ c .before .before .before .before .before .before .before .before .before .before .before .loop .inv .0 .long), c .before .before .before .before .before .before .before .before .before .before .before .loop .inv .1)
+  run-loop-again-4 c = (held-next _ _ _ (c .before .before .before .before .before .before .before .before .before .before .before .before .before .loop .inv .0) (push _ _ _ (c .before .before .before .before .before .before .before .before .before .before .before .before .before .loop .stack) (c .before .before .before .before .before .before .before .before .before .before .before .before .before .loop .inv .0 .long) (omega (arith, c .before .before .if6 .taken, c .before .before .before .room .ensures)) (c .before .before .before .before .before .before .before .before .before .before .before .if1 .left) (c .before .before .before .before .if5 .left) (c .before .before .before .before .before .before .before .before .before .look .ensures) (c .before .before .before .before .before .before .before .before .rest .ensures) (c .before .remains .ensures)) (omega (arith, opens-small (c .before .remains .ensures), c .before .before .if6 .taken, c .before .before .before .room .ensures)) (length-set (c .before .before .before .before .before .before .before .before .before .before .before .before .before .loop .stack) _ _ ∙ c .before .before .before .before .before .before .before .before .before .before .before .before .before .loop .inv .0 .long), c .before .before .before .before .before .before .before .before .before .before .before .before .before .loop .inv .1)
 
   run-run-requires : run-lts.Need-run-requires (K t) (run-at t) run.Post run-Inv-loop run-μ-loop
-  run-run-requires c κs = (omega (arith, inner-less _ _ _ (c .before .before .before .before .before .before .before .before .before .before .before .loop .inv .0) (c .before .before .before .before .before .before .before .before .before .if1 .left) (as-turn (c .before .before .before .before .t2 .given .1) (c .before .before .before .before .before .before .before .look .ensures)), c .before .before .before .before .before .before .before .before .before .before .before .before .before .before .before .pre .0), tt)
+  run-run-requires c κs = (omega (arith, inner-less _ _ _ (c .before .before .before .before .before .before .before .before .before .before .before .before .loop .inv .0) (c .before .before .before .before .before .before .before .before .before .before .if1 .left) (c .before .before .before .if5 .left) (c .before .before .before .before .before .before .before .before .look .ensures), c .before .before .before .before .before .before .before .before .before .before .before .before .before .before .before .before .pre .0), tt)
 
   run-enum-known-s : run-lts.Need-enum-known-s (K t) (run-at t) run.Post run-Inv-loop run-μ-loop
   run-enum-known-s c = search needs
 
-  run-same-length-2 : run-lts.Need-same-length-2 (K t) (run-at t) run.Post run-Inv-loop run-μ-loop
-  run-same-length-2 c = c .before .before .before .run .kept .1 .1 .1 .1 .1 .0 ∙ c .before .before .before .before .before .before .before .before .before .before .before .before .before .before .before .loop .inv .1 .same
+  run-same-length-3 : run-lts.Need-same-length-3 (K t) (run-at t) run.Post run-Inv-loop run-μ-loop
+  run-same-length-3 c = c .before .before .before .run .kept .1 .1 .1 .1 .1 .0 ∙ c .before .before .before .before .before .before .before .before .before .before .before .before .before .before .before .before .loop .inv .1 .same
 
-  run-returns-2 : run-lts.Need-returns-2 (K t) (run-at t) run.Post run-Inv-loop run-μ-loop
-  run-returns-2 c = (stops-inner _ _ _ _ _ _ _ (c .before .before .before .before .before .before .before .before .before .before .before .before .before .if1 .left) (c .before .before .before .run .ensures .0 ∙ sym (into-is (as-turn (c .before .before .before .before .before .before .before .before .t2 .given .1) (c .before .before .before .before .before .before .before .before .before .before .before .look .ensures)))) (c .match2 .keys2) ∙ sym (c .before .before .before .before .before .before .before .before .before .before .before .before .before .before .before .loop .inv .0 .is), keeps-then (c .before .before .before .before .before .before .before .before .before .before .before .before .before .before .before .loop .inv .1 .keeps) (c .before .before .before .run .ensures .1))
+  run-returns-3 : run-lts.Need-returns-3 (K t) (run-at t) run.Post run-Inv-loop run-μ-loop
+  run-returns-3 c = (stops-inner _ _ _ _ _ _ _ (c .before .before .before .before .before .before .before .before .before .before .before .before .before .before .if1 .left) (c .before .before .before .run .ensures .0 ∙ sym (into-is (c .before .before .before .before .before .before .before .if5 .left) (c .before .before .before .before .before .before .before .before .before .before .before .before .look .ensures))) (c .match .keys2) ∙ sym (c .before .before .before .before .before .before .before .before .before .before .before .before .before .before .before .before .loop .inv .0 .is), keeps-then (c .before .before .before .before .before .before .before .before .before .before .before .before .before .before .before .before .loop .inv .1 .keeps) (c .before .before .before .run .ensures .1))
 
   run-note-requires : run-lts.Need-note-requires (K t) (run-at t) run.Post run-Inv-loop run-μ-loop
   run-note-requires c κs = search needs
 
   run-loop-less-5 : run-lts.Need-loop-less-5 (K t) (run-at t) run.Post run-Inv-loop run-μ-loop
-  run-loop-less-5 c = lighter _ _ _ (c .before .before .before .before .before .before .before .before .before .before .before .before .before .before .before .before .before .before .before .before .before .loop .inv .0) (next-frame _ _ _ (c .before .before .before .before .before .before .before .before .before .before .before .before .before .before .before .before .rest .ensures) (goes-past _ _ _ _ _ _ _ (c .before .before .before .before .before .before .before .before .before .before .before .before .before .before .before .before .before .before .before .if1 .left) (into-is (as-turn (c .before .before .before .before .before .before .before .before .before .before .before .before .before .before .t2 .given .1) (c .before .before .before .before .before .before .before .before .before .before .before .before .before .before .before .before .before .look .ensures)) ∙ sym (c .before .before .before .before .before .before .before .before .before .run .ensures .0) ∙ c .before .before .before .before .before .s .given .1)))
+  run-loop-less-5 c = lighter _ _ _ (c .before .before .before .before .before .before .before .before .before .before .before .before .before .before .before .before .before .before .before .before .before .before .loop .inv .0) (next-frame _ _ _ (c .before .before .before .before .before .before .before .before .before .before .before .before .before .before .before .before .before .rest .ensures) (goes-past _ _ _ _ _ _ _ (c .before .before .before .before .before .before .before .before .before .before .before .before .before .before .before .before .before .before .before .before .if1 .left) (into-is (c .before .before .before .before .before .before .before .before .before .before .before .before .before .if5 .left) (c .before .before .before .before .before .before .before .before .before .before .before .before .before .before .before .before .before .before .look .ensures) ∙ sym (c .before .before .before .before .before .before .before .before .before .run .ensures .0) ∙ c .before .before .before .before .before .s .given .1)))
 
   run-loop-again-5 : run-lts.Need-loop-again-5 (K t) (run-at t) run.Post run-Inv-loop run-μ-loop
-  run-loop-again-5 c = (held-next _ _ _ (c .before .before .before .before .before .before .before .before .before .before .before .before .before .before .before .before .before .before .before .before .before .loop .inv .0) (next-frame _ _ _ (c .before .before .before .before .before .before .before .before .before .before .before .before .before .before .before .before .rest .ensures) (goes-past _ _ _ _ _ _ _ (c .before .before .before .before .before .before .before .before .before .before .before .before .before .before .before .before .before .before .before .if1 .left) (into-is (as-turn (c .before .before .before .before .before .before .before .before .before .before .before .before .before .before .t2 .given .1) (c .before .before .before .before .before .before .before .before .before .before .before .before .before .before .before .before .before .look .ensures)) ∙ sym (c .before .before .before .before .before .before .before .before .before .run .ensures .0) ∙ c .before .before .before .before .before .s .given .1))) (c .before .before .before .before .before .before .before .before .before .before .before .before .before .before .before .before .before .before .before .before .before .loop .inv .0 .room) (c .before .before .before .before .before .before .before .before .before .before .before .before .before .before .before .before .before .before .before .before .before .loop .inv .0 .long), record { same = c .before .before .note .kept .0 ∙ c .before .before .before .before .before .before .before .before .before .run .kept .1 .1 .1 .1 .1 .0 ∙ c .before .before .before .before .before .before .before .before .before .before .before .before .before .before .before .before .before .before .before .before .before .loop .inv .1 .same; keeps = keeps-noted (c .before .before .before .before .before .before .before .before .before .before .before .before .before .before .before .before .before .before .before .before .before .loop .inv .1 .keeps) (c .before .before .before .before .before .before .before .before .before .run .ensures .1) (c .before .before .note .ensures) (field-ends _ _ _ _ _ _ (into-is (as-turn (c .before .before .before .before .before .before .before .before .before .before .before .before .before .before .t2 .given .1) (c .before .before .before .before .before .before .before .before .before .before .before .before .before .before .before .before .before .look .ensures)) ∙ sym (c .before .before .before .before .before .before .before .before .before .run .ensures .0) ∙ c .before .before .before .before .before .s .given .1)) })
-
-  run-enum-known-t-3 : run-lts.Need-enum-known-t-3 (K t) (run-at t) run.Post run-Inv-loop run-μ-loop
-  run-enum-known-t-3 c = search needs
-
-  run-same-length-3 : run-lts.Need-same-length-3 (K t) (run-at t) run.Post run-Inv-loop run-μ-loop
-  run-same-length-3 c = c .before .before .before .before .before .before .before .before .loop .inv .1 .same
-
-  run-returns-3 : run-lts.Need-returns-3 (K t) (run-at t) run.Post run-Inv-loop run-μ-loop
-  run-returns-3 c = (sym (c .before .before .before .before .before .before .before .before .loop .inv .0 .is ∙ stops-wrong _ _ _ _ _ _ _ (c .before .before .before .before .before .before .if1 .left) (refused-is (as-turn (c .before .t3 .given .1) (c .before .before .before .before .look .ensures)))), c .before .before .before .before .before .before .before .before .loop .inv .1 .keeps)
-
-  run-enum-known-t-4 : run-lts.Need-enum-known-t-4 (K t) (run-at t) run.Post run-Inv-loop run-μ-loop
-  run-enum-known-t-4 c = search needs
-
-  run-same-length-4 : run-lts.Need-same-length-4 (K t) (run-at t) run.Post run-Inv-loop run-μ-loop
-  run-same-length-4 c = c .before .before .before .before .before .before .before .before .loop .inv .1 .same
-
-  run-returns-4 : run-lts.Need-returns-4 (K t) (run-at t) run.Post run-Inv-loop run-μ-loop
-  run-returns-4 c = (sym (c .before .before .before .before .before .before .before .before .loop .inv .0 .is ∙ stops-deep _ _ _ _ _ _ _ (c .before .before .before .before .before .before .if1 .left) (deep-is (as-turn (c .before .t4 .given .1) (c .before .before .before .before .look .ensures)))), c .before .before .before .before .before .before .before .before .loop .inv .1 .keeps)
+  run-loop-again-5 c = (held-next _ _ _ (c .before .before .before .before .before .before .before .before .before .before .before .before .before .before .before .before .before .before .before .before .before .before .loop .inv .0) (next-frame _ _ _ (c .before .before .before .before .before .before .before .before .before .before .before .before .before .before .before .before .before .rest .ensures) (goes-past _ _ _ _ _ _ _ (c .before .before .before .before .before .before .before .before .before .before .before .before .before .before .before .before .before .before .before .before .if1 .left) (into-is (c .before .before .before .before .before .before .before .before .before .before .before .before .before .if5 .left) (c .before .before .before .before .before .before .before .before .before .before .before .before .before .before .before .before .before .before .look .ensures) ∙ sym (c .before .before .before .before .before .before .before .before .before .run .ensures .0) ∙ c .before .before .before .before .before .s .given .1))) (c .before .before .before .before .before .before .before .before .before .before .before .before .before .before .before .before .before .before .before .before .before .before .loop .inv .0 .room) (c .before .before .before .before .before .before .before .before .before .before .before .before .before .before .before .before .before .before .before .before .before .before .loop .inv .0 .long), record { same = c .before .before .note .kept .0 ∙ c .before .before .before .before .before .before .before .before .before .run .kept .1 .1 .1 .1 .1 .0 ∙ c .before .before .before .before .before .before .before .before .before .before .before .before .before .before .before .before .before .before .before .before .before .before .loop .inv .1 .same; keeps = keeps-noted (c .before .before .before .before .before .before .before .before .before .before .before .before .before .before .before .before .before .before .before .before .before .before .loop .inv .1 .keeps) (c .before .before .before .before .before .before .before .before .before .run .ensures .1) (c .before .before .note .ensures) (field-ends _ _ _ _ _ _ (into-is (c .before .before .before .before .before .before .before .before .before .before .before .before .before .if5 .left) (c .before .before .before .before .before .before .before .before .before .before .before .before .before .before .before .before .before .before .look .ensures) ∙ sym (c .before .before .before .before .before .before .before .before .before .run .ensures .0) ∙ c .before .before .before .before .before .s .given .1)) })
 
 pub +run-spec : {M : Type 1} → statement M
-+run-spec = close μ-run (λ t. run-lts.spec (K t) (run-at t) run.Post run-Inv-loop run-μ-loop (run-loop-holds t) (run-again-requires t) (run-loop-less t) (run-loop-again t) (run-same-length t) (run-returns t) (run-sub-sp t) (run-mul-cur t) (run-array-copy-out-cur t) (run-loop-less-2 t) (run-loop-again-2 t) (run-cast-sort t) (run-look-requires t) (run-rest-requires t) (run-enum-known-t t) (run-loop-less-3 t) (run-loop-again-3 t) (run-enum-known-t-2 t) (run-room-requires t) (run-mul-stack t) (run-array-set-from-stack t) (run-remains-requires t) (run-add-sp t) (run-loop-less-4 t) (run-loop-again-4 t) (run-run-requires t) (run-enum-known-s t) (run-same-length-2 t) (run-returns-2 t) (run-note-requires t) (run-loop-less-5 t) (run-loop-again-5 t) (run-enum-known-t-3 t) (run-same-length-3 t) (run-returns-3 t) (run-enum-known-t-4 t) (run-same-length-4 t) (run-returns-4 t))
++run-spec = close μ-run (λ t. run-lts.spec (K t) (run-at t) run.Post run-Inv-loop run-μ-loop (run-loop-holds t) (run-again-requires t) (run-loop-less t) (run-loop-again t) (run-same-length t) (run-returns t) (run-sub-sp t) (run-mul-cur t) (run-array-copy-out-cur t) (run-loop-less-2 t) (run-loop-again-2 t) (run-cast-sort t) (run-look-requires t) (run-rest-requires t) (run-loop-less-3 t) (run-loop-again-3 t) (run-failed-requires t) (run-same-length-2 t) (run-returns-2 t) (run-room-requires t) (run-mul-stack t) (run-array-set-from-stack t) (run-remains-requires t) (run-add-sp t) (run-loop-less-4 t) (run-loop-again-4 t) (run-run-requires t) (run-enum-known-s t) (run-same-length-3 t) (run-returns-3 t) (run-note-requires t) (run-loop-less-5 t) (run-loop-again-5 t))

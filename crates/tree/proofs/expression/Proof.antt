@@ -4,7 +4,7 @@ use native.Mathlib.Omega.{arith}
 use Rattle.expr.proofs.Steps.{head-read, expr-stop, expr-deep, expr-body}
 use Rattle.tree.specs.Frames.{deep}
 use Rattle.tree.proofs.Steps.{expr-arm}
-use Rattle.tree.proofs.Frames.{told-goes, goes-same}
+use Rattle.tree.proofs.Frames.{told-goes, goes-by, goes-same}
 use borrow.Author.Needs.{needs}
 use Rattle.tree.proofs.expression.Statement.{statement}
 use Rattle.tree.proofs.expression.Tie as tie
@@ -21,8 +21,11 @@ told-requires c κs = search needs
 returns : tie.Need-returns
 returns c = told-goes _ _ _ _ (expr-arm _ _ _ _ _ _ (expr-stop _ _ _ _ (c .before .before .head .ensures) (c .before .match .keys2))) (c .told .ensures)
 
+bare-requires : tie.Need-bare-requires
+bare-requires c κs = search needs
+
 returns-2 : tie.Need-returns-2
-returns-2 c = deep (sym (expr-arm _ _ _ _ _ _ (expr-deep _ _ _ _ (c .if1 .taken) (c .before .before .before .before .head .ensures) (c .before .before .s .given .1))))
+returns-2 c = goes-by _ _ _ (c .bare .ensures) (deep (sym (expr-arm _ _ _ _ _ _ (expr-deep _ _ _ _ (c .before .if1 .taken) (c .before .before .before .before .before .head .ensures) (c .before .before .before .s .given .1)))))
 
 mul-k : tie.Need-mul-k
 mul-k c = omega (arith, head-read (c .before .before .before .before .head .ensures) (c .before .before .s .given .1) .inside, c .before .before .before .before .before .before .before .good)
@@ -47,6 +50,7 @@ expression-spec =
     enum-known-s
     told-requires
     returns
+    bare-requires
     returns-2
     mul-k
     shared-slice-read-k

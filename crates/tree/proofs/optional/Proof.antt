@@ -3,7 +3,7 @@ use mathlib.Core.Path.{refl, sym}
 use mathlib.Core.Logic.{inl}
 use Rattle.tree.specs.Frames.{past, goes}
 use Rattle.tree.proofs.Steps.{opt-none, opt-some, zero-end, zero-not}
-use Rattle.tree.proofs.Frames.{row-same}
+use Rattle.tree.proofs.Frames.{goes-by, row-same}
 use borrow.Author.Needs.{needs}
 use Rattle.tree.proofs.optional.Statement.{statement}
 use Rattle.tree.proofs.optional.Tie as tie
@@ -20,11 +20,14 @@ mul-if2 c = search needs
 shared-slice-read-if2 : tie.Need-shared-slice-read-if2
 shared-slice-read-if2 c = search needs
 
-add-t11 : tie.Need-add-t11
-add-t11 c = search needs
+add-bare : tie.Need-add-bare
+add-bare c = search needs
+
+bare-requires : tie.Need-bare-requires
+bare-requires c κs = search needs
 
 returns-2 : tie.Need-returns-2
-returns-2 c = λ ns n. goes (past (sym (opt-none _ ns n _ _ _ _ (c .before .before .if1 .left) (c .if2 .taken))))
+returns-2 c = λ ns n. goes (goes-by _ ns n (c .bare .ensures) (past (sym (opt-none _ ns n _ _ _ _ (c .before .before .before .if1 .left) (c .before .if2 .taken)))))
 
 one-row-requires-2 : tie.Need-one-row-requires-2
 one-row-requires-2 c κs = search needs
@@ -40,7 +43,8 @@ optional-spec =
     returns
     mul-if2
     shared-slice-read-if2
-    add-t11
+    add-bare
+    bare-requires
     returns-2
     one-row-requires-2
     returns-3)

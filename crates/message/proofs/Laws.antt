@@ -93,7 +93,7 @@ neither : (a b : Bool) → (a || b) ≡ false → (a ≡ false) × (b ≡ false)
 neither true b e = absurd (false≢true (sym e))
 neither false b e = (refl, e)
 
--- bytes without a mark
+-- bytes without a mark stand for themselves
 unmarked : (xs : List ℕ) → marks xs ≡ false → (n : ℕ) (bytes ends : List ℕ) (d : Diag) → render bytes ends d (take n xs) ≡ take n xs
 unfolding marks render piece
 unmarked xs e zero bytes ends d = refl

@@ -191,7 +191,7 @@ fn less(a: usize, b: usize) -> usize
     if a < b { a } else { b }
 }
 
-// How many bytes from the i-th on have no mark, where more than one has none: at a template's start and after a mark.
+// The length of the run without a mark that starts at byte i: at a template's start or after a mark. A run of one byte isn't listed.
 fn early_run(i: usize) -> usize
     ensures { λ r. ⌜ marks (take r (drop i (flat table))) ≡ false ⌝ }
 {
@@ -259,7 +259,7 @@ fn late_run(i: usize) -> usize
     }
 }
 
-// 0 says only that it isn't known.
+// 0 where no run is listed.
 fn run_at(i: usize) -> usize
     ensures { λ r. ⌜ marks (take r (drop i (flat table))) ≡ false ⌝ }
 {
@@ -278,7 +278,7 @@ fn copy_run(out: &mut [u8], at: usize, s: &[u8], from: usize, n: usize)
     }
 }
 
-// Unmarked bytes up to `to`, so long as there is room: a run that is known at once.
+// Bytes without a mark up to `to`, so long as there is room: a listed run is copied without a look at its bytes.
 fn put_plain(out: &mut [u8], at: usize, s: &[u8], from: usize, to: usize) -> usize
     requires { ⌜ (from ≤ to) × (to ≤ length (now s)) × (now s ≡ flat table) ⌝ }
     ensures { λ r. ⌜ Plain (now (s .entry)) from (to - from) r (now (out .entry)) (now (out .exit)) at ⌝ }

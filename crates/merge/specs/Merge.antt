@@ -21,5 +21,5 @@ pub record Merging (rows more : List Row) (count m i j : ℕ) (b : List ℕ) : T
   pub back : drop ((i + j) * width) b ≡ flatten rest ++ zeros (length b - (count + m) * width)
   pub left : insertAll more rows ≡ insertAll (take j more) (take i rows) ++ rest
   pub few : i ≤ length rows
-  pub some : j ≤ length more
+  pub come : j ≤ length more
   pub total : length rest + (i + j) ≡ count + m

@@ -4,7 +4,7 @@ ghost use mathlib.Core.List.{List, _++_};
 ghost use Prim.Native.Nat.{ℕ, _+_, _*_, _≤_};
 ghost use lib.ListN.{length, take, drop};
 ghost use lib.Seq.{slice};
-ghost use Rattle.table.specs.Rows.{Row, width, insertAll, Holds};
+ghost use Rattle.table.specs.Rows.{Row, width, rank, insertAll, Holds};
 ghost use Rattle.merge.specs.Merge.{Apart, Merging};
 
 // The words from `from` up to `to` move up by w words.
@@ -31,6 +31,15 @@ fn put_words(b: &mut [u32], at: usize, row: &[u32])
     }
 }
 
+// How many of the first i rows stand before the key.
+fn below(b: &[u32], i: usize, k: u64) -> usize
+    requires { ⌜ i * width ≤ length (now b) ⌝ }
+    ensures within { λ r. ⌜ r ≤ i ⌝ }
+    ensures ranked { λ r. ⌜ ((rows : List Row) → Holds rows i (take (i * width) (now (b .entry))) → r ≡ rank k rows) ⌝ }
+{
+    table::lower_bound(&b[..i * table::WIDTH], i, k)
+}
+
 // Row j of src goes to its place; the rows after that place, of the first i, move up by j + 1 rows. Returns how many of them are left below.
 fn place(b: &mut [u32], i: usize, src: &[u32], j: usize) -> usize
     requires { ⌜ ((i + j + 1) * width ≤ length (now b)) × ((j + 1) * width ≤ length (now src)) ⌝ }
@@ -40,7 +49,7 @@ fn place(b: &mut [u32], i: usize, src: &[u32], j: usize) -> usize
     let at = j * table::WIDTH;
     let end = i * table::WIDTH;
     let k = table::key_at(src, j);
-    let p = table::lower_bound(&b[..end], i, k);
+    let p = below(b, i, k);
     let to = p * table::WIDTH;
     move_up(b, to, end, at + table::WIDTH);
     put_words(b, to + at, &src[at..at + table::WIDTH]);

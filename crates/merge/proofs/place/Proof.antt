@@ -1,76 +1,68 @@
+-- `place` finds the row's place, moves what stands from there on up, and puts the row below it: a turn of `Steps`. Assumes nothing.
+use mathlib.Core.Path.{refl}
+use Rattle.merge.proofs.Steps.{turn}
 use borrow.Author.Needs.{needs}
 use Rattle.merge.proofs.place.Statement.{statement}
 use Rattle.merge.proofs.place.Tie as tie
-use Rattle.merge.proofs.place.Reads as reads
-use Rattle.merge.proofs.place.Lts as lts
-use Rattle.merge.proofs.below.Reads as below-reads
-use Rattle.merge.proofs.move_up.Reads as move-up-reads
-use Rattle.merge.proofs.put_words.Reads as put-words-reads
-use Rattle.table.proofs.key_at.Reads as key-at-reads
 
--- src/lib.rt:49:14
 mul-at : tie.Need-mul-at
 mul-at c = search needs
 
--- src/lib.rt:50:15
 mul-end : tie.Need-mul-end
 mul-end c = search needs
 
--- src/lib.rt:51:9
 key-at-requires : tie.Need-key-at-requires
 key-at-requires c κs = search needs
 
--- src/lib.rt:52:9
 below-requires : tie.Need-below-requires
 below-requires c κs = search needs
 
--- src/lib.rt:53:14
 mul-to : tie.Need-mul-to
 mul-to c = search needs
 
--- src/lib.rt:54:25
 add-move-up : tie.Need-add-move-up
 add-move-up c = search needs
 
--- src/lib.rt:54:5
 move-up-requires : tie.Need-move-up-requires
 move-up-requires c κs = search needs
 
--- src/lib.rt:55:18
 add-put-words : tie.Need-add-put-words
 add-put-words c = search needs
 
--- src/lib.rt:55:36
 add-put-words-2 : tie.Need-add-put-words-2
 add-put-words-2 c = search needs
 
--- src/lib.rt:55:27
 mul-put-words : tie.Need-mul-put-words
 mul-put-words c = search needs
 
--- src/lib.rt:55:27
 sub-put-words : tie.Need-sub-put-words
 sub-put-words c = search needs
 
--- src/lib.rt:55:27
 part-put-words-start : tie.Need-part-put-words-start
 part-put-words-start c = search needs
 
--- src/lib.rt:55:27
 part-put-words-end : tie.Need-part-put-words-end
 part-put-words-end c = search needs
 
--- src/lib.rt:55:5
 put-words-requires : tie.Need-put-words-requires
 put-words-requires c κs = search needs
 
--- src/lib.rt:44:1
 same-length : tie.Need-same-length
 same-length c = search needs
 
--- src/lib.rt:44:1
 returns : tie.Need-returns
-returns c = ?
+returns c =
+    let w = c .before .before in
+    let u = w .before .before .before .before .before in
+    let p = u .before .before in
+    let k = p .before .before in
+    let at-start = k .before .before .before in
+    let a = at-start .args in (
+      p .below .ensures .0,
+      λ rows more count m S M.
+          turn rows more count m (a .i) (a .j) (a .b .now) (a .src .now) S M (k .key-at .result) (p .below .result) (k .key-at .ensures) (p .below .ensures .0) (p .below .ensures .1) (at-start .pre .0)
+          _ (u .move-up .last .0) (w .put-words .last .0) refl (u .move-up .ensures) (w .put-words .ensures),
+    )
 
 pub place-spec : {M : Type 1} → statement M
 place-spec =

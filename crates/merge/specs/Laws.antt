@@ -1,13 +1,13 @@
 -- Laws of tables that share no key: rows of both go in in any order, and none takes another's place. By induction on the rows. Assumes nothing.
-use mathlib.Core.Path.{_≡_, refl, sym, ap, _∙_, subst}
+use mathlib.Core.Path.{_≡_, refl, sym, ap, _∙_}
 use mathlib.Core.Logic.{_⊎_, inl, inr}
 use mathlib.Core.List.{List, [], _∷_}
 use mathlib.Core.Option.{none}
-use Prim.Native.Nat.{ℕ, suc, _+_, _≤_, _<_}
+use Prim.Native.Nat.{ℕ, suc, _+_, _<_}
 use native.Mathlib.Omega.{arith}
 use lib.ListN.{length}
 use Rattle.table.specs.Rows.{Row, key, Table, find, insert, insertAll}
-use Rattle.table.specs.Laws.{order₃, find-eq, find-ne, find-above, insert-lt, insert-eq, insert-gt, find-insert-other}
+use Rattle.table.specs.Laws.{order₃, find-eq, find-ne, insert-lt, insert-eq, insert-gt, find-insert-other}
 use Rattle.merge.specs.Merge.{Apart}
 
 -- ---- a key that is not found

@@ -1,12 +1,15 @@
 -- From what the calls did, what a statement does: one law for each of the four kinds. No line here knows the code. Assumes nothing.
-use Prim.Native.Nat.{ℕ, _+_, _*_, _<_, _≤_}
+use Prim.Native.Nat.{ℕ, suc, _+_, _*_, _<_, _≤_, compare·suc-suc}
 use mathlib.Core.Path.{_≡_, refl, sym, ap, _∙_, subst}
 use mathlib.Core.Bool.{Bool, true, false}
-use mathlib.Core.List.{List, _∷_, append-nil}
+use mathlib.Core.Logic.{_⊎_, inl, inr}
+use mathlib.Core.List.{List, [], _∷_, append-nil}
 use mathlib.Core.Option.{some}
 use native.Mathlib.Omega.{arith}
+use lib.Dec.{eqb}
 use lib.ListN.{length, getD}
-use Rattle.words.specs.Word.{payOf, wordOf}
+use borrow.Author.Tests.{eq-eqb, ne-eqb}
+use Rattle.words.specs.Word.{payOf, wordOf, pick}
 use Rattle.expr.specs.Expr.{Expr, words}
 use Rattle.expr.specs.Stands.{Wrote}
 use Rattle.expr.specs.Stands as W
@@ -14,12 +17,13 @@ use Rattle.expr.proofs.Parts.{wrote-first, pay-is}
 use Rattle.tree.specs.Sorts.{sorts, numberOf, label as labelKind, labelName as labelNameKind, optionBase as optionBaseKind, const as constKind}
 use Rattle.tree.specs.Tree.{strings, row, Tree, Stmt, word, value, cons, done, wordsT, Right, over}
 use Rattle.tree.specs.Stands.{Stands}
-use Rattle.table.specs.Rows.{Row, width, noteWidth, Holds}
-use Rattle.entries.specs.Entries.{has, lineRow, labelRow, constRow, optionBaseRow}
+use Rattle.table.specs.Rows.{Row, width, noteWidth, key, find, insert, Table, Holds}
+use Rattle.table.specs.Laws.{order₃, insert-lt, insert-eq, insert-gt, find-eq, find-ne, find-above}
+use Rattle.entries.specs.Entries.{row as rowOf, entryKey, hasRow, has, lineRow, labelRow, constRow, optionBaseRow}
 use Rattle.views.specs.View.{View, Label, LabelName, OptionBase, Const, view}
-use Rattle.steps.specs.State.{_⨾_, asking, when, enter, push}
+use Rattle.steps.specs.State.{State, running, stopped, _⨾_, asking, when, fits, change, enter, push}
 use Rattle.steps.specs.declared.Counts.{Counts}
-use Rattle.steps.specs.Held.{Fit, Does, Notes, Rows, entering, pushing, noting}
+use Rattle.steps.specs.Held.{Fit, Held, Does, Notes, Rows, entering, pushing, noting}
 use Rattle.steps.specs.Compose.{Stays, then, asked, rows-does, notes-does, stays-then, stays-when, stays-pick, stays-enter, stays-push, stopped-does}
 use Rattle.fold.specs.Value.{literalKind, lowOf, highOf}
 use Rattle.fold.specs.declared.Fold.{Fold}
@@ -93,28 +97,60 @@ lineAt ws at = payOf (getD ws at 0)
 abbrev pub leafAt : List ℕ → ℕ → ℕ
 leafAt ws at = payOf (getD ws (at + 1) 0)
 
-module _ {s t r : Counts} {b d b′ d′ : List ℕ} {x : Bool} (fit : Fit s (length b) (length d)) where
-  twice-does : (new note : Row) (kind name : ℕ) → ((rows : List Row) → Holds rows (s .rows) b → x ≡ has rows kind name 0)
-      → Rows (entering new) s t b b′ → Notes (noting x note) t r d d′
+-- a row was there before where putting it in makes no more of them
+same-len : (b : ℕ) (r : Row) (rows : List Row) → Table b rows → eqb (length (insert r rows)) (length rows) ≡ hasRow (find (key r) rows)
+unfolding insert find
+same-len b r [] T = refl
+same-len b r (x ∷ xs) T = go (same-len (suc (key x)) r xs (T .2)) (order₃ (key x) (key r))
+  where
+    go : eqb (length (insert r xs)) (length xs) ≡ hasRow (find (key r) xs) → (key x < key r) ⊎ ((key x ≡ key r) ⊎ (key r < key x)) → eqb (length (insert r (x ∷ xs))) (length (x ∷ xs)) ≡ hasRow (find (key r) (x ∷ xs))
+    go ih (inl h) = rw (insert-lt r x xs h, find-ne (key r) x xs (λ e. omega (arith, h, e)), compare·suc-suc (length (insert r xs)) (length xs)) ih
+    go ih (inr (inl e)) = rw (insert-eq r x xs e, find-eq (key r) x xs e) (eq-eqb (length (x ∷ xs)) (length (x ∷ xs)) refl)
+    go ih (inr (inr h)) = rw (insert-gt r x xs h, find-ne (key r) x xs (λ e. omega (arith, h, e)), find-above (key r) xs (T .2) (omega (arith, h))) (ne-eqb (length (r ∷ x ∷ xs)) (length (x ∷ xs)) (λ e. omega (arith, e)))
+
+-- a row's key
+key-is : (kind name : ℕ) (more : List ℕ) → key (rowOf kind name (0 ∷ more)) ≡ entryKey kind name 0
+unfolding key
+key-is kind name more = refl
+
+module _ {s t r : Counts} {b d b′ d′ : List ℕ} where
+  twice-does : (new note : Row) (kind name : ℕ) → key new ≡ entryKey kind name 0
+      → Rows (entering new) s t b b′ → Notes (noting (eqb (t .rows) (s .rows)) note) t r d d′
       → Does (λ N D. asking (λ rows. enter (some N) new ⨾ when (has rows kind name 0) (push (some D) note))) s r b d b′ d′
-  unfolding entering noting
-  twice-does new note kind name told R F =
-      asked x (λ rows. has rows kind name 0) (λ (y : Bool) N D. enter (some N) new ⨾ when y (push (some D) note))
-      (λ y N D. stays-then (enter (some N) new) (when y (push (some D) note)) (stays-enter N new) (stays-when y (push (some D) note) (stays-push D note)))
-      told (then (rows-does R d (fit .1)) (notes-does F b′ (R .fit)))
+  unfolding entering noting asking enter change
+  twice-does new note kind name q R F = record { fit = notes-does F b′ (R .fit) .fit; after = by }
+    where
+      x : Bool
+      x = eqb (t .rows) (s .rows)
+
+      said : (N D : ℕ) (y : Bool) (st : State) → Held N D st t b′ d → (Held N D (when x (push (some D) note) st) r b′ d′ → Held N D (when y (push (some D) note) st) r b′ d′) → Held N D (when y (push (some D) note) st) r b′ d′
+      said N D y st H f = f (F .after b′ N D st H)
+
+      entered : (N D : ℕ) (rows notes : List Row) → Held N D (running rows notes) s b d → (y : Bool) → fits width (some N) (insert new rows) ≡ y
+          → Held N D (pick y (running (insert new rows) notes) (stopped 7)) t b′ d
+          → Held N D (when (has rows kind name 0) (push (some D) note) (pick y (running (insert new rows) notes) (stopped 7))) r b′ d′
+      entered N D rows notes H true e K = said N D (has rows kind name 0) (running (insert new rows) notes) K (λ h. rw yes h)
+        where
+          yes : has rows kind name 0 ≡ x
+          yes = rw (sym q) (sym (same-len 0 new rows (H .inside .1 .table)) ∙ rw (K .inside .1 .filled .count, H .inside .1 .filled .count) refl)
+      entered N D rows notes H false e K = said N D (has rows kind name 0) (stopped 7) K (λ h. rw (stays-when (has rows kind name 0) (push (some D) note) (stays-push D note) 7) (rw (stays-when x (push (some D) note) (stays-push D note) 7) at h))
+
+      by : (N D : ℕ) (st : State) → Held N D st s b d → Held N D (asking (λ rows. enter (some N) new ⨾ when (has rows kind name 0) (push (some D) note)) st) r b′ d′
+      by N D (running rows notes) H = entered N D rows notes H (fits width (some N) (insert new rows)) refl (R .after d N D (running rows notes) H)
+      by N D (stopped k) H = rw (stays-when x (push (some D) note) (stays-push D note) k) at (F .after b′ N D (stopped k) (R .after d N D (stopped k) H))
 
   module _ {ws : List ℕ} {at scope : ℕ} where
-    pub label-collects : ((rows : List Row) → Holds rows (s .rows) b → x ≡ has rows 128 (leafAt ws at) 0) → Rows (entering (lineRow (leafAt ws at) scope)) s t b b′
-        → Notes (noting x (duplicateLine (lineAt ws at) (leafAt ws at))) t r d d′ → CollectsAny labelKind ws scope at s r b d b′ d′
+    pub label-collects : Rows (entering (lineRow (leafAt ws at) scope)) s t b b′
+        → Notes (noting (eqb (t .rows) (s .rows)) (duplicateLine (lineAt ws at) (leafAt ws at))) t r d d′ → CollectsAny labelKind ws scope at s r b d b′ d′
     unfolding statement label
-    label-collects told R F =
-        record { all = λ ns n bytes ends erased. record { does = λ line fields end S. seen-does scope bytes ends erased (label-seen fields S) (twice-does (lineRow (leafAt ws at) scope) (duplicateLine (lineAt ws at) (leafAt ws at)) 128 (leafAt ws at) told R F) } }
+    label-collects R F =
+        record { all = λ ns n bytes ends erased. record { does = λ line fields end S. seen-does scope bytes ends erased (label-seen fields S) (twice-does (lineRow (leafAt ws at) scope) (duplicateLine (lineAt ws at) (leafAt ws at)) 128 (leafAt ws at) (key-is 128 (leafAt ws at) (scope ∷ [])) R F) } }
 
-    pub name-collects : ((rows : List Row) → Holds rows (s .rows) b → x ≡ has rows 129 (leafAt ws at) 0) → Rows (entering (labelRow (leafAt ws at) scope)) s t b b′
-        → Notes (noting x (duplicateLabel (lineAt ws at) (leafAt ws at))) t r d d′ → CollectsAny labelNameKind ws scope at s r b d b′ d′
+    pub name-collects : Rows (entering (labelRow (leafAt ws at) scope)) s t b b′
+        → Notes (noting (eqb (t .rows) (s .rows)) (duplicateLabel (lineAt ws at) (leafAt ws at))) t r d d′ → CollectsAny labelNameKind ws scope at s r b d b′ d′
     unfolding statement labelName
-    name-collects told R F =
-        record { all = λ ns n bytes ends erased. record { does = λ line fields end S. seen-does scope bytes ends erased (name-seen fields S) (twice-does (labelRow (leafAt ws at) scope) (duplicateLabel (lineAt ws at) (leafAt ws at)) 129 (leafAt ws at) told R F) } }
+    name-collects R F =
+        record { all = λ ns n bytes ends erased. record { does = λ line fields end S. seen-does scope bytes ends erased (name-seen fields S) (twice-does (labelRow (leafAt ws at) scope) (duplicateLabel (lineAt ws at) (leafAt ws at)) 129 (leafAt ws at) (key-is 129 (leafAt ws at) (scope ∷ [])) R F) } }
 
 -- ---- OPTION BASE
 

@@ -16,7 +16,7 @@ ghost use Rattle.collect.specs.Collect.{given, anyArray, constOf, folded as fol
 ghost use Rattle.labels.specs.Labels.{ConstAt, sayBase};
 ghost use Rattle.collect.specs.Code.{SomeStmt, CollectsAny};
 
-// A line number. The last one stays, also after a diagnostic.
+// A line number. The last one stays, also after a diagnostic. It was there before where the rows have not become more: that spares a search.
 pub fn label(
     words: &[u32],
     b: &mut [u32],
@@ -30,12 +30,11 @@ pub fn label(
 {
     let line = words[at] % 16777216;
     let n = words[at + 1] % 16777216;
-    let twice = lookup::has(b, s.rows, 128, n, 0);
     let t = steps::enter(b, s, 128, n, 0, scope, 0, 0, 0);
-    steps::push_if(d, t, twice, 1, line, 0, 0, n, 0)
+    steps::push_if(d, t, t.rows == s.rows, 1, line, 0, 0, n, 0)
 }
 
-// A label.
+// A label, in the same way.
 pub fn label_name(
     words: &[u32],
     b: &mut [u32],
@@ -49,9 +48,8 @@ pub fn label_name(
 {
     let line = words[at] % 16777216;
     let name = words[at + 1] % 16777216;
-    let twice = lookup::has(b, s.rows, 129, name, 0);
     let t = steps::enter(b, s, 129, name, 0, scope, 0, 0, 0);
-    steps::push_if(d, t, twice, 2, line, name + 1, 0, 0, 0)
+    steps::push_if(d, t, t.rows == s.rows, 2, line, name + 1, 0, 0, 0)
 }
 
 // Whether there is an array, in whatever scope: their rows stand together.

@@ -1,4 +1,4 @@
--- A line number is entered, and said to be double where one was there. Assumes nothing.
+-- A line number is entered, and said to be double where the rows have not become more. Assumes nothing.
 use Rattle.labels.proofs.Laws.{label-inside, label-collects}
 use native.Mathlib.Omega.{arith}
 use borrow.Author.Needs.{needs}
@@ -20,9 +20,6 @@ mul-n c = search needs
 shared-slice-read-n : tie.Need-shared-slice-read-n
 shared-slice-read-n c = label-inside (c .before .before .before .before .before .pre .0)
 
-has-requires : tie.Need-has-requires
-has-requires c κs = search needs
-
 enter-requires : tie.Need-enter-requires
 enter-requires c κs = search needs
 
@@ -36,7 +33,7 @@ same-length-2 : tie.Need-same-length-2
 same-length-2 c = search needs
 
 returns : tie.Need-returns
-returns c = label-collects (c .before .before .before .before .before .before .before .before .before .before .before .before .before .before .before .pre .1) (c .before .before .before .before .before .before .before .before .has .ensures) (c .before .before .before .before .before .before .enter .ensures) (c .before .before .push-if .ensures)
+returns c = label-collects (c .before .before .before .before .before .before .before .before .enter .ensures) (c .before .before .push-if .ensures)
 
 pub label-spec : {M : Type 1} → statement M
 label-spec =
@@ -47,7 +44,6 @@ label-spec =
     add-n
     mul-n
     shared-slice-read-n
-    has-requires
     enter-requires
     push-if-requires
     same-length

@@ -1,4 +1,4 @@
--- A label is entered, and said to be double where one was there. Assumes nothing.
+-- A label is entered, and said to be double where the rows have not become more. Assumes nothing.
 use Rattle.labels.proofs.Laws.{name-inside, name-collects}
 use native.Mathlib.Omega.{arith}
 use borrow.Author.Needs.{needs}
@@ -20,9 +20,6 @@ mul-name c = search needs
 shared-slice-read-name : tie.Need-shared-slice-read-name
 shared-slice-read-name c = name-inside (c .before .before .before .before .before .pre .0)
 
-has-requires : tie.Need-has-requires
-has-requires c κs = search needs
-
 enter-requires : tie.Need-enter-requires
 enter-requires c κs = search needs
 
@@ -39,7 +36,7 @@ same-length-2 : tie.Need-same-length-2
 same-length-2 c = search needs
 
 returns : tie.Need-returns
-returns c = name-collects (c .before .before .before .before .before .before .before .before .before .before .before .before .before .before .before .pre .1) (c .before .before .before .before .before .before .before .before .has .ensures) (c .before .before .before .before .before .before .enter .ensures) (c .before .before .push-if .ensures)
+returns c = name-collects (c .before .before .before .before .before .before .before .before .enter .ensures) (c .before .before .push-if .ensures)
 
 pub label-name-spec : {M : Type 1} → statement M
 label-name-spec =
@@ -50,7 +47,6 @@ label-name-spec =
     add-name
     mul-name
     shared-slice-read-name
-    has-requires
     enter-requires
     add-push-if
     push-if-requires

@@ -1,3 +1,2 @@
--- The laws that the proofs cite: words moved within a buffer, the last of the rows to come put in its place.
-mod Moves
+-- The laws that the proofs cite: the last of the rows to come put in its place.
 mod Steps

@@ -19,18 +19,6 @@ fn move_up(b: &mut [u32], from: usize, to: usize, w: usize)
     }
 }
 
-// The words of `row`, written from `at`.
-fn put_words(b: &mut [u32], at: usize, row: &[u32])
-    requires { ⌜ at + length (now row) ≤ length (now b) ⌝ }
-    ensures { λ _. ⌜ now (b .exit) ≡ take at (now (b .entry)) ++ (now (row .entry) ++ drop (at + length (now (row .entry))) (now (b .entry))) ⌝ }
-{
-    let mut j = 0;
-    while j < row.len() {
-        b[at + j] = row[j];
-        j += 1;
-    }
-}
-
 // How many of the first i rows stand before the key.
 fn below(b: &[u32], i: usize, k: u64) -> usize
     requires { ⌜ i * width ≤ length (now b) ⌝ }
@@ -52,7 +40,7 @@ fn place(b: &mut [u32], i: usize, src: &[u32], j: usize) -> usize
     let p = below(b, i, k);
     let to = p * table::WIDTH;
     move_up(b, to, end, at + table::WIDTH);
-    put_words(b, to + at, &src[at..at + table::WIDTH]);
+    table::put_words(b, to + at, &src[at..at + table::WIDTH]);
     p
 }
 

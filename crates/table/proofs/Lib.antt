@@ -1,3 +1,3 @@
 -- The laws that the proofs cite: words moved within a buffer, rows entered in turn.
-mod Moves
+pub mod Moves
 mod Turns

@@ -84,7 +84,7 @@ pub fn lower_bound(b: &[u32], count: usize, k: u64) -> usize
 }
 
 // The words of `row`, written from `at`.
-fn put_words(b: &mut [u32], at: usize, row: &[u32])
+pub fn put_words(b: &mut [u32], at: usize, row: &[u32])
     requires { ⌜ at + length (now row) ≤ length (now b) ⌝ }
     ensures { λ _. ⌜ now (b .exit) ≡ take at (now (b .entry)) ++ (now (row .entry) ++ drop (at + length (now (row .entry))) (now (b .entry))) ⌝ }
 {

@@ -5,7 +5,7 @@ use Prim.Native.Nat.{_≤_, _-_, _+_}
 use native.Mathlib.Omega.{arith}
 use lib.ListN.{length, take, drop, length-set}
 use lib.Seq.{slice}
-use Rattle.merge.proofs.Moves.{up-start, up-turn}
+use Rattle.table.proofs.Moves.{up-start, up-turn}
 use Rattle.merge.proofs.move_up.Statement.{statement}
 use Rattle.merge.proofs.move_up.Tie as tie
 

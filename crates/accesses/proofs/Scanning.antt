@@ -8,6 +8,7 @@ use lib.ListN.{length, getD, set, length-append}
 use lib.Seq.{sets}
 use Rattle.words.specs.Word.{kindOf}
 use Rattle.words.specs.Sizes.{maxDepth}
+use Rattle.words.specs.Laws.{sets-append}
 use Rattle.expr.specs.Expr.{Expr}
 use Rattle.tree.specs.Sorts.{stmt, body, sorts}
 use Rattle.tree.specs.Tree.{one, row, Tree, Stmt, depthT, wordsT}
@@ -25,7 +26,6 @@ use Rattle.resolve.specs.FromRows.{tablesOf}
 use Rattle.resolve.specs.Resolve.{resolveTree, resolveArrayAccesses, first, inside}
 use Rattle.resolve.specs.Keeps.{shorter-tree}
 use Rattle.resolver.specs.Post.{Put}
-use Rattle.resolver.proofs.Writing.{sets-append}
 use Rattle.accesses.specs.Post.{resolved, Moved, ReadyToken, DoneToken, ReadyScan, DoneScan, PastStmt, ReadyProgram, ResolvedProgram}
 use Rattle.accesses.proofs.Resolved.{parted, tree-is}
 use Rattle.accesses.proofs.Statements.{stmt-words, view-inside}

@@ -10,9 +10,11 @@ use lib.ListN.{length, take, drop, getD, set, length-drop}
 use lib.Seq.{sets, drop-cons, length-take-le}
 use Rattle.words.specs.Word.{wordOf, kindOf, payOf, pick}
 use Rattle.words.specs.Sizes.{maxDepth}
+use Rattle.words.specs.Laws.{sets-append}
 use Rattle.expr.specs.Expr.{Expr, Call, Exprs, many, words, wordsAll}
 use Rattle.expr.specs.Stands as E
 use Rattle.expr.proofs.Parts.{wrote-cat, pay-is}
+use Rattle.expr.proofs.Steps.{past}
 use Rattle.tree.specs.Sorts.{numberOf}
 use Rattle.tree.specs.Tree.{strings, wordsT}
 use Rattle.plans.specs.Pieces.{stmtPiece, written}
@@ -27,7 +29,7 @@ use Rattle.resolve.specs.Resolve.{resolveExpr, resolveArgs, resolveTree, first,
 use Rattle.resolve.specs.Keeps.{shorter, shorter-args}
 use Rattle.resolver.specs.Post.{Room, Ready, ReadyAll, Put, Resolved, ResolvedArgs}
 use Rattle.resolver.proofs.Nodes as N
-use Rattle.resolver.proofs.Writing.{sets-append, call-words, pair-words}
+use Rattle.resolver.proofs.Writing.{call-words, pair-words}
 use Rattle.accesses.specs.Post.{resolved, Moved, ReadyToken, DoneToken}
 use Rattle.accesses.proofs.Resolved.{no-places, each-args, parted, tree-is}
 use Rattle.accesses.proofs.Statements.{stmt-words, in-call, inside-other}
@@ -124,11 +126,8 @@ pub record Plain (k : ℕ) : Type 0 where
   pub no-raw : 23 ≤ k → k < 28 → ⊥
   pub no-procedure : 84 ≤ k → k < 87 → ⊥
 
-past-it : (k j : ℕ) → j ≤ k → (k ≡ j → ⊥) → j + 1 ≤ k
-past-it k j h f = omega arith
-
 pub is-plain : (k : ℕ) → (k ≡ 21 → ⊥) → (k ≡ 23 → ⊥) → (k ≡ 24 → ⊥) → (k ≡ 25 → ⊥) → (k ≡ 26 → ⊥) → (k ≡ 27 → ⊥) → (k ≡ 84 → ⊥) → (k ≡ 85 → ⊥) → (k ≡ 86 → ⊥) → Plain k
-is-plain k a b c d e f g h i = record { no-call = a; no-raw = λ x y. five x y (past-it k 27 (past-it k 26 (past-it k 25 (past-it k 24 (past-it k 23 x b) c) d) e) f); no-procedure = λ x y. three x y (past-it k 86 (past-it k 85 (past-it k 84 x g) h) i) }
+is-plain k a b c d e f g h i = record { no-call = a; no-raw = λ x y. five x y (past 27 k (past 26 k (past 25 k (past 24 k (past 23 k x b) c) d) e) f); no-procedure = λ x y. three x y (past 86 k (past 85 k (past 84 k x g) h) i) }
   where
     five : 23 ≤ k → k < 28 → 28 ≤ k → ⊥
     five x y z = omega (arith, y, z)

@@ -12,7 +12,7 @@ use Rattle.tree.specs.Tree.{one, row, Tree, Stmt, depthT, over}
 use Rattle.tree.specs.Stands.{Stands}
 use Rattle.views.specs.View.{view}
 use Rattle.steps.specs.State.{State}
-use Rattle.steps.specs.Held.{Fit, Does}
+use Rattle.steps.specs.Held.{Fit}
 use Rattle.steps.specs.Compose.{same, nothing-does}
 use Rattle.steps.specs.declared.Counts.{Counts}
 use Rattle.collect.specs.Seen.{see}

@@ -2,7 +2,7 @@
 use Prim.Native.Nat.{ℕ, _+_, _-_, _≤_, _<_}
 use native.Mathlib.Omega.{arith}
 use mathlib.Core.Path.{_≡_, refl, sym, ap, subst, _∙_}
-use mathlib.Core.List.{List, [], _∷_, _++_, append-nil}
+use mathlib.Core.List.{List, [], _∷_, append-nil}
 use mathlib.Core.Option.{some}
 use lib.ListN.{length, getD}
 use Rattle.words.specs.Word.{kindOf}
@@ -16,7 +16,7 @@ use Rattle.views.specs.View.{view, inner, walk}
 use Rattle.consteval.specs.EvalLaws.{Words32}
 use Rattle.steps.specs.State.{State, Step, _⨾_, nothing, each}
 use Rattle.steps.specs.Held.{Fit, Does}
-use Rattle.steps.specs.Compose.{nothing-does, same, then}
+use Rattle.steps.specs.Compose.{nothing-does, same, then, each-append}
 use Rattle.steps.specs.declared.Counts.{Counts}
 use Rattle.collect.specs.Seen.{see}
 use Rattle.collect.specs.Collect.{Given, given, statement, collect}
@@ -33,11 +33,6 @@ use Rattle.collecting.proofs.Heads.{Quiet, nothing-said}
 
 -- ---- the walk is the outer statements in turn
 
-each-append : {A : Type 0} (f : A → Step) (xs ys : List A) (st : State) → each f ys (each f xs st) ≡ each f (xs ++ ys) st
-unfolding each
-each-append f [] ys st = refl
-each-append f (x ∷ xs) ys st = each-append f xs ys (f x st)
-
 walk-outer : {i : Shape} (G : Given) (scope : ℕ) (v : Tree Expr i) (st : State) → each (piece G scope) (outer v) st ≡ walk (statement G) scope (over see v) st
 unfolding walk over outer each piece
 walk-outer G scope (word x) st = refl
@@ -48,9 +43,9 @@ walk-outer G scope (part r) st = walk-outer G scope r st
 walk-outer G scope (this r) st = walk-outer G scope r st
 walk-outer G scope (that v) st = walk-outer G scope v st
 walk-outer G scope done st = refl
-walk-outer G scope (cons v r) st = sym (each-append (piece G scope) (outer v) (outer r) st) ∙ walk-outer G scope r (each (piece G scope) (outer v) st) ∙ ap (walk (statement G) scope (over see r)) (walk-outer G scope v st)
+walk-outer G scope (cons v r) st = each-append (piece G scope) (outer v) (outer r) st ∙ walk-outer G scope r (each (piece G scope) (outer v) st) ∙ ap (walk (statement G) scope (over see r)) (walk-outer G scope v st)
 walk-outer G scope none st = refl
-walk-outer G scope (more r rs) st = sym (each-append (piece G scope) (outer r) (outer rs) st) ∙ walk-outer G scope rs (each (piece G scope) (outer r) st) ∙ ap (walk (statement G) scope (over see rs)) (walk-outer G scope r st)
+walk-outer G scope (more r rs) st = each-append (piece G scope) (outer r) (outer rs) st ∙ walk-outer G scope rs (each (piece G scope) (outer r) st) ∙ ap (walk (statement G) scope (over see rs)) (walk-outer G scope r st)
 
 -- a statement that opens no scope: its head, and then the statements in its fields
 opened : (G : Given) (scope : ℕ) (k : Kind) (line : ℕ) (r : Tree Expr (row (sorts k))) (rest : List Item) (st : State) → scope ≡ inner scope (view k (over see r))
@@ -58,7 +53,7 @@ opened : (G : Given) (scope : ℕ) (k : Kind) (line : ℕ) (r : Tree Expr (row (
 unfolding each piece outerI outerIs
 opened G scope k line r rest st e =
     let st′ : State = statement G scope line (view k (over see r)) st in
-    sym (each-append (piece G scope) (outer r) (outerIs rest) st′)
+    each-append (piece G scope) (outer r) (outerIs rest) st′
     ∙ ap (each (piece G scope) (outerIs rest)) (walk-outer G scope r st′ ∙ ap (λ (x : ℕ). walk (statement G) x (over see r) st′) e)
 
 -- one with a scope of its own: its head, its bodies in that scope, and then what follows

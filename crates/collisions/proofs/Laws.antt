@@ -27,7 +27,7 @@ use Rattle.consteval.specs.EvalLaws.{Words32}
 use Rattle.steps.specs.State.{State, running, stopped, Step, when, asking, each}
 use Rattle.steps.specs.declared.Counts.{Counts}
 use Rattle.steps.specs.Held.{Fit, Held, Sized, Does, Notes, pushing, noting}
-use Rattle.steps.specs.Compose.{same, nothing-does, each-next, notes-does, when-yes, stays-asking, stopped-does}
+use Rattle.steps.specs.Compose.{same, nothing-does, each-next, notes-does, when-yes, stays-asking, stopped-does, each-append}
 use Rattle.collect.specs.Diagnostics.{arrayAndProc, arrayAndBuiltin}
 use Rattle.collect.specs.Collect.{Given, given, anyArray, collides, collision, checkNameCollisions}
 use Rattle.labels.specs.Arrays.{holds-small, arraysFrom, arraysTo, take-quiet, drop-quiet, array-between}
@@ -98,11 +98,6 @@ quiet G rows (x ∷ xs) e st = go (eqb (kindOf (getD x 0 0)) 133) e (λ f. quiet
         let z : _≡_ {A = ℕ} 0 1 = cc in
         absurd (omega arith)
     go false f ih = ih f
-
-each-append : {A : Type 0} (f : A → Step) (xs ys : List A) (st : State) → each f (xs ++ ys) st ≡ each f ys (each f xs st)
-unfolding each
-each-append f [] ys st = refl
-each-append f (x ∷ xs) ys st = each-append f xs ys (f x st)
 
 -- a step that the rows decide, where the run goes on
 asking-does : {f : List Row → Sized} {s r : Counts} {b d b′ d′ : List ℕ} → s .stop ≡ 0 → Fit r (length b′) (length d′) → ((rows : List Row) → Holds rows (s .rows) b → Does (f rows) s r b d b′ d′)

@@ -9,9 +9,9 @@ use lib.ListN.{length, getD}
 use Rattle.words.specs.Word.{kindOf, payOf, pick}
 use Rattle.expr.specs.Expr.{Strings, Expr, Lit, Var, Elem, Unary, Binary, Call, Field, Paren, kindE}
 use Rattle.expr.specs.Stands.{Stands}
-use Rattle.expr.proofs.Laws.{leaf-got, name-got, got-17, got-19}
+use Rattle.expr.proofs.Laws.{name-got, got-17}
 use Rattle.expr.proofs.Complete.{stands}
-use Rattle.expr.proofs.Nodes.{node, within, kind-of, in-binary, in-paren}
+use Rattle.expr.proofs.Nodes.{node, within, kind-of, in-binary, in-paren, in-unary}
 use Rattle.skip.specs.Shape.{SomeExpr}
 use Rattle.table.specs.Rows.{Row, Holds}
 use Rattle.fold.specs.Fold.{GoodFold, negateOf, binaryOf}
@@ -34,21 +34,6 @@ in-var {ws} {n} {at} {e} {end} k s =
     let v = got-17 k (node s .body) in
     let L = name-got (v .reads) in
     record { is = v .is ∙ ap Var (L .is); to = omega (arith, L .to) }
-
--- the operand of a unary operator
-record InUnary (ws : List ℕ) (n : Strings) (at : ℕ) (e : Expr) (end : ℕ) : Type 0 where
-  arg : Expr
-  inner : Stands ws n (at + 2) arg end
-  is : e ≡ Unary (payOf (getD ws (at + 1) 0)) arg
-
-in-unary : {ws : List ℕ} {n : Strings} {at : ℕ} {e : Expr} {end : ℕ} → kindOf (getD ws at 0) ≡ 19 → Stands ws n at e end → InUnary ws n at e end
-in-unary {ws} {n} {at} {e} {end} k s =
-    let N = node s in
-    let v = got-19 k (N .body) in
-    let L = leaf-got (v .reads) in
-    let p : v .mid ≡ at + 2 = omega (arith, L .to) in
-    let i = stands (N .levels) (v .inner) in
-    record { arg = v .arg; inner = rw p at i; is = v .is ∙ ap (λ (o : ℕ). Unary o (v .arg)) (L .is) }
 
 -- the left side of a binary operator, two words in
 left-at : {ws : List ℕ} {n : Strings} (at : ℕ) {m : ℕ} {e : Expr} → Stands ws n (at + 1 + 1) e m → Stands ws n (at + 2) e m

@@ -2,7 +2,7 @@
 use Prim.Native.Nat.{ℕ, _+_, _-_, _<_, _≤_}
 use native.Mathlib.Omega.{arith}
 use mathlib.Core.Path.{_≡_, refl, sym, ap, subst, _∙_}
-use mathlib.Core.Bool.{Bool, true, false, _||_}
+use mathlib.Core.Bool.{Bool, true, false, _||_, or-false}
 use mathlib.Core.List.{List, [], _∷_, _++_, append-nil}
 use mathlib.Core.Option.{Option}
 use lib.Dec.{eqb, lit<}
@@ -160,11 +160,7 @@ low r = lower (over see r)
 
 any-snoc : (l : List (Option Seen)) (x : Option Seen) → anySome (l ++ (x ∷ [])) ≡ (anySome l || isSome x)
 unfolding anySome
-any-snoc [] x = or-no (isSome x)
-  where
-    or-no : (t : Bool) → (t || false) ≡ t
-    or-no true = refl
-    or-no false = refl
+any-snoc [] x = or-false (isSome x)
 any-snoc (y ∷ ys) x = go (isSome y) (any-snoc ys x)
   where
     go : (t : Bool) → anySome (ys ++ (x ∷ [])) ≡ (anySome ys || isSome x) → (t || anySome (ys ++ (x ∷ []))) ≡ ((t || anySome ys) || isSome x)

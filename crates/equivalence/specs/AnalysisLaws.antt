@@ -1,37 +1,28 @@
 -- What it means that a program is accepted, part by part; words and trees determine each other; resolved words are read again, as the resolved
 -- tree. Assumes nothing.
-use Prim.Native.Nat.{ℕ, _+_, _≤_}
+use Prim.Native.Nat.{ℕ, _≤_}
 use mathlib.Core.Path.{_≡_, refl, sym, ap, subst, _∙_}
-use mathlib.Core.Bool.{Bool, true, false, _&&_, false≢true}
+use mathlib.Core.Bool.{Bool, true, false}
 use mathlib.Core.List.{List, _++_, append-nil}
 use mathlib.Core.Option.{Option}
 use native.Mathlib.Omega.{arith}
 use lib.ListN.{length, drop}
 use lib.Seq.{drop-length}
-use lib.Dec.{leb}
-use borrow.Author.Tests.{leb-true, le-leb, eq-eqb}
+use borrow.Author.Tests.{eq-eqb}
 use Rattle.words.specs.Told.{Told, stops, gives, after, unless}
 use Rattle.strings.specs.Table.{sound, namesOf}
 use Rattle.strings.specs.Open.{entryOf}
 use Rattle.expr.specs.Stands.{Wrote}
 use Rattle.tree.specs.Tree.{wordsT, depthT, Right}
 use Rattle.tree.proofs.Complete.{one-tree, clear, clearR, program-complete}
-use Rattle.reader.specs.Sized.{sizedStrings, sizedTree, sizedProgram}
+use Rattle.reader.specs.Sized.{sizedProgram}
 use Rattle.reader.specs.Program.{Program, wholeOf, erasedFrom, programOf, acceptedOf}
-use Rattle.reader.specs.Whole.{program-whole}
-use Rattle.table.specs.Rows.{Row}
+use Rattle.reader.specs.Whole.{program-whole, stops-gives}
 use Rattle.steps.specs.State.{State, running, stopped}
 use Rattle.collect.specs.Collect.{given, analysed}
-use Rattle.resolve.specs.Tables.{Tables, nowhere}
-use Rattle.resolve.specs.FromRows.{tablesOf}
-use Rattle.resolve.specs.Resolve.{resolveArrayAccesses}
-use Rattle.resolve.specs.Keeps.{shorter-tree, right-tree, deep-tree}
 use Rattle.equivalence.specs.Analysis.{Analysis, resolvedUnder, resultOf, analysis}
 
 -- ---- what gives no number passes every check
-
-stops-gives : {A : Type 0} {n p : ℕ} {a : A} → stops n p ≡ gives a → ⊥
-stops-gives e = let z : _≡_ {A = ℕ} 0 1 = cc in omega arith
 
 unless-gives : {A : Type 0} (n p : ℕ) (b : Bool) (t : Told A) {a : A} → unless b n p t ≡ gives a → (b ≡ true) × (t ≡ gives a)
 unfolding unless

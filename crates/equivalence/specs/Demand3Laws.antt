@@ -5,14 +5,14 @@
 use Prim.Native.Nat.{ℕ, _≤_}
 use mathlib.Core.Logic.{_↔_}
 use mathlib.Core.Path.{_≡_, refl, sym, ap, subst, _∙_}
-use mathlib.Core.Bool.{Bool, true, false, _&&_, false≢true}
+use mathlib.Core.Bool.{true, and-eq-true-iff}
 use mathlib.Core.List.{List}
 use mathlib.Core.Option.{Option, none}
 use native.Mathlib.Omega.{arith}
 use lib.ListN.{length}
 use lib.Dec.{leb}
 use borrow.Author.Tests.{leb-true, le-leb}
-use Rattle.words.specs.Told.{Told, gives, after, unless}
+use Rattle.words.specs.Told.{gives, after, unless}
 use Rattle.strings.specs.Table.{namesOf}
 use Rattle.strings.specs.Open.{entryOf}
 use Rattle.tree.specs.Tree.{wordsT, depthT, Right}
@@ -20,7 +20,7 @@ use Rattle.views.specs.Strip.{strip}
 use Rattle.reader.specs.Sized.{sizedStrings, sizedTree, sizedProgram}
 use Rattle.reader.specs.Program.{Program, programOf}
 use Rattle.table.specs.Rows.{Row}
-use Rattle.steps.specs.State.{State, running}
+use Rattle.steps.specs.State.{running}
 use Rattle.collect.specs.Collect.{given, Given, analysed}
 use Rattle.collect.specs.Blind.{analysed-strip}
 use Rattle.resolve.specs.Tables.{Tables, nowhere}
@@ -28,11 +28,11 @@ use Rattle.resolve.specs.FromRows.{tablesOf}
 use Rattle.resolve.specs.Resolve.{resolveTree, resolveArrayAccesses}
 use Rattle.resolve.specs.Flags.{res, res-is}
 use Rattle.resolve.specs.Keeps.{shorter-tree, right-tree, deep-tree}
-use Rattle.equivalence.specs.Chain.{Chain, then, back, same, keeps}
-use Rattle.equivalence.specs.Step.{StepP, Steps}
+use Rattle.equivalence.specs.Chain.{then, back, same, keeps}
+use Rattle.equivalence.specs.Step.{Steps}
 use Rattle.equivalence.specs.StepLaws.{undo, step, reach, strip-res}
 use Rattle.equivalence.specs.Analysis.{Analysis, resolvedUnder, Accepted, resolution}
-use Rattle.equivalence.specs.AnalysisLaws.{Known, known, accepts, Reads, reads, read-back, unique}
+use Rattle.equivalence.specs.AnalysisLaws.{Known, known, accepts, reads, read-back, unique}
 
 -- ---- on trees, under any rows
 
@@ -111,16 +111,12 @@ module _ {bytes ends erased words words′ : List ℕ} {first second : Analysis}
 
 -- ---- resolved words again
 
-and-both : (a b : Bool) → (a && b) ≡ true → (a ≡ true) × (b ≡ true)
-and-both true b e = (refl, e)
-and-both false b e = absurd (false≢true e)
-
 -- shorter words are within the sizes too
 sized-shorter : (bytes ends words words′ erased : List ℕ) → length words′ ≤ length words → sizedProgram bytes ends words erased ≡ true → (sizedTree bytes ends words′ ≡ true) × (sizedProgram bytes ends words′ erased ≡ true)
 unfolding sizedProgram sizedTree
 sized-shorter bytes ends words words′ erased h e =
-    let a = and-both (sizedTree bytes ends words) _ e in
-    let b = and-both (sizedStrings bytes ends) _ (a .0) in
+    let a = and-eq-true-iff (sizedTree bytes ends words) _ .0 e in
+    let b = and-eq-true-iff (sizedStrings bytes ends) _ .0 (a .0) in
     let c : leb (length words′) 8192 ≡ true = le-leb (length words′) 8192 (omega (arith, leb-true (length words) 8192 (b .1))) in
     (rw (b .0, c) refl, rw (b .0, c, a .1) refl)
 

@@ -1,22 +1,21 @@
 -- The definition of reading gives every right tree that stands at a place and is not too deep. So what stands at a place is one tree only. Assumes nothing.
-use Prim.Native.Nat.{ℕ, zero, suc, _+_, _*_, _-_, _/_, _%_, _<_, _≤_, max}
-use mathlib.Core.Path.{_≡_, refl, sym, ap, subst, _∙_}
+use Prim.Native.Nat.{ℕ, zero, suc, _+_, _-_, _<_, _≤_, max}
+use mathlib.Core.Path.{_≡_, refl, sym, ap, _∙_}
 use mathlib.Core.List.{List, [], _∷_, _++_}
-use mathlib.Core.Bool.{Bool, true, false, not}
+use mathlib.Core.Bool.{Bool, true}
 use native.Mathlib.Omega.{arith}
-use native.Mathlib.Nat.{le-antisymm}
 use native.Mathlib.Numerals.{add-one, sub-one}
-use lib.ListN.{length, getD, drop, length-append}
+use lib.ListN.{length, length-append}
 use lib.Seq.{drop-append-seam, drop-append-add}
-use lib.Dec.{ltb, leb, eqb, lit≤, lit<}
+use lib.Dec.{lit≤, lit<}
 use borrow.Author.Tests.{lt-ltb, le-leb, eq-eqb}
 use Rattle.expr.specs.Expr.{Strings, Named, finite, Literal, Integer, Long, Single, Float, Text, Expr, Exprs, Lit, Var, Elem, Unary, Binary, Call, Field, Paren, none, more, wordsL, many, words, wordsAll, depth, depths, Below, ValidL, Valid, Valids}
-use Rattle.words.specs.Word.{wordOf, pick, kindOf, payOf}
-use Rattle.expr.specs.Got.{Got, got, wrong, deep, bind}
+use Rattle.words.specs.Word.{wordOf}
+use Rattle.expr.specs.Got.{Got, got, deep, bind}
 use Rattle.expr.specs.Reader.{rawAt, testAt, leafAt, nameAt, headAt, floatAt, literalBody, literalAt, exprsAt, listAt, bodyAt, exprAt}
 use Rattle.expr.specs.Stands.{Wrote, Stands}
-use Rattle.expr.proofs.Parts.{First, wrote-first, wrote-left, wrote-right, kind-is, pay-is}
-use Rattle.expr.proofs.Sound.{Right, sound}
+use Rattle.expr.proofs.Parts.{First, wrote-first, wrote-left, wrote-right, kind-is, pay-is, ends}
+use Rattle.expr.proofs.Sound.{sound}
 
 put-raw : (ws : List ℕ) (at x end : ℕ) (xs : List ℕ) → First ws at x xs end → rawAt ws at ≡ got x (at + 1)
 unfolding rawAt
@@ -46,10 +45,6 @@ expr-some ws n zero at z = absurd (omega arith)
 expr-some ws n (suc d) at z = rw sub-one refl
 
 module _ (ws : List ℕ) (n : Strings) where
-  -- the end of the last word
-  ends : {at w end : ℕ} → First ws at w [] end → at + 1 ≡ end
-  ends {at} {w} {end} h = omega (arith, h .rest .span)
-
   lit-complete : (l : Literal) (at end : ℕ) → ValidL (n .count) l → Wrote ws at (wordsL l) end → literalAt ws (n .count) at ≡ got l end
   unfolding literalAt literalBody wordsL ValidL bind floatAt
   lit-complete (Integer a) at end v h =

@@ -1,21 +1,20 @@
 -- What stands inside a node, by the kind of its head: what a pass over an accepted tree goes by. Assumes nothing.
-use Prim.Native.Nat.{ℕ, zero, suc, _+_, _*_, _-_, _/_, _%_, _<_, _≤_, max}
-use mathlib.Core.Path.{_≡_, refl, sym, ap, subst, _∙_}
-use mathlib.Core.List.{List, [], _∷_, _++_}
-use mathlib.Core.Bool.{Bool, true, false, not}
+use Prim.Native.Nat.{ℕ, zero, suc, _+_, _<_, _≤_}
+use mathlib.Core.Path.{_≡_, ap, _∙_}
+use mathlib.Core.List.{List, [], _∷_}
 use native.Mathlib.Omega.{arith}
 use mathlib.Core.Logic.{_⊎_, inl, inr}
-use lib.ListN.{length, getD, drop}
-use Rattle.expr.specs.Expr.{Strings, Literal, Expr, Exprs, Lit, Var, Elem, Unary, Binary, Call, Field, Paren, none, more, many, words, wordsAll, depth, depths, Valid, Valids, ValidL, wordsL, kindE, kindL, Integer, Long, Single, Float, Text}
-use Rattle.words.specs.Word.{wordOf, pick, kindOf, payOf}
-use Rattle.expr.specs.Got.{Got, got, wrong, deep, bind}
-use Rattle.expr.specs.Reader.{rawAt, leafAt, headAt, literalAt, exprsAt, listAt, bodyAt, exprAt}
+use lib.ListN.{length, getD}
+use Rattle.expr.specs.Expr.{Strings, Literal, Expr, Exprs, Lit, Var, Elem, Unary, Binary, Call, Field, Paren, many, words, depth, ValidL, wordsL, kindE, kindL, Integer, Long, Single, Float, Text}
+use Rattle.words.specs.Word.{wordOf, kindOf, payOf}
+use Rattle.expr.specs.Got.{got}
+use Rattle.expr.specs.Reader.{headAt, listAt, bodyAt, exprAt}
 use Rattle.expr.specs.Stands.{Wrote, Stands, StandsAll}
-use Rattle.expr.proofs.Laws.{bind-got, map-got, deep-got, IsLeaf, leaf-got, name-got, IsHead, head-got, IsList, list-got, got-16, got-17, got-18, got-19, got-20, got-21, got-22, got-23}
+use Rattle.expr.proofs.Laws.{bind-got, deep-got, leaf-got, name-got, IsHead, head-got, list-got, got-16, got-18, got-19, got-20, got-21, got-22, got-23}
 use Rattle.expr.proofs.Parts.{wrote-first, kind-is}
 use lib.Dec.{lit<}
-use Rattle.expr.proofs.Sound.{lit-sound, Right, sound, Rights, exprs-sound}
-use Rattle.expr.proofs.Complete.{complete, completes, reads, stands}
+use Rattle.expr.proofs.Sound.{lit-sound, sound, exprs-sound}
+use Rattle.expr.proofs.Complete.{reads, stands}
 
 -- the head of what stands there, and what follows it
 pub record Node (ws : List ℕ) (n : Strings) (at : ℕ) (e : Expr) (end : ℕ) : Type 0 where
@@ -123,18 +122,18 @@ in-lit {ws} {n} {at} {e} {end} k s =
     record { lit = v .lit; wrote = L .0; valid = L .1; kind = kind-lit ws (at + 1) (v .lit) end (L .0); is = v .is }
 
 pub record InUnary (ws : List ℕ) (n : Strings) (at : ℕ) (e : Expr) (end : ℕ) : Type 0 where
-  pub op : ℕ
   pub arg : Expr
-  pub inner : Stands ws n (at + 1 + 1) arg end
-  pub is : e ≡ Unary op arg
+  pub inner : Stands ws n (at + 2) arg end
+  pub is : e ≡ Unary (payOf (getD ws (at + 1) 0)) arg
 
 pub in-unary : {ws : List ℕ} {n : Strings} {at : ℕ} {e : Expr} {end : ℕ} → kindOf (getD ws at 0) ≡ 19 → Stands ws n at e end → InUnary ws n at e end
 in-unary {ws} {n} {at} {e} {end} k s =
     let N = node s in
     let v = got-19 k (N .body) in
     let L = leaf-got (v .reads) in
-    let l = v .inner in
-    record { op = v .op; arg = v .arg; inner = stands (N .levels) (rw (L .to) at l); is = v .is }
+    let p : v .mid ≡ at + 2 = omega (arith, L .to) in
+    let i = stands (N .levels) (v .inner) in
+    record { arg = v .arg; inner = rw p at i; is = v .is ∙ ap (λ (o : ℕ). Unary o (v .arg)) (L .is) }
 
 pub record InField (ws : List ℕ) (n : Strings) (at : ℕ) (e : Expr) (end : ℕ) : Type 0 where
   pub arg : Expr

@@ -1,11 +1,11 @@
 -- Words that stand at a place, put together and taken apart. Assumes nothing.
-use Prim.Native.Nat.{ℕ, zero, suc, _+_, _*_, _/_, _%_, _<_, _≤_}
-use mathlib.Core.Path.{_≡_, refl, sym, ap, subst, _∙_}
+use Prim.Native.Nat.{ℕ, suc, _+_, _/_, _%_, _<_, _≤_}
+use mathlib.Core.Path.{_≡_, refl, sym, ap, _∙_}
 use mathlib.Core.List.{List, [], _∷_, _++_, append-assoc}
 use native.Mathlib.Omega.{arith}
 use native.Mathlib.Numerals.{add-one}
-use lib.ListN.{length, getD, take, drop, length-append, length-drop}
-use lib.Seq.{drop-cons, drop-drop, drop-append-seam, drop-at}
+use lib.ListN.{length, getD, drop, length-append}
+use lib.Seq.{drop-cons, drop-drop, drop-append-seam}
 use Rattle.words.specs.Word.{wordOf}
 use Rattle.expr.specs.Stands.{Wrote}
 
@@ -37,6 +37,10 @@ wrote-first {ws} {at} {w} {end} {xs} r =
     let h : at < length ws = omega (arith, r .span, r .inside) in
     let e : getD ws at 0 ∷ drop (suc at) ws ≡ w ∷ (xs ++ drop end ws) = sym (drop-cons ws at 0 h) ∙ r .is in
     record { inside = h; is = cc; rest = record { span = omega (arith, r .span); inside = r .inside; is = ap (λ (x : ℕ). drop x ws) (add-one at) ∙ (cc) } }
+
+-- the end of the last word
+pub ends : {ws : List ℕ} {at w end : ℕ} → First ws at w [] end → at + 1 ≡ end
+ends h = omega (arith, h .rest .span)
 
 -- the first part
 pub wrote-left : {ws : List ℕ} {at end : ℕ} (xs ys : List ℕ) → Wrote ws at (xs ++ ys) end → Wrote ws at xs (at + length xs)

@@ -3,16 +3,16 @@
 use Prim.Native.Nat.{ℕ, zero, suc, _+_, _-_, _*_, _/_, _%_, _≤_, _<_}
 use native.Mathlib.Omega.{arith}
 use mathlib.Core.Path.{_≡_, refl, sym, ap, _∙_}
-use mathlib.Core.Bool.{Bool, true, false, _&&_}
+use mathlib.Core.Bool.{Bool, true, false, and-eq-true-iff}
 use mathlib.Core.List.{List, [], _∷_, _++_, append-assoc}
-use mathlib.Core.Option.{Option, none, some}
+use mathlib.Core.Option.{none, some}
 use borrow.Author.Tests.{eqb-true}
 use lib.Dec.{eqb}
 use lib.ListN.{length, take, drop, getD, replicate, length-append, length-replicate, length-drop, take-append-drop}
 use lib.Seq.{take-at, drop-at, drop-drop, getD-drop, length-take-le}
 use Rattle.words.specs.Word.{pick}
 use Rattle.image.specs.Image.{Image, wordAt, wordsAt, strings, treeWords, erasedNames, treeFrom, erasedFrom, bytesFrom, lastEnd, byteCount, parts, zeros, padded, well, decode}
-use Rattle.image.specs.Laws.{length-words, both, Facts, facts, is-well}
+use Rattle.image.specs.Laws.{length-words, Facts, facts, is-well}
 
 -- ---- definitions
 
@@ -247,7 +247,7 @@ zeros-are : (l : List ℕ) → zeros l ≡ true → l ≡ replicate (length l) 0
 unfolding zeros
 zeros-are [] e = refl
 zeros-are (x ∷ l) e =
-    let p = both (eqb x 0) (zeros l) e in
+    let p = and-eq-true-iff (eqb x 0) (zeros l) .0 e in
     rw (eqb-true x 0 (p .0), ← zeros-are l (p .1))
 
 small-words : (l : List ℕ) (i n : ℕ) → Octets l → Small (wordsAt l i n)

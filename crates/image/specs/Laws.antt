@@ -1,15 +1,15 @@
 -- What an image's test says, and what a caller that has taken an image apart may conclude.
 use Prim.Native.Nat.{ℕ, zero, suc, _+_, _*_, _/_, _≤_, _<_}
 use native.Mathlib.Omega.{arith}
-use mathlib.Core.Path.{_≡_, refl, sym, ap, _∙_}
-use mathlib.Core.Bool.{Bool, true, false, _&&_}
+use mathlib.Core.Path.{_≡_, refl, sym, ap}
+use mathlib.Core.Bool.{Bool, true, false, and-eq-true-iff}
 use mathlib.Core.List.{List, _++_}
-use mathlib.Core.Option.{Option, none, some}
+use mathlib.Core.Option.{none, some}
 use borrow.Author.Tests.{leb-true, eqb-true, le-leb, eq-eqb}
 use lib.ListN.{length, take, drop}
 use lib.Seq.{take-at}
 use Rattle.words.specs.Word.{pick}
-use Rattle.image.specs.Image.{Image, wordsAt, strings, treeWords, erasedNames, treeFrom, erasedFrom, bytesFrom, byteCount, parts, zeros, padded, well, decode, opened}
+use Rattle.image.specs.Image.{wordsAt, strings, treeWords, erasedNames, treeFrom, erasedFrom, bytesFrom, byteCount, parts, zeros, padded, well, decode, opened}
 use Rattle.image.specs.declared.Shape.{Shape}
 use Rattle.image.specs.declared.Opened.the-variants.{Malformed, Whole}
 
@@ -27,10 +27,6 @@ front-length l i n old now e = rw (front l i n old now e) (sym (length-words l i
 
 -- ---- the image's test
 
-pub both : (a b : Bool) → a && b ≡ true → (a ≡ true) × (b ≡ true)
-both true b e = (refl, e)
-both false b e = let z : _≡_ {A = Bool} false true = e in (z, absurd (let w : _≡_ {A = ℕ} 0 1 = cc in omega arith))
-
 pub record Facts (l : List ℕ) : Type 0 where
   pub strings-fit : strings l ≤ 1024
   pub words-fit : treeWords l ≤ 8192
@@ -42,11 +38,11 @@ pub record Facts (l : List ℕ) : Type 0 where
 pub facts : (l : List ℕ) → well l ≡ true → Facts l
 unfolding well padded bytesFrom erasedFrom treeFrom
 facts l e =
-    let p₁ = both _ _ e in
-    let p₂ = both _ _ (p₁ .1) in
-    let p₃ = both _ _ (p₂ .1) in
-    let p₄ = both _ _ (p₃ .1) in
-    let p₅ = both _ _ (p₄ .1) in
+    let p₁ = and-eq-true-iff _ _ .0 e in
+    let p₂ = and-eq-true-iff _ _ .0 (p₁ .1) in
+    let p₃ = and-eq-true-iff _ _ .0 (p₂ .1) in
+    let p₄ = and-eq-true-iff _ _ .0 (p₃ .1) in
+    let p₅ = and-eq-true-iff _ _ .0 (p₄ .1) in
     record {
       strings-fit = leb-true _ _ (p₁ .0);
       words-fit = leb-true _ _ (p₂ .0);

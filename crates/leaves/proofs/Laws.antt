@@ -1,7 +1,7 @@
 -- The steps of an entry: a stop of the first checks stops the whole, what the rows are told is carried on to the answer; and what a name's number says of
 -- the string table. Assumes nothing.
 use mathlib.Core.Path.{_≡_, refl, sym, ap, _∙_}
-use mathlib.Core.Bool.{Bool, true, false, _&&_}
+use mathlib.Core.Bool.{Bool, true, false, and-eq-true-iff}
 use mathlib.Core.Logic.{_⊎_, inl, inr}
 use mathlib.Core.List.{List, [], _∷_, _++_}
 use Prim.Native.Nat.{ℕ, zero, suc, _+_, _-_, _≤_, _<_}
@@ -74,18 +74,6 @@ module _ (names rows : List ℕ) (q : Question) where
 
 -- ---- numbers of names
 
-pub and-yes : {a : Bool} (b : Bool) → a ≡ true → b ≡ (a && b)
-and-yes b e = ap (λ (t : Bool). t && b) (sym e)
-
-pub and-no : {a : Bool} (b : Bool) → a ≡ false → false ≡ (a && b)
-and-no b e = ap (λ (t : Bool). t && b) (sym e)
-
-pub and-both : (a b : Bool) → (a && b) ≡ true → (a ≡ true) × (b ≡ true)
-and-both true b e = (refl, e)
-and-both false b e =
-    let z : _≡_ {A = ℕ} 0 1 = cc in
-    absurd (omega arith)
-
 arg-below : (names : List ℕ) (head arg : ℕ) → length names ≤ 1024 → typeOk names head arg ≡ true → arg < 16777216
 unfolding typeOk
 arg-below names head arg l e = go (eqb head 44) (eqb head 45) (leb 40 head) (leb head 43) e
@@ -104,16 +92,16 @@ arg-below names head arg l e = go (eqb head 44) (eqb head 45) (leb 40 head) (leb
 pub small-admitted : (names : List ℕ) (q : Question) → length names ≤ 1024 → admits names q ≡ true → Small q
 unfolding admits
 small-admitted names (InProc proc name) l e =
-    let b = and-both (isMarked names proc) (isMarked names name) e in
+    let b = and-eq-true-iff (isMarked names proc) (isMarked names name) .0 e in
     (omega (arith, name-below names proc (b .0)), omega (arith, name-below names name (b .1)))
 small-admitted names (InScope scope name) l e =
-    let b = and-both (scopeOk names scope) (isMarked names name) e in
+    let b = and-eq-true-iff (scopeOk names scope) (isMarked names name) .0 e in
     (omega (arith, scope-below names scope (b .0)), omega (arith, name-below names name (b .1)))
 small-admitted names (OfType head arg) l e = arg-below names head arg l e
 
 pub scope-admitted : (names : List ℕ) (scope name : ℕ) → admits names (InScope scope name) ≡ true → isMarked names name ≡ true
 unfolding admits
-scope-admitted names scope name e = and-both (scopeOk names scope) (isMarked names name) e .1
+scope-admitted names scope name e = and-eq-true-iff (scopeOk names scope) (isMarked names name) .0 e .1
 
 -- ---- names of a string table
 

@@ -6,6 +6,7 @@ use native.Mathlib.Omega.{arith}
 use native.Mathlib.Nat.{eq-or-lt-of-le}
 use mathlib.Core.Path.{_≡_, refl}
 use mathlib.Core.Bool.{Bool, true, false, _&&_}
+use mathlib.Mathlib.Data.Bool.Basic.{and-elim-left, and-elim-right}
 use mathlib.Core.Logic.{_⊎_, inl, inr}
 use mathlib.Core.List.{List, [], _∷_, _++_}
 use borrow.Author.Tests.{leb-true, ne-eqb}
@@ -15,7 +16,7 @@ use lib.Seq.{getD-append-add}
 use Rattle.words.specs.Word.{pick}
 use Rattle.strings.specs.Name.{between, rest, isName}
 use Rattle.strings.specs.Table.{startOf, stringAt, marksBelow, namesOf}
-use Rattle.strings.proofs.Laws.{and-left, and-right, marks-length, names-length}
+use Rattle.strings.proofs.Laws.{marks-length, names-length}
 use Rattle.text.specs.Text.{ascii, digit, digits, decimal}
 use Rattle.lent.specs.Rules.{isMarked, scopeOk}
 use Rattle.lent.specs.RuleLaws.{name-below}
@@ -42,7 +43,7 @@ decimal-short n = digits-short 10 n
 name-few : (s : List ℕ) → isName s ≡ true → length s ≤ 40
 unfolding isName
 name-few [] e = omega arith
-name-few (b ∷ bs) e = leb-true (length (b ∷ bs)) 40 (and-left _ (between 65 90 b && rest bs) e)
+name-few (b ∷ bs) e = leb-true (length (b ∷ bs)) 40 (and-elim-left _ (between 65 90 b && rest bs) e)
 
 one-is : (b : Bool) → eqb (pick b 1 0) 1 ≡ true → b ≡ true
 one-is true e = refl
@@ -191,8 +192,8 @@ templates-short = refl
 template-short : (ts : List Template) (i : ℕ) → allShort ts ≡ true → mostIn (getD ts i (error "")) ≤ 261
 unfolding allShort mostIn mostOf ascii
 template-short [] i e = omega arith
-template-short (t ∷ ts) zero e = leb-true (mostIn t) 261 (and-left (leb (mostIn t) 261) (allShort ts) e)
-template-short (t ∷ ts) (suc i) e = template-short ts i (and-right (leb (mostIn t) 261) (allShort ts) e)
+template-short (t ∷ ts) zero e = leb-true (mostIn t) 261 (and-elim-left (leb (mostIn t) 261) (allShort ts) e)
+template-short (t ∷ ts) (suc i) e = template-short ts i (and-elim-right (leb (mostIn t) 261) (allShort ts) e)
 
 pub lines-short : (bytes ends : List ℕ) (d : Diag) → Names bytes ends d → length (lines bytes ends d) ≤ 261
 unfolding lines

@@ -1,6 +1,6 @@
 -- The code's table of builtins is the definition's, cell by cell, and comparing two names goes byte by byte. Assumes nothing.
 use mathlib.Core.Path.{_≡_, refl, sym, ap, _∙_}
-use mathlib.Core.Bool.{Bool, true, false, _&&_, false≢true}
+use mathlib.Core.Bool.{Bool, true, false, _&&_, false≢true, and-false}
 use mathlib.Core.List.{List, [], _∷_, _++_, map}
 use mathlib.Core.Option.{none, some}
 use Prim.Native.Nat.{ℕ, zero, suc, _+_, _*_, _-_, _≤_, _<_}
@@ -142,10 +142,6 @@ same-length [] [] n = absurd (n refl)
 same-length [] (y ∷ b) n = refl
 same-length (x ∷ a) [] n = refl
 same-length (x ∷ a) (y ∷ b) n = ap (λ (t : Bool). eqb x y && t) (same-length a b (λ (e : length a ≡ length b). n (ap suc e))) ∙ and-false (eqb x y)
-  where
-    and-false : (t : Bool) → (t && false) ≡ false
-    and-false true = refl
-    and-false false = refl
 
 module _ (a b : List ℕ) (j : ℕ) where
   step : j < length a → j < length b → same (drop j a) (drop j b) ≡ (eqb (getD a j 0) (getD b j 0) && same (drop (j + 1) a) (drop (j + 1) b))

@@ -1,6 +1,6 @@
 -- How the visible row comes out in each case, and that the row that `find` answers is the one that the definition finds. Assumes nothing.
 use mathlib.Core.Path.{_≡_, sym, ap, _∙_}
-use mathlib.Core.Bool.{Bool, true, false, _||_}
+use mathlib.Core.Bool.{Bool, true, false}
 use mathlib.Core.List.{List}
 use mathlib.Core.Option.{Option, none, some}
 use Prim.Native.Nat.{ℕ, _-_}
@@ -15,12 +15,6 @@ use Rattle.table.specs.declared.Found.the-variants.{At, Nothing}
 use Rattle.entries.specs.Entries.{entryKey}
 use Rattle.lookup.specs.Lookup.{shares, orElse, visible}
 use Rattle.lookup.specs.Answers.{rowAt}
-
-pub or-yes : {a : Bool} (b : Bool) → a ≡ true → true ≡ (a || b)
-or-yes b e = ap (λ (t : Bool). t || b) (sym e)
-
-pub or-no : {a : Bool} (b : Bool) → a ≡ false → b ≡ (a || b)
-or-no b e = ap (λ (t : Bool). t || b) (sym e)
 
 -- the row that was found is what the definition finds
 pub found-is : {rows : List Row} {n : ℕ} {buf : List ℕ} (H : Holds rows n buf) (k : ℕ) (r : Found) → r ≡ foundAt (rank k rows) (find k rows) → rowAt rows r ≡ find k rows

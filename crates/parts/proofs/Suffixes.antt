@@ -3,12 +3,12 @@ use Prim.Native.Nat.{ℕ, suc, _-_, _<_, _≤_}
 use native.Mathlib.Omega.{arith}
 use mathlib.Core.Path.{_≡_, refl, sym, ap, _∙_}
 use mathlib.Core.Bool.{Bool, true, false, not}
+use mathlib.Mathlib.Data.Bool.Basic.{or-inl}
 use mathlib.Core.List.{List, [], _∷_}
 use lib.Dec.{eqb, leb}
 use borrow.Author.Tests.{eq-eqb, ne-eqb, le-leb, lt-leb, not-true, not-false}
 use lib.ListN.{length, getD}
 use Rattle.strings.specs.Name.{suffix, between}
-use Rattle.strings.proofs.Laws.{or-true}
 use Rattle.lookup.specs.Lookup.{fromSuffix, fromTypeRef}
 use Rattle.leaves.specs.Leaves.{lastByte}
 use Rattle.views.specs.View.{TypeRef, head}
@@ -36,7 +36,7 @@ module _ (s : List ℕ) {last h : ℕ} (is : last ≡ lastByte s) {t : Bool} (to
 module _ (b : ℕ) where
   pub is-mark : b ≡ 33 → true ≡ suffix b
   unfolding suffix
-  is-mark e = sym (or-true (eqb b 33) (between 35 38 b) (eq-eqb b 33 e))
+  is-mark e = sym (or-inl (eqb b 33) (between 35 38 b) (eq-eqb b 33 e))
 
   pub below-marks : (b ≡ 33 → ⊥) → b < 35 → false ≡ suffix b
   unfolding suffix between

@@ -73,20 +73,11 @@ module _ {E F : Type 0} (g : E → F) where
   unfolding fieldDecl over
   field-decl-over (cons (word x) (cons t done)) = rw (type-over t)
 
-  pub params-over : (v : Tree E (one (many ParamRow))) → items param (over g v) ≡ items param v
-  params-over v = items-over param param param-over v
-
   pub scope-items-over : (v : Tree E (one (many ScopeRow))) → items scopeItem (over g v) ≡ items scopeItem v
   scope-items-over v = items-over scopeItem scopeItem scope-item-over v
 
-  pub field-decls-over : (v : Tree E (one (many FieldRow))) → items fieldDecl (over g v) ≡ items fieldDecl v
-  field-decls-over v = items-over fieldDecl fieldDecl field-decl-over v
-
   pub param-rows-over : (rs : Tree E (rows ParamRow)) → rowsOf param (over g rs) ≡ rowsOf param rs
   param-rows-over rs = rows-over param param param-over rs
-
-  pub scope-rows-over : (rs : Tree E (rows ScopeRow)) → rowsOf scopeItem (over g rs) ≡ rowsOf scopeItem rs
-  scope-rows-over rs = rows-over scopeItem scopeItem scope-item-over rs
 
   pub field-rows-over : (rs : Tree E (rows FieldRow)) → rowsOf fieldDecl (over g rs) ≡ rowsOf fieldDecl rs
   field-rows-over rs = rows-over fieldDecl fieldDecl field-decl-over rs

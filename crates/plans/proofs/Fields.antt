@@ -4,6 +4,7 @@ use native.Mathlib.Nat.{add-zero}
 use native.Mathlib.Omega.{arith}
 use mathlib.Core.Path.{_≡_, refl, sym, ap, subst, _∙_}
 use mathlib.Core.Bool.{Bool, true, false, _&&_, false≢true}
+use mathlib.Mathlib.Data.Bool.Basic.{and-elim-left, and-elim-right}
 use mathlib.Core.List.{List, [], _∷_, _++_, append-nil}
 use lib.Dec.{lit<}
 use lib.ListN.{length, take, drop, getD}
@@ -13,7 +14,7 @@ use Rattle.expr.specs.Expr.{Expr}
 use Rattle.expr.specs.Stands.{Wrote}
 use Rattle.expr.proofs.Parts.{wrote-first, kind-is, pay-is}
 use Rattle.tree.specs.Sorts.{Leaf, Sort, leaf, many, group, never, Sorts, nil, opt, kinds, sorts}
-use Rattle.tree.specs.Tree.{one, row, rows, Tree, word, list, part, this, that, done, none, more, count, wordsT, Right, depthT}
+use Rattle.tree.specs.Tree.{one, row, Tree, word, list, part, this, that, done, none, more, count, wordsT, Right, depthT}
 use Rattle.tree.specs.Stands.{Stands, SomeTree}
 use Rattle.tree.specs.Reader.{isAt}
 use Rattle.tree.specs.Codes.{parts, allRows, rowOf, singles, sortAt, chain, codes, partCodes, stmtCodes}
@@ -30,10 +31,6 @@ is-type e = ap sortAt e
 -- the first word, as it stands there
 first-word : {ws : List ℕ} {at w end : ℕ} {xs : List ℕ} → Wrote ws at (w ∷ xs) end → take 1 (drop at ws) ≡ w ∷ []
 first-word w = ap (λ (l : List ℕ). take 1 l) (w .is)
-
-and-left : (a b : Bool) → (a && b) ≡ true → a ≡ true
-and-left true b e = refl
-and-left false b e = e
 
 -- a plan for one sort is one for its number
 pub as-sort : (k : ℕ) {s : Sort} {ws : List ℕ} {at c r m : ℕ} → sortAt k ≡ s → Planned s ws at c r m → Planned (sortAt k) ws at c r m
@@ -119,7 +116,7 @@ module _ (ws : List ℕ) (at : ℕ) where
       go ns n (this done) end s =
           let f = wrote-first (s .wrote) in
           record { inner = none; counted = refl; there = record { wrote = f .rest; valid = tt }; is = refl; after = λ g. sym (append-nil (take 1 (drop at ws)) ∙ first-word (s .wrote)); deep = refl }
-      go ns n (that v) end s = absurd (zero-gone (not-first ws ns n 0 v at end (and-left _ _ c) (s .valid) (s .wrote)) h e)
+      go ns n (that v) end s = absurd (zero-gone (not-first ws ns n 0 v at end (and-elim-left _ _ c) (s .valid) (s .wrote)) h e)
 
   pub plan-present : (r : ℕ) → isAt ws 0 at ≡ false → Planned (opt (rowOf r)) ws at 0 r 1
   unfolding pieces written depthT wordsT Right count
@@ -187,10 +184,6 @@ module _ (ws : List ℕ) (at : ℕ) where
 
 -- ---- every sort of the table is clear
 
-and-right : (a b : Bool) → (a && b) ≡ true → b ≡ true
-and-right true b e = e
-and-right false b e = absurd (false≢true e)
-
 clears : List ℕ → Bool
 clears [] = true
 clears (c ∷ cs) = clear (sortAt c) && clears cs
@@ -202,14 +195,14 @@ all-clear (cs ∷ l) = clears cs && all-clear l
 clear-at : (cs : List ℕ) (i : ℕ) → clears cs ≡ true → clear (sortAt (getD cs i 0)) ≡ true
 unfolding clears clear sortAt singles
 clear-at [] i e = refl
-clear-at (c ∷ cs) zero e = and-left _ _ e
-clear-at (c ∷ cs) (suc i) e = clear-at cs i (and-right (clear (sortAt c)) _ e)
+clear-at (c ∷ cs) zero e = and-elim-left _ _ e
+clear-at (c ∷ cs) (suc i) e = clear-at cs i (and-elim-right (clear (sortAt c)) _ e)
 
 clear-in : (l : List (List ℕ)) (r : ℕ) → all-clear l ≡ true → clears (getD l r []) ≡ true
 unfolding all-clear clears
 clear-in [] r e = refl
-clear-in (cs ∷ l) zero e = and-left _ _ e
-clear-in (cs ∷ l) (suc r) e = clear-in l r (and-right (clears cs) _ e)
+clear-in (cs ∷ l) zero e = and-elim-left _ _ e
+clear-in (cs ∷ l) (suc r) e = clear-in l r (and-elim-right (clears cs) _ e)
 
 pub clear-listed : {k : ℕ} → Listed k → clear (sortAt k) ≡ true
 unfolding codes partCodes stmtCodes all-clear clears clear clearR may mayR sortAt singles rowOf allRows parts sorts kinds

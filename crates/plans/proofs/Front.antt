@@ -4,7 +4,8 @@
 use Prim.Native.Nat.{ℕ, zero, suc, _+_, _≤_, _<_}
 use native.Mathlib.Omega.{arith}
 use mathlib.Core.Path.{_≡_, refl, sym, ap, subst, _∙_}
-use mathlib.Core.Bool.{Bool, true, false, _&&_, _||_, false≢true}
+use mathlib.Core.Bool.{Bool, true, false, _&&_, _||_}
+use mathlib.Mathlib.Data.Bool.Basic.{and-elim-left, and-elim-right}
 use mathlib.Core.List.{List, [], _∷_, _++_, append-nil, append-assoc}
 use lib.Dec.{lit<, ltb, leb, eqb}
 use borrow.Author.Tests.{ltb-true, leb-true, eqb-true}
@@ -14,8 +15,8 @@ use Rattle.expr.specs.Expr.{Literal, Integer, Long, Single, Float, Text, Expr, 
 use Rattle.expr.specs.Stands as E
 use Rattle.expr.specs.Stands.{Wrote}
 use Rattle.expr.proofs.Parts.{wrote-first, wrote-left, wrote-right, kind-is}
-use Rattle.tree.specs.Sorts.{Sorts, nil, body, Kind, sorts, kinds, kindAt, numberOf}
-use Rattle.tree.specs.Tree.{Shape, one, row, rows, Tree, word, value, Stmt, list, part, this, that, done, cons, none as nothing, more as add, count, kindL, wordsT, depthT, between, strings, Right}
+use Rattle.tree.specs.Sorts.{Sorts, nil, body, Kind, sorts, kinds, numberOf}
+use Rattle.tree.specs.Tree.{Shape, one, row, Tree, word, value, Stmt, list, part, this, that, done, cons, none as nothing, more as add, count, kindL, wordsT, depthT, strings, Right}
 use Rattle.tree.specs.Stands.{Stands}
 use Rattle.tree.specs.Codes.{parts, allRows, rowOf}
 use Rattle.tree.proofs.Complete.{number-small, kind-number}
@@ -25,14 +26,6 @@ use Rattle.plans.specs.Items.{ordinary, quiet, quietR, quietI, Item, wor
 
 -- ---- every statement's sorts are quiet
 
-and-left : (a b : Bool) → (a && b) ≡ true → a ≡ true
-and-left true b e = refl
-and-left false b e = e
-
-and-right : (a b : Bool) → (a && b) ≡ true → b ≡ true
-and-right true b e = e
-and-right false b e = absurd (false≢true e)
-
 all-quiet : List Sorts → Bool
 all-quiet [] = true
 all-quiet (ss ∷ l) = quietR ss && all-quiet l
@@ -40,8 +33,8 @@ all-quiet (ss ∷ l) = quietR ss && all-quiet l
 quiet-at : (l : List Sorts) (r : ℕ) → all-quiet l ≡ true → quietR (getD l r nil) ≡ true
 unfolding all-quiet quietR
 quiet-at [] r e = refl
-quiet-at (ss ∷ l) zero e = and-left (quietR ss) _ e
-quiet-at (ss ∷ l) (suc r) e = quiet-at l r (and-right (quietR ss) _ e)
+quiet-at (ss ∷ l) zero e = and-elim-left (quietR ss) _ e
+quiet-at (ss ∷ l) (suc r) e = quiet-at l r (and-elim-right (quietR ss) _ e)
 
 pub quiet-row : (r : ℕ) → quietR (rowOf r) ≡ true
 unfolding rowOf all-quiet quiet quietR ordinary allRows parts sorts kinds
@@ -155,14 +148,14 @@ module _ (ns : List ℕ) (n d : ℕ) where
   front-tree (Stmt j line t) rest q v s r k = isStmt j line t rest v s r (record { is = refl; valid = ((quiet-kind j, v .1, omega arith), r); stmts = refl; writes = λ g p. refl })
   front-tree (list rs) rest q v s r k = isWord (wordOf 1 (count rs)) (treeItem rs ∷ rest) (word-ordinary 1 (count rs) (v .0) one-ordinary) (record { is = refl; valid = ((q, v .1, s), r); stmts = refl; writes = λ g p. refl })
   front-tree (part t) rest q v s r k = front-as (record { is = refl; stmts = refl; writes = λ g. refl }) (front-tree t rest q v s r k)
-  front-tree (this {k = j} {ss} t) rest q v s r k = isWord (wordOf j 0) (treeItem t ∷ rest) (word-ordinary j 0 (lit< tt) (and-left (ordinary j) _ q)) (record { is = refl; valid = ((and-left (quietR ss) _ (and-right (ordinary j) _ q), v, s), r); stmts = refl; writes = λ g p. refl })
-  front-tree (that {k = j} {ss} t) rest q v s r k = front-as (record { is = refl; stmts = refl; writes = λ g. refl }) (front-tree t rest (and-right (quietR ss) _ (and-right (ordinary j) _ q)) v s r k)
+  front-tree (this {k = j} {ss} t) rest q v s r k = isWord (wordOf j 0) (treeItem t ∷ rest) (word-ordinary j 0 (lit< tt) (and-elim-left (ordinary j) _ q)) (record { is = refl; valid = ((and-elim-left (quietR ss) _ (and-elim-right (ordinary j) _ q), v, s), r); stmts = refl; writes = λ g p. refl })
+  front-tree (that {k = j} {ss} t) rest q v s r k = front-as (record { is = refl; stmts = refl; writes = λ g. refl }) (front-tree t rest (and-elim-right (quietR ss) _ (and-elim-right (ordinary j) _ q)) v s r k)
   front-tree done rest q v s r k = front-as (record { is = refl; stmts = refl; writes = λ g. refl }) k
   front-tree (cons {s = so} {ss} t u) rest q v s r k =
-      let h : quietR ss ≡ true = and-right (quiet so) _ q in
+      let h : quietR ss ≡ true = and-elim-right (quiet so) _ q in
       let l : depthT u ≤ d = omega arith in
       front-as (record { is = append-assoc (wordsT t) (wordsT u) (wordsIs rest); stmts = append-assoc (outer t) (outer u) (outerIs rest); writes = λ g. append-assoc (written g t) (written g u) (writtenIs g rest) })
-      (front-tree t (treeItem u ∷ rest) (and-left (quiet so) _ q) (v .0) (omega arith) ((h, v .1, l), r) (front-tree u rest h (v .1) l r k))
+      (front-tree t (treeItem u ∷ rest) (and-elim-left (quiet so) _ q) (v .0) (omega arith) ((h, v .1, l), r) (front-tree u rest h (v .1) l r k))
   front-tree nothing rest q v s r k = front-as (record { is = refl; stmts = refl; writes = λ g. refl }) k
   front-tree (add t u) rest q v s r k =
       let l : depthT u ≤ d = omega arith in
@@ -307,21 +300,9 @@ pub ordinary-is : (k : ℕ) → ordinary k ≡ true → Ordinary k
 unfolding ordinary
 ordinary-is k e = or-cases (ltb k 21) _ e (λ p. let h = ltb-true k 21 p in record { no-call = λ q. omega arith; no-raw = λ a b. omega arith; no-stmt = λ a b. omega arith })
     (λ e′. or-cases (eqb k 22) _ e′ (λ p. let h = eqb-true k 22 p in record { no-call = λ q. omega arith; no-raw = λ a b. omega arith; no-stmt = λ a b. omega arith })
-    (λ p. let h = ltb-true k 64 (and-right (leb 28 k) _ p) in let l = leb-true 28 k (and-left (leb 28 k) _ p) in record { no-call = λ q. omega arith; no-raw = λ a b. omega arith; no-stmt = λ a b. omega arith }))
+    (λ p. let h = ltb-true k 64 (and-elim-right (leb 28 k) _ p) in let l = leb-true 28 k (and-elim-left (leb 28 k) _ p) in record { no-call = λ q. omega arith; no-raw = λ a b. omega arith; no-stmt = λ a b. omega arith }))
 
 module _ {ws ns : List ℕ} {n d at : ℕ} {xs : List Item} {end : ℕ} (S : StandsAll ws ns n d at xs end) (z : at < end) where
-  pub at-word : Ordinary (kindOf (getD ws at 0)) → WordsAt ws ns n d at xs end 1
-  at-word o = go (front-at S)
-    where
-      go : FrontAt ws ns n d at xs end → WordsAt ws ns n d at xs end 1
-      go (overAt p q r) = absurd (omega arith)
-      go (wordAt k w) = w
-      go (rawAt a b w) = absurd (o .no-raw (omega arith) (omega arith))
-      go (rawsAt a b w) = absurd (o .no-raw (omega arith) (omega arith))
-      go (parenAt k w) = absurd (o .no-raw (omega arith) (omega arith))
-      go (callAt k w) = absurd (o .no-call k)
-      go (stmtAt a b w) = absurd (o .no-stmt a b)
-
   pub at-raw : 24 ≤ kindOf (getD ws at 0) → kindOf (getD ws at 0) ≤ 25 → WordsAt ws ns n d at xs end 2
   at-raw l u = go (front-at S)
     where

@@ -12,11 +12,11 @@ use Rattle.expr.proofs.Parts.{wrote-first, wrote-left, wrote-right, kind-is}
 use Rattle.tree.specs.Sorts.{Sort, expr, stmt, Sorts, nil, _&_, body, Kind, sorts, numberOf, kindAt}
 use Rattle.tree.specs.Tree.{strings, Shape, one, row, rows, Tree, value, Stmt, done, cons, none, more, count, depthT, wordsT, Right}
 use Rattle.tree.specs.Stands.{Stands, SomeTree}
-use Rattle.tree.specs.Codes.{codes, partCodes, parts, allRows, decode, sortAt, rowOf}
+use Rattle.tree.specs.Codes.{codes, parts, allRows, decode, sortAt, rowOf}
 use Rattle.tree.proofs.Complete.{number-small, kind-number}
 use Rattle.tree.proofs.Steps.{decode-stop, decode-go, decode-over, decode-row, row-kind}
-use Rattle.plans.specs.Pieces.{Piece, exprPiece, stmtPiece, pieces}
-use Rattle.plans.specs.Plans.{Planned, Listed, Shallow, ShallowRows, SomeRows, Walks, WalksRows}
+use Rattle.plans.specs.Pieces.{Piece, exprPiece, pieces}
+use Rattle.plans.specs.Plans.{Planned, Shallow, ShallowRows, SomeRows, Walks, WalksRows}
 
 -- ---- some tree, and one of known strings and depth
 
@@ -47,10 +47,6 @@ walks-as {ws = ws} {at} {to} {P} q w = subst (λ (k : Shape). Walks k ws at to P
 pub body-sort : sortAt 68 ≡ body
 unfolding sortAt rowOf allRows parts
 body-sort = refl
-
-pub body-listed : Listed 68
-unfolding codes partCodes
-body-listed = record { row = 5; place = 0; is = refl }
 
 -- ---- an expression
 
@@ -282,13 +278,3 @@ fields-there {ns} {n} {d} {ws} {at} t = go (t .tree) (t .stands) (t .shallow)
   where
     go : (v : Tree Expr (one stmt)) → Stands ws ns n at v (t .end) → depthT v ≤ d → Shallow (row (rowOf (kindOf (getD ws at 0) - 64 + 39))) ns n d ws (at + 1)
     go (Stmt k line f) s h = shallow-as (ap row (sym (stmt-row s))) (record { tree = f; end = t .end; stands = fields s; shallow = omega arith })
-
--- its fields walked
-pub fields-done : {ws : List ℕ} {at to : ℕ} {P Q : List ℕ → ℕ → List (Piece Expr) → Type 0} → Walks (row (rowOf (kindOf (getD ws at 0) - 64 + 39))) ws (at + 1) to Q → ((ns : List ℕ) (n : ℕ) (k : Kind) (line : ℕ) (r : Tree Expr (row (sorts k))) (end : ℕ) → Stands ws ns n at (Stmt k line r) end → Q ns n (pieces r) → P ns n (stmtPiece k line r ∷ [])) → Walks (one stmt) ws at to P
-unfolding pieces
-fields-done {ws} {at} {to} {P} {Q} w f = record { gives = λ ns n v end s. go ns n v end s }
-  where
-    go : (ns : List ℕ) (n : ℕ) (v : Tree Expr (one stmt)) (end : ℕ) → Stands ws ns n at v end → (to ≡ end) × P ns n (pieces v)
-    go ns n (Stmt k line r) end s =
-        let g = walks-as {P = Q} (ap row (sym (stmt-row s))) w .gives ns n r end (fields s) in
-        (g .0, f ns n k line r end s (g .1))

@@ -1,11 +1,11 @@
 -- What is still to come in a scan of the words from left to right: items that stand one after another. These are definitions; proofs/Front opens them.
-use Prim.Native.Nat.{ℕ, _<_, _≤_}
+use Prim.Native.Nat.{ℕ, _≤_}
 use mathlib.Core.Path.{_≡_}
-use mathlib.Core.Bool.{Bool, true, false, _&&_, _||_}
+use mathlib.Core.Bool.{Bool, true, _&&_, _||_}
 use mathlib.Core.List.{List, [], _∷_, _++_}
 use lib.Dec.{ltb, eqb}
 use Rattle.words.specs.Word.{wordOf, kindOf}
-use Rattle.expr.specs.Expr.{Literal, Expr, Lit, Var, Elem, Unary, Binary, Call, Field, Paren, Exprs, none, more, wordsL, many as manyE, words, wordsAll, ValidL, Valid, Valids}
+use Rattle.expr.specs.Expr.{Literal, Expr, Lit, Var, Elem, Unary, Binary, Field, Exprs, none, more, wordsL, many as manyE, words, wordsAll, ValidL, Valid, Valids}
 use Rattle.expr.specs.Stands.{Wrote}
 use Rattle.tree.specs.Sorts.{Sort, leaf, expr, stmt, many, group, either, never, Sorts, nil, _&_}
 use Rattle.tree.specs.Tree.{Shape, one, row, rows, Tree, word, value, Stmt, list, part, this, that, done, cons, none as nothing, more as add, kindL, wordsT, depthT, between, strings, Right}

@@ -1,5 +1,5 @@
 -- What is done for a procedure, step by step: each step of the code is the definition's, for whatever was read. Assumes nothing.
-use Prim.Native.Nat.{ℕ, _+_, _*_, _<_, _≤_}
+use Prim.Native.Nat.{ℕ, _+_, _*_, _≤_}
 use native.Mathlib.Omega.{arith}
 use mathlib.Core.Path.{_≡_, refl, sym, ap, ap₂, subst, _∙_}
 use mathlib.Core.Bool.{Bool, true, false, not}
@@ -28,6 +28,7 @@ use Rattle.collect.specs.Seen.{Seen, see}
 use Rattle.collect.specs.Diagnostics.{procInside, procDefined, suffixDiffers, fixedParam, fixedResult, paramUndefined}
 use Rattle.collect.specs.Collect.{given, Proc, paramRows, fixedLength, lastOf, disagrees, differs, resultType, paramString, checkVariableLengthStrings, ranked, arrayParam, undefined, paramType, typedParam, procedure, statement}
 use Rattle.collect.specs.Code.{Collects}
+use Rattle.parts.proofs.Types.{head-some}
 use Rattle.procedures.specs.Post.{plain, ParamOf, ParamsAt, BodyAt, ProcOf, ProcIs, Says, Enters, Acts, definedBefore, beforeEntry, withParams, withMarks}
 use Rattle.procedures.specs.declared.ParamAt.{ParamAt}
 use Rattle.procedures.specs.declared.ProcAt.{ProcAt}
@@ -54,14 +55,6 @@ module _ {A : Type 0} {R : A → Type 0} {f : A → Sized} where
   acts-nothing l e = record { fit = l; does = λ x h. same (f x) (e x h) (nothing-does l) }
 
 -- ---- types
-
-pub head-some : (t : TypeRef) → 0 < head t
-head-some Integer = omega arith
-head-some Long = omega arith
-head-some Single = omega arith
-head-some Double = omega arith
-head-some (FixedString n) = omega arith
-head-some (Record x) = omega arith
 
 pub fixed-yes : {h a : ℕ} → h ≡ 44 → (ty : Option TypeRef) → h ≡ headOf ty → a ≡ argOf ty → a ≡ fixedLength ty
 unfolding fixedLength

@@ -2,6 +2,7 @@
 use Prim.Native.Nat.{ℕ, _+_, _≤_, _<_}
 use mathlib.Core.Path.{_≡_, refl, sym, ap, _∙_}
 use mathlib.Core.Bool.{Bool, true, false, _&&_}
+use mathlib.Mathlib.Data.Bool.Basic.{and-elim-left, and-elim-right}
 use mathlib.Core.List.{List}
 use native.Mathlib.Omega.{arith}
 use native.Mathlib.Numerals.{add-one}
@@ -11,13 +12,12 @@ use lib.Dec.{leb, eqb}
 use borrow.Author.Tests.{le-leb, lt-leb, eq-eqb, ne-eqb, leb-true}
 use Rattle.words.specs.Word.{pick}
 use Rattle.words.specs.Sizes.{maxStrings}
-use Rattle.words.specs.Told.{Told, stops, gives, after, unless}
-use Rattle.strings.proofs.Laws.{and-true, and-false, and-left, and-right}
+use Rattle.words.specs.Told.{stops, gives, after, unless}
+use Rattle.strings.proofs.Laws.{and-true, and-false}
 use Rattle.strings.specs.Table.{Names}
 use Rattle.expr.specs.Got.{Got, got, wrong, deep}
 use Rattle.expr.specs.Answer.{stepOf}
 use Rattle.expr.specs.declared.Step.{Step}
-use Rattle.expr.specs.declared.Step.the-variants.{Read, Wrong, Deep}
 use Rattle.tree.specs.Reader.{programAt}
 use Rattle.reader.specs.Sized.{sizedStrings, sizedTree, sizedProgram}
 use Rattle.reader.specs.Reading.{nodeOf, nodeOfStep}
@@ -46,7 +46,7 @@ module _ (bytes ends ws : List ℕ) where
 
   pub few-strings : sizedTree bytes ends ws ≡ true → length ends ≤ maxStrings
   unfolding sizedTree sizedStrings
-  few-strings e = leb-true (length ends) 1024 (and-right (leb (length bytes) 16384) _ (and-left (sizedStrings bytes ends) _ e))
+  few-strings e = leb-true (length ends) 1024 (and-elim-right (leb (length bytes) 16384) _ (and-elim-left (sizedStrings bytes ends) _ e))
 
   pub tree-over : (erased : List ℕ) → sizedTree bytes ends ws ≡ false → sizedProgram bytes ends ws erased ≡ false
   unfolding sizedProgram
@@ -58,7 +58,7 @@ module _ (bytes ends ws : List ℕ) where
 
   pub few-strings′ : (erased : List ℕ) → sizedProgram bytes ends ws erased ≡ true → length ends ≤ maxStrings
   unfolding sizedProgram
-  few-strings′ erased e = few-strings (and-left (sizedTree bytes ends ws) _ e)
+  few-strings′ erased e = few-strings (and-elim-left (sizedTree bytes ends ws) _ e)
 
 -- ---- the marks of the names, as a part of an array
 

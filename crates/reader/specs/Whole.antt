@@ -20,7 +20,7 @@ pub record Whole (ws ns : List ℕ) (n : ℕ) (p : Program) : Type 0 where
   pub stands : Stands ws ns n 0 p (length ws)
   pub shallow : depthT p ≤ 100
 
-stops-gives : {A : Type 0} {n p : ℕ} {a : A} → stops n p ≡ gives a → ⊥
+pub stops-gives : {A : Type 0} {n p : ℕ} {a : A} → stops n p ≡ gives a → ⊥
 stops-gives e = let z : _≡_ {A = ℕ} 0 1 = cc in omega arith
 
 whole-gives : {A : Type 0} (ws : List ℕ) (g : Got A) {p : A} → wholeOf ws g ≡ gives p → g ≡ got p (length ws)

@@ -3,7 +3,7 @@
 use Prim.Native.Nat.{ℕ, zero, suc, _-_, _≤_, _<_}
 use native.Mathlib.Omega.{arith}
 use mathlib.Core.Path.{_≡_, refl, sym, ap, subst, _∙_}
-use mathlib.Core.Bool.{Bool, true, false, _&&_}
+use mathlib.Core.Bool.{Bool, true, false, _&&_, and-eq-true-iff}
 use mathlib.Core.List.{List, [], _∷_, _++_, append-nil}
 use lib.ListN.{length, take, drop, getD, set}
 use lib.Seq.{sets, take-append-seam, drop-length}
@@ -35,7 +35,6 @@ use Rattle.lent.specs.Lent.{checked, lentRows}
 use Rattle.lent.specs.LentLaws.{checked-sound}
 use Rattle.lent.specs.declared.Checked.the-variants.{Bad, Rows}
 use Rattle.lent.specs.RuleLaws.{name-below, scope-below}
-use Rattle.leaves.proofs.Laws.{and-both}
 use Rattle.resolve.specs.Tables.{Tables, places}
 use Rattle.resolve.specs.FromRows.{tablesOf}
 use Rattle.resolve.specs.Resolve.{Program, resolveExpr, resolveArgs, resolveArrayAccesses}
@@ -190,7 +189,7 @@ module _ (names ws rows : List ℕ) (room scope name at end : ℕ) (few : length
 
   ready-there : {n : ℕ} → Passed names rows right (end - at) room n → ReadyAll (take (end - at) (drop at ws)) rows n scope 1 1 room (payOf (getD ws at 0))
   ready-there p =
-      let b = and-both (scopeOk names scope) (isMarked names name) (p .admitted) in
+      let b = and-eq-true-iff (scopeOk names scope) (isMarked names name) .0 (p .admitted) in
       record { strings = S; trees = es; end = end - at; stands = listed .there; counted = sym (ap payOf head-is ∙ pay-is 1 (many es) (listed .small)); room = room-for (take (end - at) (drop at ws)) p (take-short (end - at) (drop at ws)) (scope-fits names scope few (b .0)) 1 }
 
   -- one word is written already, and the output is as long as it was
@@ -202,7 +201,7 @@ module _ (names ws rows : List ℕ) (room scope name at end : ℕ) (few : length
 
   pub name-fits : {n : ℕ} → Passed names rows right (end - at) room n → name < 16777216
   name-fits p =
-      let b = and-both (scopeOk names scope) (isMarked names name) (p .admitted) in
+      let b = and-eq-true-iff (scopeOk names scope) (isMarked names name) .0 (p .admitted) in
       omega (arith, name-below names name (b .1))
 
   pub args-shut : (s : Refusal) → ruling names rows right (end - at) room ≡ refused s → resolveArgsAt names ws rows room scope name at ≡ refused s

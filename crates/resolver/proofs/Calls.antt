@@ -1,15 +1,15 @@
 -- What the calls inside `resolve_expr` and `resolve_args` require, and what they make together. Assumes nothing.
-use Prim.Native.Nat.{ℕ, suc, _+_, _-_, _*_, _≤_, _<_}
+use Prim.Native.Nat.{ℕ, _+_, _≤_, _<_}
 use native.Mathlib.Nat.{add-zero}
 use native.Mathlib.Omega.{arith}
-use mathlib.Core.Path.{_≡_, refl, sym, ap, ap₂, subst, _∙_}
-use mathlib.Core.Bool.{Bool, true, false}
+use mathlib.Core.Path.{_≡_, sym, ap, ap₂, _∙_}
 use mathlib.Core.List.{List, [], _∷_, _++_, append-assoc}
 use lib.ListN.{length, take, drop, getD, length-append}
 use lib.Seq.{sets, take-append-seam}
 use Rattle.words.specs.Word.{wordOf, kindOf, payOf, pick}
-use Rattle.expr.specs.Expr.{Strings, Expr, Call, Exprs, many, words, wordsAll, kindE}
-use Rattle.expr.specs.Stands.{Wrote, Stands, StandsAll}
+use Rattle.words.specs.Laws.{sets-append}
+use Rattle.expr.specs.Expr.{Strings, Expr, many, words, wordsAll}
+use Rattle.expr.specs.Stands.{Wrote, Stands}
 use Rattle.expr.proofs.Parts.{pay-is}
 use Rattle.expr.proofs.Nodes.{kind-of}
 use Rattle.skip.specs.Shape.{SomeExpr, children, Shaped}
@@ -19,11 +19,10 @@ use Rattle.table.specs.Rows.{Row, Holds}
 use Rattle.resolve.specs.Tables.{Tables, Places, places, nowhere, element}
 use Rattle.resolve.specs.FromRows.{tablesOf}
 use Rattle.resolve.specs.Resolve.{resolveExpr, resolveArgs}
-use Rattle.resolve.specs.Keeps.{shorter-args}
-use Rattle.resolver.specs.Node.{front, back, pairOf, bare}
-use Rattle.resolver.specs.Post.{Room, Some, Ready, ReadyAll, Put, Resolved, ResolvedArgs, Paired}
+use Rattle.resolver.specs.Node.{front, back, bare}
+use Rattle.resolver.specs.Post.{Some, Ready, ReadyAll, Put, Resolved, ResolvedArgs, Paired}
 use Rattle.resolver.proofs.Nodes.{node, inside, before, after, moves, in-call, in-pair}
-use Rattle.resolver.proofs.Writing.{sets-append, stands-bare, call-words, pair-words, node-words}
+use Rattle.resolver.proofs.Writing.{stands-bare, call-words, pair-words, node-words}
 use Rattle.resolver.proofs.Pairs.{unpaired}
 use Rattle.resolver.proofs.Lists.{Part, Walked, part-start, part-next, part-step, part-end}
 

@@ -1,24 +1,24 @@
 -- A list of expressions resolved one after another: what is written after some of them, from the first to the last. Assumes nothing.
-use Prim.Native.Nat.{ℕ, zero, suc, _+_, _-_, _≤_, _<_}
+use Prim.Native.Nat.{ℕ, suc, _+_, _≤_, _<_}
 use native.Mathlib.Nat.{add-zero, zero-add}
 use native.Mathlib.Omega.{arith}
-use mathlib.Core.Path.{_≡_, refl, sym, ap, ap₂, subst, _∙_, fun-ext}
-use mathlib.Core.Bool.{Bool, true, false}
-use mathlib.Core.List.{List, [], _∷_, _++_, append-nil, append-assoc}
-use lib.ListN.{length, take, drop, getD, length-append}
+use mathlib.Core.Path.{_≡_, refl, sym, ap, ap₂, _∙_, fun-ext}
+use mathlib.Core.Bool.{Bool}
+use mathlib.Core.List.{List, [], _++_, append-nil, append-assoc}
+use lib.ListN.{length, length-append}
 use lib.Seq.{sets}
+use Rattle.words.specs.Laws.{sets-append}
 use Rattle.expr.specs.Expr.{Strings, Expr, Exprs, none, more, many, words, wordsAll, Valids}
-use Rattle.expr.specs.Stands.{Wrote, Stands, StandsAll}
+use Rattle.expr.specs.Stands.{Stands, StandsAll}
 use Rattle.expr.proofs.Parts.{wrote-left, wrote-right}
-use Rattle.resolve.specs.Tables.{Tables, Places, nowhere, places, after}
+use Rattle.resolve.specs.Tables.{Tables, Places, after}
 use Rattle.table.specs.Rows.{Row, Holds}
 use Rattle.resolve.specs.FromRows.{tablesOf}
 use Rattle.resolve.specs.Resolve.{passed, resolveExpr, resolveArgs}
 use Rattle.resolve.specs.Keeps.{shorter}
 use Rattle.resolver.specs.Node.{pairOf, bare}
 use Rattle.resolver.specs.Post.{Put}
-use Rattle.resolver.proofs.Nodes.{moves}
-use Rattle.resolver.proofs.Writing.{sets-append, passed-words, stands-bare}
+use Rattle.resolver.proofs.Writing.{passed-words, stands-bare}
 
 -- the places of the members from the i-th on
 unfoldable pub onward : Places → ℕ → Places

@@ -1,16 +1,17 @@
 -- Runs of stores, and what resolving writes: the words of a node from those of its parts, and never more than were read. Assumes nothing.
-use Prim.Native.Nat.{ℕ, zero, suc, _+_, _-_, _≤_, _<_}
-use native.Mathlib.Nat.{add-zero, zero-add}
+use Prim.Native.Nat.{ℕ, _+_, _<_}
+use native.Mathlib.Nat.{add-zero}
 use native.Mathlib.Numerals.{add-one}
 use native.Mathlib.Omega.{arith}
-use mathlib.Core.Path.{_≡_, refl, sym, ap, ap₂, subst, _∙_, fun-ext}
+use mathlib.Core.Path.{_≡_, refl, sym, ap, ap₂, _∙_}
 use mathlib.Core.Bool.{Bool, true, false}
-use mathlib.Core.List.{List, [], _∷_, _++_, append-nil, append-assoc}
-use lib.ListN.{length, take, drop, getD, set, length-append, length-drop}
+use mathlib.Core.List.{List, [], _∷_, _++_, append-nil}
+use lib.ListN.{length, take, drop, getD, set, length-drop}
 use lib.Seq.{sets, take-suc, getD-drop, length-take-le}
-use Rattle.words.specs.Word.{wordOf, kindOf, payOf, pick}
-use Rattle.expr.specs.Expr.{Strings, Expr, Lit, Var, Elem, Unary, Binary, Call, Field, Paren, Exprs, none, more, many, words, wordsAll, wordsL, Valid, Valids, kindE}
-use Rattle.expr.specs.Stands.{Wrote, Stands, StandsAll}
+use Rattle.words.specs.Word.{wordOf, pick}
+use Rattle.words.specs.Laws.{sets-append}
+use Rattle.expr.specs.Expr.{Strings, Expr, Lit, Var, Elem, Unary, Binary, Call, Field, Paren, Exprs, none, more, many, words, wordsAll, wordsL, Valid, kindE}
+use Rattle.expr.specs.Stands.{Stands}
 use Rattle.expr.proofs.Parts.{wrote-first}
 use Rattle.skip.specs.Shape.{children}
 use Rattle.resolve.specs.Tables.{Tables, Places, nowhere, places, after, element}
@@ -19,12 +20,6 @@ use Rattle.resolve.specs.Flags.{passed-false}
 use Rattle.resolver.specs.Node.{front, back, pairOf, bare}
 
 -- ---- stores
-
-pub sets-append : (xs ys l : List ℕ) (i : ℕ) → sets l i (xs ++ ys) ≡ sets (sets l i xs) (i + length xs) ys
-sets-append [] ys l i = ap (λ (n : ℕ). sets l n ys) (sym (add-zero i))
-sets-append (a ∷ xs) ys l i =
-    let e : suc i + length xs ≡ i + suc (length xs) = omega arith in
-    sets-append xs ys (set l i a) (suc i) ∙ ap (λ (n : ℕ). sets (sets (set l i a) (suc i) xs) n ys) e
 
 -- one word more copied
 pub copy-more : (ws out last : List ℕ) (at to i : ℕ) → at + i < length ws → last ≡ sets out to (take i (drop at ws)) → set last (to + i) (getD ws (at + i) 0) ≡ sets out to (take (i + 1) (drop at ws))

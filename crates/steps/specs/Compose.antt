@@ -59,10 +59,14 @@ pick-no f t e F = record { fit = F .fit; after = λ N D st H. rw e (F .after N D
 
 -- ---- over a list: a loop that has done the first of them does one more
 
+pub each-append : {A : Type 0} (f : A → Step) (xs ys : List A) (st : State) → each f (xs ++ ys) st ≡ each f ys (each f xs st)
+unfolding each
+each-append f [] ys st = refl
+each-append f (x ∷ xs) ys st = each-append f xs ys (f x st)
+
 pub each-snoc : {A : Type 0} (f : A → Step) (xs : List A) (x : A) (st : State) → (each f xs ⨾ f x) st ≡ each f (xs ++ (x ∷ [])) st
 unfolding each
-each-snoc f [] x st = refl
-each-snoc f (y ∷ ys) x st = each-snoc f ys x (f y st)
+each-snoc f xs x st = sym (each-append f xs (x ∷ []) st)
 
 pub each-none : {A : Type 0} (f : A → Sized) {s : Counts} {b d : List ℕ} → Fit s (length b) (length d) → Does (λ N D. each (λ x. f x N D) []) s s b d b d
 unfolding each

@@ -1,20 +1,21 @@
 -- Laws of order, names and the rule of the table, in the steps that the loops take. Assumes nothing.
 use Prim.Native.Nat.{ℕ, zero, suc, _+_, _-_, _≤_, _<_}
 use mathlib.Core.Path.{_≡_, refl, sym, ap, _∙_}
-use mathlib.Core.Bool.{Bool, true, false, not, _&&_, _||_, false≢true}
-use mathlib.Core.Logic.{_⊎_, ⊎-elim}
+use mathlib.Core.Bool.{Bool, true, false, _&&_, _||_, false≢true}
+use mathlib.Mathlib.Data.Bool.Basic.{and-elim-left, and-elim-right}
+use mathlib.Core.Logic.{⊎-elim}
 use native.Mathlib.Nat.{eq-or-lt-of-le}
 use mathlib.Core.List.{List, [], _∷_, _++_}
 use native.Mathlib.Omega.{arith}
 use native.Mathlib.Numerals.{add-one}
 use lib.ListN.{length, getD, take, drop, drop-of-length-le, length-append, length-drop}
 use lib.Seq.{drop-cons, take-at}
-use lib.Dec.{ltb, leb, eqb}
-use borrow.Author.Tests.{lt-ltb, le-ltb, le-leb, lt-leb, eq-eqb, ne-eqb, ltb-true, leb-true, eqb-true}
+use lib.Dec.{leb, eqb}
+use borrow.Author.Tests.{lt-ltb, le-ltb, le-leb, lt-leb, eq-eqb, ne-eqb, leb-true, eqb-true}
 use Rattle.words.specs.Word.{pick}
 use Rattle.strings.specs.Order.{order, isBelow}
 use Rattle.strings.specs.Name.{between, inner, suffix, rest, isName}
-use Rattle.strings.specs.Table.{Names, part, startOf, stringAt, allPrintable, endRight, rises, lastRight, rightAt, isPlain, allBelow, sound, breaksAt, marksBelow, namesOf, Bounds}
+use Rattle.strings.specs.Table.{Names, part, startOf, stringAt, allPrintable, endRight, rises, lastRight, rightAt, isPlain, allBelow, sound, breaksAt, marksBelow, namesOf}
 use Rattle.strings.specs.Open.{Said, verdictOf}
 use Rattle.strings.specs.declared.Verdict.the-variants.{Sound, Breaks}
 use Rattle.strings.specs.declared.Order.{Order}
@@ -49,25 +50,11 @@ module _ (a b : List ℕ) (i : ℕ) where
 
 -- ---- names
 
-pub or-true : (a b : Bool) → a ≡ true → (a || b) ≡ true
-or-true a b e = rw e refl
-
-pub or-false : (a b : Bool) → a ≡ false → (a || b) ≡ b
-or-false a b e = rw e refl
-
 pub and-true : (a b : Bool) → a ≡ true → (a && b) ≡ b
 and-true a b e = rw e refl
 
 pub and-false : (a b : Bool) → a ≡ false → (a && b) ≡ false
 and-false a b e = rw e refl
-
-pub and-left : (a b : Bool) → (a && b) ≡ true → a ≡ true
-and-left true b e = refl
-and-left false b e = e
-
-pub and-right : (a b : Bool) → (a && b) ≡ true → b ≡ true
-and-right true b e = e
-and-right false b e = absurd (false≢true e)
 
 pub and-true-right : (a b : Bool) → b ≡ true → (a && b) ≡ a
 and-true-right true b e = e
@@ -104,15 +91,15 @@ printable-drop : (s : List ℕ) (n : ℕ) → allPrintable s ≡ true → allPri
 unfolding allPrintable
 printable-drop s zero e = e
 printable-drop [] (suc n) e = e
-printable-drop (b ∷ bs) (suc n) e = printable-drop bs n (and-right (between 32 126 b) _ e)
+printable-drop (b ∷ bs) (suc n) e = printable-drop bs n (and-elim-right (between 32 126 b) _ e)
 
 printable-take : (s : List ℕ) (n : ℕ) → allPrintable s ≡ true → allPrintable (take n s) ≡ true
 unfolding allPrintable
 printable-take s zero e = refl
 printable-take [] (suc n) e = refl
 printable-take (b ∷ bs) (suc n) e =
-    and-true (between 32 126 b) (allPrintable (take n bs)) (and-left (between 32 126 b) (allPrintable bs) e)
-    ∙ printable-take bs n (and-right (between 32 126 b) _ e)
+    and-true (between 32 126 b) (allPrintable (take n bs)) (and-elim-left (between 32 126 b) (allPrintable bs) e)
+    ∙ printable-take bs n (and-elim-right (between 32 126 b) _ e)
 
 -- ---- the table
 
@@ -156,7 +143,7 @@ pub all-at : (n : ℕ) (ok : ℕ → Bool) (i : ℕ) → allBelow n ok ≡ true 
 unfolding allBelow
 all-at zero ok i e p = absurd (omega arith)
 all-at (suc n) ok i e p =
-    ⊎-elim (λ (h : i ≡ n). rw h (and-right (allBelow n ok) _ e)) (λ (l : i < n). all-at n ok i (and-left _ _ e) l)
+    ⊎-elim (λ (h : i ≡ n). rw h (and-elim-right (allBelow n ok) _ e)) (λ (l : i < n). all-at n ok i (and-elim-left _ _ e) l)
     (eq-or-lt-of-le {n = i} {m = n} (omega arith))
 
 pub all-more : (n : ℕ) (ok : ℕ → Bool) → allBelow n ok ≡ true → ok n ≡ true → allBelow (n + 1) ok ≡ true
@@ -188,8 +175,8 @@ module _ (bytes ends : List ℕ) where
   pub ends-in : (i : ℕ) → rightAt bytes ends i ≡ true → (startOf ends i ≤ getD ends i 0) × (getD ends i 0 ≤ length bytes)
   unfolding rightAt endRight
   ends-in i e =
-      let h = and-left (endRight bytes ends i) _ e in
-      (leb-true (startOf ends i) (getD ends i 0) (and-left _ _ h), leb-true (getD ends i 0) (length bytes) (and-right (leb (startOf ends i) (getD ends i 0)) _ h))
+      let h = and-elim-left (endRight bytes ends i) _ e in
+      (leb-true (startOf ends i) (getD ends i 0) (and-elim-left _ _ h), leb-true (getD ends i 0) (length bytes) (and-elim-right (leb (startOf ends i) (getD ends i 0)) _ h))
 
   pub starts-rise : (i : ℕ) → allBelow i (rightAt bytes ends) ≡ true → startOf ends (i - 1) ≤ startOf ends i
   starts-rise i e =
@@ -238,7 +225,7 @@ module _ (bytes ends : List ℕ) where
   -- of a plain table the bytes and the last end are right
   plain-part : isPlain bytes ends ≡ true → (a e : ℕ) → allPrintable (part a e bytes) ≡ true
   unfolding isPlain
-  plain-part p a e = printable-take (drop a bytes) (e - a) (printable-drop bytes a (and-right (eqb (startOf ends (length ends)) (length bytes)) _ p))
+  plain-part p a e = printable-take (drop a bytes) (e - a) (printable-drop bytes a (and-elim-right (eqb (startOf ends (length ends)) (length bytes)) _ p))
 
   plain-last : isPlain bytes ends ≡ true → (i : ℕ) → lastRight bytes ends i ≡ true
   unfolding isPlain lastRight
@@ -247,7 +234,7 @@ module _ (bytes ends : List ℕ) where
       go : (t : Bool) → eqb (i + 1) (length ends) ≡ t → pick t (eqb (getD ends i 0) (length bytes)) true ≡ true
       go true q =
           let s : getD ends i 0 ≡ startOf ends (length ends) = start-next ends i ∙ ap (startOf ends) (eqb-true (i + 1) (length ends) q) in
-          rw s (and-left _ _ p)
+          rw s (and-elim-left _ _ p)
       go false q = refl
 
   pub right-plain : (i a e : ℕ) → a ≡ startOf ends i → e ≡ getD ends i 0 → a ≤ e → e ≤ length bytes → rises bytes ends i ≡ true → isPlain bytes ends ≡ true → rightAt bytes ends i ≡ true

@@ -73,39 +73,32 @@ here-parts name (Field e x) = sym (orElse-none (inExpr name e))
 here-parts name (Paren e) = sym (orElse-none (inExpr name e))
 
 -- a name with its list, as the words have them
-record InName (ws : List ℕ) (at name : ℕ) (e : Expr) : Type 0 where
-  here : hereOf name e ≡ subscripted (eqb (payOf (getD ws (at + 1) 0)) name) (payOf (getD ws (at + 2) 0))
-  fits : at + 2 < length ws
-
 module _ {ws : List ℕ} {at : ℕ} (name : ℕ) {end : ℕ} where
-  two : (k x : ℕ) (es : Exprs) → Wrote ws at (wordOf k 0 ∷ wordOf 2 x ∷ wordOf 1 (many es) ∷ wordsAll es) end → x < 16777216 → many es < 16777216 → (subscripted (eqb x name) (many es) ≡ subscripted (eqb (payOf (getD ws (at + 1) 0)) name) (payOf (getD ws (at + 2) 0))) × (at + 2 < length ws)
+  two : (k x : ℕ) (es : Exprs) → Wrote ws at (wordOf k 0 ∷ wordOf 2 x ∷ wordOf 1 (many es) ∷ wordsAll es) end → x < 16777216 → many es < 16777216 → subscripted (eqb x name) (many es) ≡ subscripted (eqb (payOf (getD ws (at + 1) 0)) name) (payOf (getD ws (at + 2) 0))
   two k x es w a b =
       let f = wrote-first (wrote-first w .rest) in
       let g = wrote-first (f .rest) in
       let p : at + 1 + 1 ≡ at + 2 = omega arith in
       let q : payOf (getD ws (at + 1) 0) ≡ x = ap payOf (f .is) ∙ pay-is 2 x a in
       let r : payOf (getD ws (at + 2) 0) ≡ many es = ap (λ (i : ℕ). payOf (getD ws i 0)) (sym p) ∙ ap payOf (g .is) ∙ pay-is 1 (many es) b in
-      (ap₂ (λ (y m : ℕ). subscripted (eqb y name) m) (sym q) (sym r), omega (arith, g .inside))
+      ap₂ (λ (y m : ℕ). subscripted (eqb y name) m) (sym q) (sym r)
 
-  in-name : {n : Strings} {e : Expr} → (kindOf (getD ws at 0) ≡ 18) ⊎ (kindOf (getD ws at 0) ≡ 21) → Stands ws n at e end → InName ws at name e
+  in-name : {n : Strings} {e : Expr} → (kindOf (getD ws at 0) ≡ 18) ⊎ (kindOf (getD ws at 0) ≡ 21) → Stands ws n at e end → hereOf name e ≡ subscripted (eqb (payOf (getD ws (at + 1) 0)) name) (payOf (getD ws (at + 2) 0))
   unfolding words Valid kindE hereOf
   in-name {n} {e} k s = go e (s .wrote) (s .valid) (kind-of s)
     where
       other : {A : Type 0} (j : ℕ) → kindOf (getD ws at 0) ≡ j → (j ≡ 18 → ⊥) → (j ≡ 21 → ⊥) → A
       other j q a b = ⊎-elim (λ (p : kindOf (getD ws at 0) ≡ 18). absurd (a (sym q ∙ p))) (λ (p : kindOf (getD ws at 0) ≡ 21). absurd (b (sym q ∙ p))) k
 
-      go : (e : Expr) → Wrote ws at (words e) end → Valid n e → kindOf (getD ws at 0) ≡ kindE e → InName ws at name e
+      go : (e : Expr) → Wrote ws at (words e) end → Valid n e → kindOf (getD ws at 0) ≡ kindE e → hereOf name e ≡ subscripted (eqb (payOf (getD ws (at + 1) 0)) name) (payOf (getD ws (at + 2) 0))
       go (Lit l) w v q = other 16 q (λ z. absurd (omega arith)) (λ z. absurd (omega arith))
       go (Var x) w v q = other 17 q (λ z. absurd (omega arith)) (λ z. absurd (omega arith))
-      go (Elem x es) w v q = let t = two 18 x es w (v .0 .fits) (v .1) in record { here = t .0; fits = t .1 }
+      go (Elem x es) w v q = two 18 x es w (v .0 .fits) (v .1)
       go (Unary o e) w v q = other 19 q (λ z. absurd (omega arith)) (λ z. absurd (omega arith))
       go (Binary o l r) w v q = other 20 q (λ z. absurd (omega arith)) (λ z. absurd (omega arith))
-      go (Call x es) w v q = let t = two 21 x es w (v .0 .fits) (v .1) in record { here = t .0; fits = t .1 }
+      go (Call x es) w v q = two 21 x es w (v .0 .fits) (v .1)
       go (Field e x) w v q = other 22 q (λ z. absurd (omega arith)) (λ z. absurd (omega arith))
       go (Paren e) w v q = other 23 q (λ z. absurd (omega arith)) (λ z. absurd (omega arith))
-
-pub name-fits : {ws : List ℕ} {at : ℕ} → (kindOf (getD ws at 0) ≡ 18) ⊎ (kindOf (getD ws at 0) ≡ 21) → SomeExpr ws at → at + 2 < length ws
-name-fits k A = in-name 0 k (A .stands) .fits
 
 -- an empty list is no use, whatever the name
 subscripted-none : (b : Bool) → subscripted b 0 ≡ nothing
@@ -124,11 +117,11 @@ module _ {ws : List ℕ} {at name : ℕ} {r : Use} where
   here-empty k z q = record {
     gives = λ n e end s.
         let b : Bool = eqb (payOf (getD ws (at + 1) 0)) name in
-        q ∙ sym (in-name name k s .here ∙ ap (subscripted b) z ∙ subscripted-none b);
+        q ∙ sym (in-name name k s ∙ ap (subscripted b) z ∙ subscripted-none b);
   }
 
   pub here-list : (kindOf (getD ws at 0) ≡ 18) ⊎ (kindOf (getD ws at 0) ≡ 21) → (payOf (getD ws (at + 2) 0) ≡ 0 → ⊥) → useOf r ≡ pick (eqb (payOf (getD ws (at + 1) 0)) name) (some (payOf (getD ws (at + 2) 0))) nothing → HereIs ws at name r
-  here-list k z q = record { gives = λ n e end s. q ∙ sym (in-name name k s .here ∙ subscripted-some (eqb (payOf (getD ws (at + 1) 0)) name) (payOf (getD ws (at + 2) 0)) z) }
+  here-list k z q = record { gives = λ n e end s. q ∙ sym (in-name name k s ∙ subscripted-some (eqb (payOf (getD ws (at + 1) 0)) name) (payOf (getD ws (at + 2) 0)) z) }
 
   pub here-other : ((kindOf (getD ws at 0) ≡ 18) ⊎ (kindOf (getD ws at 0) ≡ 21) → ⊥) → useOf r ≡ nothing → HereIs ws at name r
   unfolding hereOf kindE
@@ -163,16 +156,6 @@ expr-done {ws} {at} {name} {s} {h} {u} {c} S H C q = record {
       let g = C .gives n (children e) (i .mid) (rw (p .front-is) f) (sym (p .children-is)) in
       (q ∙ ap₂ orElse (H .gives n e end t) (g .0) ∙ sym (here-parts name e), omega (arith, g .1, p .back-is, i .to));
 }
-
--- the place past an expression, and past the children of one
-pub expr-ends : {ws : List ℕ} {at name : ℕ} {r : Sought} (A : SomeExpr ws at) → SeeksExpr ws at name r → (r .next ≡ A .end) × (A .end ≤ length ws)
-expr-ends A R = (R .gives _ _ _ (A .stands) .1, A .stands .wrote .inside)
-
-pub exprs-ends : {ws : List ℕ} {at name k : ℕ} {r : Sought} → SomeExprs ws at k → SeeksExprs ws at name k r → (at ≤ r .next) × (r .next ≤ length ws)
-exprs-ends A R =
-    let e = R .gives _ _ _ (A .stands) (A .counted) .1 in
-    let w = A .stands .wrote in
-    (omega (arith, e, w .span), omega (arith, e, w .inside))
 
 pub back-fits : {ws : List ℕ} {at name : ℕ} {s : Shape} {c : Sought} → SomeExpr ws at → ShapedAt ws at s → SeeksExprs ws (at + s .front) name (s .children) c → c .next + s .back ≤ length ws
 back-fits {ws} {at} {name} {s} {c} A S C =

@@ -1,8 +1,9 @@
 -- Statements of the kinds with targets, or with expressions in another order than their words; and the uses of all others. Assumes nothing.
-use Prim.Native.Nat.{ℕ, suc, _+_, _<_, _≤_}
+use Prim.Native.Nat.{ℕ, _+_, _<_, _≤_}
 use native.Mathlib.Omega.{arith}
 use mathlib.Core.Path.{_≡_, refl, sym, ap, ap₂, subst, _∙_}
 use mathlib.Core.Bool.{Bool, true, false, _&&_, false≢true}
+use mathlib.Mathlib.Data.Bool.Basic.{and-elim-left, and-elim-right}
 use mathlib.Core.List.{List, [], _∷_, _++_}
 use mathlib.Core.Option.{Option, none as nothing, some}
 use lib.Dec.{eqb, ltb}
@@ -12,6 +13,7 @@ use Rattle.words.specs.Word.{kindOf, payOf}
 use Rattle.expr.specs.Expr.{Expr}
 use Rattle.expr.specs.Stands as W
 use Rattle.expr.proofs.Parts.{wrote-first, pay-is}
+use Rattle.expr.proofs.Steps.{past}
 use Rattle.tree.specs.Sorts.{Sort, leaf, expr, stmt, many, group, either, never, Sorts, nil, _&_, opt, exprs, quoted, PrintItem, LValue as LValueRow, Kind, sorts, numberOf, kindAt, kinds, label, labelName, let′, print, input, lineInput, if, for, while, doLoop, goto, gosub, return, onGoto, onGosub, dim, declare, shared, static, redim, sub, function, call, midAssign, swap, const, exitLoop, exitProc, optionBase, typeDef, fieldAssign, data′, read, defType, beep, erase, raiseError, onError, resume, locate, color, randomize, restore, cls, selectCase, end′, stop, open′, close, width, field′, setField, getPut, lock}
 use Rattle.tree.specs.Tree.{strings, Shape, one, row, rows, Tree, word, value, Stmt, list, part, this, that, done, cons, none, more, wordsT, Right}
 use Rattle.tree.specs.Stands.{Stands, SomeTree}
@@ -52,14 +54,6 @@ quiet (one s) = quietS s
 quiet (row ss) = quietR ss
 quiet (rows ss) = quietR ss
 
-and-left : (a b : Bool) → (a && b) ≡ true → a ≡ true
-and-left true b e = refl
-and-left false b e = e
-
-and-right : (a b : Bool) → (a && b) ≡ true → b ≡ true
-and-right true b e = e
-and-right false b e = absurd (false≢true e)
-
 quiet-none : (name : ℕ) {i : Shape} (v : Tree Expr i) → quiet i ≡ true → subscriptCount usedIn name v ≡ nothing
 unfolding subscriptCount quiet quietS quietR orElse
 quiet-none name (word x) q = refl
@@ -67,10 +61,10 @@ quiet-none name (value e) q = refl
 quiet-none name (Stmt k line r) q = absurd (false≢true q)
 quiet-none name (list rs) q = quiet-none name rs q
 quiet-none name (part r) q = quiet-none name r q
-quiet-none name (this {k} {ss} {s} r) q = quiet-none name r (and-left (quietR ss) (quietS s) q)
-quiet-none name (that {k} {ss} {s} v) q = quiet-none name v (and-right (quietR ss) (quietS s) q)
+quiet-none name (this {k} {ss} {s} r) q = quiet-none name r (and-elim-left (quietR ss) (quietS s) q)
+quiet-none name (that {k} {ss} {s} v) q = quiet-none name v (and-elim-right (quietR ss) (quietS s) q)
 quiet-none name done q = refl
-quiet-none name (cons {s} {ss} v r) q = ap₂ orElse (quiet-none name v (and-left (quietS s) (quietR ss) q)) (quiet-none name r (and-right (quietS s) (quietR ss) q))
+quiet-none name (cons {s} {ss} v r) q = ap₂ orElse (quiet-none name v (and-elim-left (quietS s) (quietR ss) q)) (quiet-none name r (and-elim-right (quietS s) (quietR ss) q))
 quiet-none name none q = refl
 quiet-none name (more r rs) q = ap₂ orElse (quiet-none name r q) (quiet-none name rs q)
 
@@ -409,9 +403,6 @@ targeted-above k a y z =
     let b : 66 ≤ k = omega arith in
     let h : 69 < k = omega arith in
     rw (le-leb 66 k b, lt-leb k 69 h, ne-eqb k 88 y, ne-eqb k 96 z) refl
-
-past : (n k : ℕ) → n ≤ k → (k ≡ n → ⊥) → suc n ≤ k
-past n k h f = omega arith
 
 -- what is left is a READ
 pub read-kind : (k : ℕ) → targeted k ≡ true → (k ≡ 66 → ⊥) → (k ≡ 67 → ⊥) → (k ≡ 68 → ⊥) → (k ≡ 69 → ⊥) → (k ≡ 88 → ⊥) → k ≡ 96

@@ -179,17 +179,6 @@ inserted-holds rows n buf H row w m after I = go (Room (length buf) rows row) re
         let z : _≡_ {A = ℕ} 0 1 = cc in
         absurd (omega arith)
 
--- it had no room
-pub full-holds : (rows : List Row) (n : ℕ) (buf : List ℕ) → Holds rows n buf → (row : Row) (after : List ℕ) → Inserted row rows (length buf) Full after → after ≡ buf
-full-holds rows n buf H row after I = go (Room (length buf) rows row) refl
-  where
-    go : (t : Bool) → Room (length buf) rows row ≡ t → after ≡ buf
-    go true r =
-        let m-is : Full ≡ Done (length (insert row rows)) = I .answer ∙ pick-true (Done (length (insert row rows))) Full r in
-        let z : _≡_ {A = ℕ} 0 1 = cc in
-        absurd (omega arith)
-    go false r = I .after ∙ ap (image width (length buf)) (pick-false (insert row rows) rows r) ∙ sym (H .filled .words)
-
 -- rows went out
 pub removed-holds : (rows : List Row) (n : ℕ) (buf : List ℕ) → Holds rows n buf → (lo hi m : ℕ) → lo ≤ hi → (after : List ℕ)
     → Removed lo hi rows (length buf) m after → Holds (remove lo hi rows) m after
@@ -281,9 +270,6 @@ picked-done false m k e = done≢full m e
 pub picked-full : (t : Bool) (k : ℕ) → Full ≡ pick t (Done k) Full → t ≡ false
 picked-full true k e = done≢full k (sym e)
 picked-full false k e = refl
-
-pub room-done : (n : ℕ) (row : Row) (rows : List Row) (m : ℕ) (after : List ℕ) → Inserted row rows n (Done m) after → Room n rows row ≡ true
-room-done n row rows m after I = picked-done (Room n rows row) m (length (insert row rows)) (I .answer) .0
 
 pub room-full : (n : ℕ) (row : Row) (rows : List Row) (after : List ℕ) → Inserted row rows n Full after → Room n rows row ≡ false
 room-full n row rows after I = picked-full (Room n rows row) (length (insert row rows)) (I .answer)

@@ -1,7 +1,7 @@
 -- Texts written one after the other: two texts written in turn are one text written (`then`), and the loops that write parts and decimal
 -- digits come down to it.
 use Prim.Native.Nat.{ℕ, zero, suc, _+_, _-_, _*_, _/_, _%_, _^_, _≤_, _<_, min}
-use native.Mathlib.Nat.{add-zero, pow-suc, div-one}
+use native.Mathlib.Nat.{pow-suc, div-one}
 use native.Mathlib.Numerals.{add-one}
 use native.Mathlib.Omega.{arith}
 use mathlib.Core.Path.{_≡_, refl, sym, ap, _∙_}
@@ -12,14 +12,9 @@ use lib.Dec.{ltb, leb}
 use lib.ListN.{length, take, drop, getD, set, replicate, length-append, length-drop, take-append-drop, List·getD-append}
 use lib.Seq.{getD-append-add, sets, sets-eq, length-sets, set-out, take-suc, getD-drop, take-all, take-take, length-take-le}
 use Rattle.words.specs.Word.{pick}
+use Rattle.words.specs.Laws.{sets-append}
 use Rattle.text.specs.Text.{digit, hex8, pair, hexPairs, digits, decimal}
 use Rattle.text.specs.Wrote.{Wrote, size, laid}
-
-sets-append : (xs ys l : List ℕ) (i : ℕ) → sets l i (xs ++ ys) ≡ sets (sets l i xs) (i + length xs) ys
-sets-append [] ys l i = ap (λ n. sets l n ys) (sym (add-zero i))
-sets-append (a ∷ xs) ys l i =
-    let e : suc i + length xs ≡ i + suc (length xs) = omega arith in
-    sets-append xs ys (set l i a) (suc i) ∙ ap (λ n. sets (sets (set l i a) (suc i) xs) n ys) e
 
 sets-out : (vs l : List ℕ) (i : ℕ) → length l ≤ i → sets l i vs ≡ l
 sets-out [] l i h = refl

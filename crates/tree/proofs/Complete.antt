@@ -3,6 +3,7 @@ use Prim.Native.Nat.{ℕ, zero, suc, _+_, _-_, _/_, _%_, _<_, _≤_, max}
 use mathlib.Core.Path.{_≡_, refl, sym, ap, subst, _∙_}
 use mathlib.Core.List.{List, [], _∷_, _++_, append-nil}
 use mathlib.Core.Bool.{Bool, true, false, not, _&&_, _||_, false≢true}
+use mathlib.Mathlib.Data.Bool.Basic.{and-elim-left, and-elim-right, or-inl, or-inr}
 use native.Mathlib.Omega.{arith}
 use native.Mathlib.Numerals.{add-one, sub-one}
 use lib.ListN.{length, getD, drop, length-append}
@@ -15,7 +16,7 @@ use Rattle.expr.specs.Got.{Got, got, wrong, deep, bind}
 use Rattle.expr.specs.Reader.{leafAt, exprAt}
 use Rattle.expr.specs.Stands.{Wrote, Stands}
 use Rattle.expr.proofs.Laws.{pick-true}
-use Rattle.expr.proofs.Parts.{First, wrote-first, wrote-left, wrote-right, kind-is, pay-is, wrote-none}
+use Rattle.expr.proofs.Parts.{First, wrote-first, wrote-left, wrote-right, kind-is, pay-is, wrote-none, ends}
 use Rattle.expr.proofs.Complete.{complete, put-leaf}
 use Rattle.expr.proofs.Nodes.{kind-of}
 use Rattle.tree.specs.Sorts.{Leaf, Sort, leaf, expr, stmt, many, group, either, never, Sorts, nil, _&_, Kind, sorts, kinds, kindAt, numberOf, label, labelName, let′, print, input, lineInput, if, for, while, doLoop, goto, gosub, return, onGoto, onGosub, dim, declare, shared, static, redim, sub, function, call, midAssign, swap, const, exitLoop, exitProc, optionBase, typeDef, fieldAssign, data′, read, defType, beep, erase, raiseError, onError, resume, locate, color, randomize, restore, cls, selectCase, end′, stop, open′, close, width, field′, setField, getPut, lock}
@@ -61,25 +62,9 @@ Clear (one s) = clear s
 Clear (row ss) = clearR ss
 Clear (rows ss) = clearR ss
 
-and-left : (a b : Bool) → (a && b) ≡ true → a ≡ true
-and-left true b e = refl
-and-left false b e = e
-
-and-right : (a b : Bool) → (a && b) ≡ true → b ≡ true
-and-right true b e = e
-and-right false b e = absurd (false≢true e)
-
 not-true : (a : Bool) → not a ≡ true → a ≡ true → ⊥
 not-true true e f = false≢true e
 not-true false e f = false≢true f
-
-or-right : (a : Bool) {b : Bool} → b ≡ true → (a || b) ≡ true
-or-right true e = refl
-or-right false e = e
-
-or-left : (a b : Bool) → a ≡ true → (a || b) ≡ true
-or-left true b e = refl
-or-left false b e = absurd (false≢true e)
 
 is-false : (a : Bool) → (a ≡ true → ⊥) → a ≡ false
 is-false true f = absurd (f refl)
@@ -289,8 +274,8 @@ module _ (ws ns : List ℕ) (n : ℕ) where
   begins (Stmt k line t) at end h r w = let z = number-small k in rw (head-kind (r .0) w) (between-is 64 118 (64 + numberOf k) (omega arith) (omega arith))
   begins (list rs) at end h r w = eq-eqb _ _ (head-kind (r .0) w)
   begins (part t) at end h r w = begins t at end h r w
-  begins (this t) at end h r w = or-left _ _ (eq-eqb _ _ (head-kind (lit< tt) w))
-  begins (that {k} v) at end h r w = or-right (eqb (kindOf (getD ws at 0)) k) (begins v at end h r w)
+  begins (this t) at end h r w = or-inl _ _ (eq-eqb _ _ (head-kind (lit< tt) w))
+  begins (that {k} v) at end h r w = or-inr (eqb (kindOf (getD ws at 0)) k) _ (begins v at end h r w)
   begins done at end h r w = refl
   begins (cons v t) at end h r w = begins v at _ h (r .0) (wrote-left (wordsT v) (wordsT t) w)
   begins none at end h r w = tt
@@ -329,10 +314,6 @@ module _ (ws ns : List ℕ) (n : ℕ) where
       ap (λ (x : ℕ). bind (rowAt ws ns n g subS (sorts (kindAt (kindOf w - 64))) m) (λ r m′. got (Stmt (kindAt (kindOf w - 64)) x r) m′)) p
       ∙ ap (λ (x : Kind). bind (rowAt ws ns n g subS (sorts x) m) (λ r m′. got (Stmt x line r) m′)) q
 
-  -- the end of the last word
-  ends : {at w end : ℕ} → First ws at w [] end → at + 1 ≡ end
-  ends {at} {w} {end} h = omega (arith, h .rest .span)
-
   abbrev pub ReadAt : ℕ → (i : Shape) → ℕ → Tree Expr i → ℕ → Type 0
   ReadAt d (one s) at v end = fieldAt ws ns n (exprAt ws (strings ns n) d) (stmtAt ws ns n d) s at ≡ got v end
   ReadAt d (row ss) at v end = rowAt ws ns n (exprAt ws (strings ns n) d) (stmtAt ws ns n d) ss at ≡ got v end
@@ -355,12 +336,12 @@ module _ (ws ns : List ℕ) (n : ℕ) where
   completes (part t) d at end c z r w = rw (completes t d at end c z r w) refl
   completes (this {k} {ss} {s} t) d at end c z r w =
       let f = wrote-first w in
-      rw (put-is (wordOf k 0) at end _ f, completes t d (at + 1) end (and-left (clearR ss) (clear s) (and-right (not (may s k)) _ c)) z r (f .rest)) refl
+      rw (put-is (wordOf k 0) at end _ f, completes t d (at + 1) end (and-elim-left (clearR ss) (clear s) (and-elim-right (not (may s k)) _ c)) z r (f .rest)) refl
   completes (that {k} {ss} {s} v) d at end c z r w =
-      rw (not-first k v at end (and-left (not (may s k)) _ c) r w, completes v d at end (and-right (clearR ss) (clear s) (and-right (not (may s k)) _ c)) z r w) refl
+      rw (not-first k v at end (and-elim-left (not (may s k)) _ c) r w, completes v d at end (and-elim-right (clearR ss) (clear s) (and-elim-right (not (may s k)) _ c)) z r w) refl
   completes done d at end c z r w = ap (got done) (omega (arith, w .span))
   completes (cons {s} {ss} v t) d at end c z r w =
-      rw (completes v d at _ (and-left (clear s) (clearR ss) c) (omega arith) (r .0) (wrote-left (wordsT v) (wordsT t) w), completes t d _ end (and-right (clear s) (clearR ss) c) (omega arith) (r .1) (wrote-right (wordsT v) w)) refl
+      rw (completes v d at _ (and-elim-left (clear s) (clearR ss) c) (omega arith) (r .0) (wrote-left (wordsT v) (wordsT t) w), completes t d _ end (and-elim-right (clear s) (clearR ss) c) (omega arith) (r .1) (wrote-right (wordsT v) w)) refl
   completes none d at end c z r w = ap (got none) (omega (arith, w .span))
   completes (more t ts) d at end c z r w =
       rw (add-one (count ts), completes t d at _ c (omega arith) (r .0) (wrote-left (wordsT t) (wordsT ts) w), completes ts d _ end c (omega arith) (r .1) (wrote-right (wordsT t) w)) refl

@@ -3,6 +3,7 @@ use Prim.Native.Nat.{ℕ, zero, suc, _+_, _-_, _*_, _/_, _%_, _<_, _≤_}
 use mathlib.Core.Path.{_≡_, refl, sym, ap, subst, _∙_}
 use mathlib.Core.List.{List, [], _∷_}
 use mathlib.Core.Bool.{Bool, true, false, _&&_}
+use mathlib.Mathlib.Data.Bool.Basic.{and-elim-left, and-elim-right}
 use mathlib.Core.Logic.{_⊎_, inl, inr, ⊎-elim}
 use native.Mathlib.Omega.{arith}
 use native.Mathlib.Nat.{le-trans}
@@ -24,7 +25,7 @@ use Rattle.tree.specs.Codes.{codes, pack, rowOf, singles, sortAt, unpack
 use Rattle.tree.specs.Frames.{failedOf, restOf, againOf, Opens, over, more, fieldStep, frameAt, Goes, past, into, refused, deep as low, Turned, goes, same}
 use Rattle.tree.specs.declared.Frame.{Frame}
 use Rattle.tree.specs.declared.Turn.{Turn}
-use Rattle.tree.proofs.Steps.{then-read, and-left, and-right, sizeS, sizeR, size-none, size-pos, size-cons, size-many, size-group, size-opt, small-row, sort-opt, sort-many, sort-group}
+use Rattle.tree.proofs.Steps.{then-read, sizeS, sizeR, size-none, size-pos, size-cons, size-many, size-group, size-opt, small-row, sort-opt, sort-many, sort-group}
 use Rattle.tree.proofs.Sound.{field-after}
 use Rattle.tree.proofs.Frames.{sorts-next, sorts-none, sorts-packed, then-then, then-same, frame-end, frame-again, frame-next}
 
@@ -55,8 +56,8 @@ smallS (s ∷ l) = ltb (sizeS s) 1000 && smallS l
 small-single : (l : List Sort) (k : ℕ) → smallS l ≡ true → sizeS (getD l k never) < 1000
 unfolding smallS sizeS
 small-single [] k e = lib.Dec.lit< tt
-small-single (s ∷ l) zero e = ltb-true (sizeS s) 1000 (and-left _ _ e)
-small-single (s ∷ l) (suc k) e = small-single l k (and-right (ltb (sizeS s) 1000) _ e)
+small-single (s ∷ l) zero e = ltb-true (sizeS s) 1000 (and-elim-left _ _ e)
+small-single (s ∷ l) (suc k) e = small-single l k (and-elim-right (ltb (sizeS s) 1000) _ e)
 
 single-small : (k : ℕ) → k < 16 → sizeS (sortAt k) < 1010
 unfolding sortAt singles smallS sizeS sizeR

@@ -3,6 +3,7 @@ use Prim.Native.Nat.{ℕ, zero, suc, _+_, _-_, _*_, _/_, _%_, _<_, _≤_, max}
 use mathlib.Core.Path.{_≡_, refl, sym, ap, subst, _∙_}
 use mathlib.Core.List.{List, [], _∷_, _++_, map}
 use mathlib.Core.Bool.{Bool, true, false, _&&_}
+use mathlib.Mathlib.Data.Bool.Basic.{and-elim-left, and-elim-right}
 use native.Mathlib.Omega.{arith}
 use native.Mathlib.Numerals.{add-one, sub-one}
 use native.Mathlib.Nat.{le-trans, le-of-eq}
@@ -26,12 +27,6 @@ use Rattle.tree.specs.Sorts.{Leaf, Sort, leaf, expr, stmt, many, group, 
 use Rattle.tree.specs.Tree.{strings, Shape, one, row, rows, Tree, word, value, Stmt, list, part, this, that, done, cons, none, more, kindL, okL, between}
 use Rattle.tree.specs.Codes.{parts, allRows, rowOf, singles, sortAt, decode, chain, partCodes, stmtCodes, codes, decoded}
 use Rattle.tree.specs.Reader.{wordAt, neverAt, isAt, stmtHead, rowsAt, fieldAt, rowAt, restAt, stmtAt}
-
--- a number past the end of the flags is no name's
-pub no-name : (ns : List ℕ) (x : ℕ) → length ns ≤ x → eqb (getD ns x 0) 1 ≡ false
-no-name [] x h = refl
-no-name (y ∷ ns) zero h = absurd (omega arith)
-no-name (y ∷ ns) (suc x) h = no-name ns x (omega arith)
 
 -- ---- the numbers of the tables
 
@@ -64,19 +59,11 @@ sixes : List (List ℕ) → Bool
 sixes [] = true
 sixes (l ∷ ls) = leb (length l) 6 && sixes ls
 
-pub and-left : (a b : Bool) → (a && b) ≡ true → a ≡ true
-and-left true b e = refl
-and-left false b e = e
-
-pub and-right : (a b : Bool) → (a && b) ≡ true → b ≡ true
-and-right true b e = e
-and-right false b e = absurd (mathlib.Core.Bool.false≢true e)
-
 six-at : (ls : List (List ℕ)) (r : ℕ) → sixes ls ≡ true → length (getD ls r []) ≤ 6
 unfolding sixes
 six-at [] r e = omega arith
-six-at (l ∷ ls) zero e = leb-true (length l) 6 (and-left _ _ e)
-six-at (l ∷ ls) (suc r) e = six-at ls r (and-right (leb (length l) 6) _ e)
+six-at (l ∷ ls) zero e = leb-true (length l) 6 (and-elim-left _ _ e)
+six-at (l ∷ ls) (suc r) e = six-at ls r (and-elim-right (leb (length l) 6) _ e)
 
 pub decode-over : (r i : ℕ) → 6 ≤ i → decode (drop i (codes r)) ≡ nil
 unfolding decode codes partCodes stmtCodes sixes
@@ -148,8 +135,8 @@ smalls (ss ∷ l) = ltb (sizeR ss) 1000 && smalls l
 small-at : (l : List Sorts) (r : ℕ) → smalls l ≡ true → sizeR (getD l r nil) < 1000
 unfolding smalls sizeR
 small-at [] r e = lib.Dec.lit< tt
-small-at (ss ∷ l) zero e = ltb-true (sizeR ss) 1000 (and-left _ _ e)
-small-at (ss ∷ l) (suc r) e = small-at l r (and-right (ltb (sizeR ss) 1000) _ e)
+small-at (ss ∷ l) zero e = ltb-true (sizeR ss) 1000 (and-elim-left _ _ e)
+small-at (ss ∷ l) (suc r) e = small-at l r (and-elim-right (ltb (sizeR ss) 1000) _ e)
 
 pub small-row : (r : ℕ) → sizeR (rowOf r) < 1000
 unfolding rowOf smalls sizeR sizeS allRows parts sorts kinds

@@ -2,7 +2,8 @@
 use Prim.Native.Nat.{ℕ, zero, suc, _+_, _*_, _/_, _%_, _-_, _^_, _<_, _≤_}
 use mathlib.Core.Path.{_≡_, refl, sym, ap, subst, _∙_}
 use mathlib.Core.List.{List, [], _∷_, _++_}
-use mathlib.Core.Bool.{Bool, true, false, _&&_, false≢true}
+use mathlib.Core.Bool.{Bool, true, _&&_}
+use mathlib.Mathlib.Data.Bool.Basic.{and-elim-left, and-elim-right}
 use native.Mathlib.Omega.{arith}
 use native.Mathlib.Nat.{div-div-eq-div-mul}
 use lib.ListN.{length, getD, List·getD-append, List·getD-eq-default}
@@ -54,21 +55,17 @@ all-bytes : List (List ℕ) → Bool
 all-bytes [] = true
 all-bytes (l ∷ ls) = bytes l && all-bytes ls
 
-both : (a b : Bool) → (a && b) ≡ true → (a ≡ true) × (b ≡ true)
-both true b e = (refl, e)
-both false b e = absurd (false≢true e)
-
 byte-in : (l : List ℕ) (i : ℕ) → bytes l ≡ true → getD l i 0 < 256
 unfolding bytes
 byte-in [] i e = omega arith
-byte-in (c ∷ cs) zero e = ltb-true c 256 (both (ltb c 256) (bytes cs) e .0)
-byte-in (c ∷ cs) (suc i) e = byte-in cs i (both (ltb c 256) (bytes cs) e .1)
+byte-in (c ∷ cs) zero e = ltb-true c 256 (and-elim-left (ltb c 256) (bytes cs) e)
+byte-in (c ∷ cs) (suc i) e = byte-in cs i (and-elim-right (ltb c 256) (bytes cs) e)
 
 row-in : (ls : List (List ℕ)) (r : ℕ) → all-bytes ls ≡ true → bytes (getD ls r []) ≡ true
 unfolding all-bytes bytes
 row-in [] r e = refl
-row-in (l ∷ ls) zero e = both (bytes l) (all-bytes ls) e .0
-row-in (l ∷ ls) (suc r) e = row-in ls r (both (bytes l) (all-bytes ls) e .1)
+row-in (l ∷ ls) zero e = and-elim-left (bytes l) (all-bytes ls) e
+row-in (l ∷ ls) (suc r) e = row-in ls r (and-elim-right (bytes l) (all-bytes ls) e)
 
 codes-byte : (r i : ℕ) → getD (codes r) i 0 < 256
 unfolding codes partCodes stmtCodes all-bytes bytes

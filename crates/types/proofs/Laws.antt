@@ -1,7 +1,7 @@
 -- The fields of a TYPE by their codes: the definition is to look at all of them in order, and then one change of the rows. Assumes nothing.
 use Prim.Native.Nat.{ℕ, _+_}
 use mathlib.Core.Path.{_≡_, refl, sym, ap, _∙_}
-use mathlib.Core.Bool.{Bool, true, false, _&&_, _||_}
+use mathlib.Core.Bool.{Bool, true, false, _&&_, _||_, and-true, and-false, or-false}
 use mathlib.Core.List.{List, [], _∷_, _++_, append-nil}
 use mathlib.Core.Option.{none, some}
 use native.Mathlib.Omega.{arith}
@@ -26,21 +26,9 @@ or-step : (t u v w : Bool) → u ≡ (v || w) → (t || u) ≡ ((t || v) || w)
 or-step true u v w e = refl
 or-step false u v w e = e
 
-or-false : (t : Bool) → t ≡ (t || false)
-or-false true = refl
-or-false false = refl
-
-and-false : (t : Bool) → (t && false) ≡ false
-and-false true = refl
-and-false false = refl
-
-and-true : (t : Bool) → t ≡ (t && true)
-and-true true = refl
-and-true false = refl
-
 has-snoc : (x : ℕ) (fs : List FieldInfo) (f : FieldInfo) → hasField x (fs ++ (f ∷ [])) ≡ (hasField x fs || eqb (f .name) x)
 unfolding hasField
-has-snoc x [] f = sym (or-false (eqb (f .name) x))
+has-snoc x [] f = or-false (eqb (f .name) x)
 has-snoc x (g ∷ gs) f = or-step (eqb (g .name) x) _ _ _ (has-snoc x gs f)
 
 module _ (rows : List Row) (owner : ℕ) where
@@ -49,7 +37,7 @@ module _ (rows : List Row) (owner : ℕ) where
 
   said-snoc : (x : ℕ) (fs : List FieldDecl) (f : FieldDecl) → said rows owner x (fs ++ (f ∷ [])) ≡ (said rows owner x fs || hit x f)
   unfolding said
-  said-snoc x [] f = sym (or-false (hit x f))
+  said-snoc x [] f = or-false (hit x f)
   said-snoc x (g ∷ gs) f = or-step (hit x g) _ _ _ (said-snoc x gs f)
 
   abbrev pub Same : List FieldInfo → List FieldDecl → Type 0
@@ -72,7 +60,7 @@ module _ (rows : List Row) (owner : ℕ) where
   same-kept kept before f word S e x =
       has-snoc x kept (record { name = f .name; word = word; ty = f .ty })
       ∙ ap (λ (t : Bool). t || eqb (f .name) x) (S x)
-      ∙ ap (λ (t : Bool). said rows owner x before || t) (and-true (eqb (f .name) x) ∙ ap (λ (t : Bool). eqb (f .name) x && t) (sym (eq-eqb _ 0 (code-kept before (f .name) (head (f .ty)) (arg (f .ty)) e))))
+      ∙ ap (λ (t : Bool). said rows owner x before || t) (sym (and-true (eqb (f .name) x)) ∙ ap (λ (t : Bool). eqb (f .name) x && t) (sym (eq-eqb _ 0 (code-kept before (f .name) (head (f .ty)) (arg (f .ty)) e))))
       ∙ sym (said-snoc x before f)
 
   same-rejected : (kept : List FieldInfo) (before : List FieldDecl) (f : FieldDecl) → Same kept before → (fieldCode rows owner before f ≡ 0 → ⊥) → Same kept (before ++ (f ∷ []))
@@ -84,8 +72,8 @@ module _ (rows : List Row) (owner : ℕ) where
       go true e u p true q =
           let z : said rows owner x before ≡ true = ap (λ (y : ℕ). said rows owner y before) (sym (eqb-true (f .name) x q)) ∙ e in
           rw (z) refl
-      go t e u p false q = rw (q) (or-false (said rows owner x before))
-      go false e false p true q = rw (p, and-false (eqb (f .name) x)) (or-false (said rows owner x before))
+      go t e u p false q = rw (q) (sym (or-false (said rows owner x before)))
+      go false e false p true q = rw (p, and-false (eqb (f .name) x)) (sym (or-false (said rows owner x before)))
       go false e true p true q = absurd (n (pick-false 5 _ e ∙ eqb-true _ 0 p))
 
   -- what is said of a field, by its code

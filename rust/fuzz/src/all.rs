@@ -2,6 +2,7 @@
 
 use crate::program::{FLOATS, WHOLE};
 use image::ast::*;
+use image::codec::BINARY;
 use image::raw::Raw;
 use image::schema::{
     EXPR, FLAG, Field, Heads, INTEGER, LETTER, LIST, SIMPLE, STMT, STRING, Sort, Variant,
@@ -365,7 +366,7 @@ fn folds(operators: usize, each: Each<'_>) {
 fn combined(lefts: &[Expr], rights: &[Expr], each: &mut dyn FnMut(Expr)) {
     for left in lefts {
         for right in rights {
-            for op in OPERATORS {
+            for op in BINARY {
                 let (left, right) = (Box::new(left.clone()), Box::new(right.clone()));
                 each(Expr::Binary { op, left, right });
             }
@@ -400,27 +401,6 @@ fn few() -> Vec<Expr> {
     let literals = literals.into_iter().map(Expr::Literal);
     literals.chain([unknown, call]).collect()
 }
-
-const OPERATORS: [BinaryOp; 18] = [
-    BinaryOp::Add,
-    BinaryOp::Sub,
-    BinaryOp::Mul,
-    BinaryOp::Div,
-    BinaryOp::IntDiv,
-    BinaryOp::Mod,
-    BinaryOp::Pow,
-    BinaryOp::Eq,
-    BinaryOp::Ne,
-    BinaryOp::Lt,
-    BinaryOp::Gt,
-    BinaryOp::Le,
-    BinaryOp::Ge,
-    BinaryOp::And,
-    BinaryOp::Or,
-    BinaryOp::Xor,
-    BinaryOp::Eqv,
-    BinaryOp::Imp,
-];
 
 fn constants() -> Vec<Expr> {
     let whole = WHOLE.iter().map(|w| i64::from(*w));

@@ -24,7 +24,8 @@ const STMT: u32 = 64;
 const STMT_KINDS: u32 = 54;
 
 const UNARY: [UnaryOp; 2] = [UnaryOp::Neg, UnaryOp::Not];
-const BINARY: [BinaryOp; 18] = [
+/// The binary operators in the order of their numbers.
+pub const BINARY: [BinaryOp; 18] = [
     BinaryOp::Add,
     BinaryOp::Sub,
     BinaryOp::Mul,

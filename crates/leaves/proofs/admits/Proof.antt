@@ -1,8 +1,7 @@
 -- `admits` by the question. Assumes nothing.
 use mathlib.Core.Path.{sym, ap, _∙_}
-use Prim.Native.Nat.{_-_}
 use Rattle.leaves.specs.Leaves.{admits}
-use Rattle.leaves.proofs.Laws.{and-yes, and-no}
+use Rattle.strings.proofs.Laws.{and-true, and-false}
 use borrow.Author.Needs.{needs}
 use Rattle.leaves.proofs.admits.Statement.{statement}
 use Rattle.leaves.proofs.admits.Tie as tie
@@ -33,19 +32,19 @@ type-ok-requires c κs = search needs
 
 returns : tie.Need-returns
 unfolding admits
-returns c = c .is-name2 .ensures ∙ and-yes _ (sym (c .before .before .is-name .ensures) ∙ c .before .if1 .taken) ∙ ap (admits (c .before .before .before .before .before .before .before .args .names .now)) (sym (c .before .before .before .before .q .given .1))
+returns c = c .is-name2 .ensures ∙ sym (and-true _ _ (sym (c .before .before .is-name .ensures) ∙ c .before .if1 .taken)) ∙ ap (admits (c .before .before .before .before .before .before .before .args .names .now)) (sym (c .before .before .before .before .q .given .1))
 
 returns-2 : tie.Need-returns-2
 unfolding admits
-returns-2 c = and-no _ (sym (c .before .is-name .ensures) ∙ c .if1 .left) ∙ ap (admits (c .before .before .before .before .before .before .args .names .now)) (sym (c .before .before .before .q .given .1))
+returns-2 c = sym (and-false _ _ (sym (c .before .is-name .ensures) ∙ c .if1 .left)) ∙ ap (admits (c .before .before .before .before .before .before .args .names .now)) (sym (c .before .before .before .q .given .1))
 
 returns-3 : tie.Need-returns-3
 unfolding admits
-returns-3 c = c .is-name3 .ensures ∙ and-yes _ (sym (c .before .before .scope-ok .ensures) ∙ c .before .if2 .taken) ∙ ap (admits (c .before .before .before .before .before .before .before .args .names .now)) (sym (c .before .before .before .before .q2 .given .1))
+returns-3 c = c .is-name3 .ensures ∙ sym (and-true _ _ (sym (c .before .before .scope-ok .ensures) ∙ c .before .if2 .taken)) ∙ ap (admits (c .before .before .before .before .before .before .before .args .names .now)) (sym (c .before .before .before .before .q2 .given .1))
 
 returns-4 : tie.Need-returns-4
 unfolding admits
-returns-4 c = and-no _ (sym (c .before .scope-ok .ensures) ∙ c .if2 .left) ∙ ap (admits (c .before .before .before .before .before .before .args .names .now)) (sym (c .before .before .before .q2 .given .1))
+returns-4 c = sym (and-false _ _ (sym (c .before .scope-ok .ensures) ∙ c .if2 .left)) ∙ ap (admits (c .before .before .before .before .before .before .args .names .now)) (sym (c .before .before .before .q2 .given .1))
 
 returns-5 : tie.Need-returns-5
 unfolding admits

@@ -1,27 +1,26 @@
 -- `passes`: two sizes, then the string table. Assumes nothing.
-use mathlib.Core.Path.{_≡_, refl, sym, _∙_}
+use mathlib.Core.Path.{_≡_, refl, _∙_}
 use mathlib.Core.Bool.{true}
-use Prim.Native.Nat.{_-_}
 use borrow.Author.Tests.{le-leb, lt-leb}
 use Rattle.words.specs.Refusals.{refused}
 use Rattle.strings.specs.OpenLaws.{said-sound, answers-size, answers-breaks, answers-inner}
+use Rattle.strings.proofs.Laws.{and-true, and-false}
 use Rattle.leaves.specs.Leaves.{sized}
-use Rattle.leaves.proofs.Laws.{and-yes, and-no}
 use borrow.Author.Needs.{needs}
 use Rattle.leaves.proofs.passes.Statement.{statement}
 use Rattle.leaves.proofs.passes.Tie as tie
 
 sizes : (c : tie.Else2) → sized (c .before .before .before .before .args .bytes .now) (c .before .before .before .before .args .ends .now) ≡ true
 unfolding sized
-sizes c = sym (and-yes _ (le-leb _ _ (c .before .if1 .left))) ∙ le-leb _ _ (c .if2 .left)
+sizes c = and-true _ _ (le-leb _ _ (c .before .if1 .left)) ∙ le-leb _ _ (c .if2 .left)
 
 returns : tie.Need-returns
 unfolding sized refused
-returns c = (answers-size (sym (and-no _ (lt-leb _ _ (c .if1 .taken)))) refl, tt)
+returns c = (answers-size (and-false _ _ (lt-leb _ _ (c .if1 .taken))) refl, tt)
 
 returns-2 : tie.Need-returns-2
 unfolding sized refused
-returns-2 c = (answers-size (sym (and-yes _ (le-leb _ _ (c .before .if1 .left))) ∙ lt-leb _ _ (c .if2 .taken)) refl, tt)
+returns-2 c = (answers-size (and-true _ _ (le-leb _ _ (c .before .if1 .left)) ∙ lt-leb _ _ (c .if2 .taken)) refl, tt)
 
 check-requires : tie.Need-check-requires
 check-requires c κs = search needs

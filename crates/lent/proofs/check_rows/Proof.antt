@@ -3,6 +3,7 @@ use mathlib.Core.Path.{_≡_, refl, sym, ap, _∙_}
 use mathlib.Core.List.{List}
 use Prim.Native.Nat.{ℕ, _≤_, _<_, _-_, _+_, _*_, _/_, suc}
 use native.Mathlib.Omega.{arith}
+use native.Mathlib.Nat.{add-sub-cancel-left}
 use lib.ListN.{length, take, drop, length-drop}
 use Rattle.table.specs.Rows.{width, key}
 use Rattle.lent.specs.Lent.{scan, checked}
@@ -36,14 +37,11 @@ head c = c .before .before .before
 row-there : (c : tie.Else1 Inv-loop μ-loop) → head c .loop .n < Cap (head c)
 row-there c = c .before .before .loop-test .taken
 
-part-is : (n : ℕ) → n * width + width - n * width ≡ width
-part-is n = omega arith
-
 -- `row_ok` says what is so of the row at n
 row-is : (c : tie.After-row-ok Inv-loop μ-loop) → c .row-ok .result ≡ rowOk (Ns (head (c .before .before))) (take width (drop (head (c .before .before) .loop .n * width) (B (head (c .before .before)))))
 row-is c =
     let l = head (c .before .before) in
-    c .row-ok .ensures ∙ ap (λ (m : ℕ). rowOk (Ns l) (take m (drop (l .loop .n * width) (B l)))) (part-is (l .loop .n))
+    c .row-ok .ensures ∙ ap (λ (m : ℕ). rowOk (Ns l) (take m (drop (l .loop .n * width) (B l)))) (add-sub-cancel-left (l .loop .n * width) width)
 
 -- the key is that row's
 key-is : (c : tie.After-key-at Inv-loop μ-loop) → c .key-at .result ≡ key (take width (drop (head (c .before .before .before .before) .loop .n * width) (B (head (c .before .before .before .before)))))
@@ -94,7 +92,7 @@ row-ok-requires : tie.Need-row-ok-requires Inv-loop μ-loop
 row-ok-requires c κs =
     let l = head (c .before) in
     let fit : l .loop .n * width + width ≤ length (B l) = omega (arith, row-there (c .before)) in
-    rw (part-is (l .loop .n)) (length-take-le width (drop (l .loop .n * width) (B l)) (omega (arith, length-drop (l .loop .n * width) (B l))))
+    rw (add-sub-cancel-left (l .loop .n * width) width) (length-take-le width (drop (l .loop .n * width) (B l)) (omega (arith, length-drop (l .loop .n * width) (B l))))
 
 returns-2 : tie.Need-returns-2 Inv-loop μ-loop
 returns-2 c =

@@ -1,14 +1,10 @@
 -- `whole_ok` by its tests on the high word. Assumes nothing.
-use mathlib.Core.Path.{_≡_, refl, sym, ap, _∙_}
-use mathlib.Core.Bool.{Bool, true, false, _&&_, _||_}
-use borrow.Author.Tests.{eq-eqb, ne-eqb}
-use lib.Dec.{leb, eqb}
+use mathlib.Core.Path.{refl, sym}
+use mathlib.Core.Bool.{or-false}
+use borrow.Author.Tests.{ne-eqb}
+use lib.Dec.{leb}
 use Rattle.lent.proofs.whole_ok.Statement.{statement}
 use Rattle.lent.proofs.whole_ok.Tie as tie
-
-or-false : (b : Bool) → (b || false) ≡ b
-or-false true = refl
-or-false false = refl
 
 returns : tie.Need-returns
 returns c = rw (c .if1 .taken) (sym (or-false (leb (c .before .args .low) 2147483648)))

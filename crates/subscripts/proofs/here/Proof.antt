@@ -1,7 +1,7 @@
 -- The use that an expression is: of its name, of its list, or none. Assumes nothing.
 use Rattle.skip.proofs.Laws as S
 use native.Mathlib.Omega.{arith}
-use Rattle.subscripts.proofs.Expressions.{name-fits, here-empty, here-list, here-other}
+use Rattle.subscripts.proofs.Expressions.{here-empty, here-list, here-other}
 use borrow.Author.Needs.{needs}
 use Rattle.subscripts.proofs.here.Statement.{statement}
 use Rattle.subscripts.proofs.here.Tie as tie
@@ -19,7 +19,7 @@ mul-n : tie.Need-mul-n
 mul-n c = search needs
 
 shared-slice-read-n : tie.Need-shared-slice-read-n
-shared-slice-read-n c = name-fits (c .before .match .keys1) (c .before .before .before .before .pre)
+shared-slice-read-n c = S.list-word (c .before .match .keys1) (c .before .before .before .before .pre)
 
 no-use-requires : tie.Need-no-use-requires
 no-use-requires c κs = search needs
@@ -34,7 +34,7 @@ mul-named : tie.Need-mul-named
 mul-named c = search needs
 
 shared-slice-read-named : tie.Need-shared-slice-read-named
-shared-slice-read-named c = omega (arith, name-fits (c .before .before .before .match .keys1) (c .before .before .before .before .before .before .pre))
+shared-slice-read-named c = omega (arith, S.list-word (c .before .before .before .match .keys1) (c .before .before .before .before .before .before .pre))
 
 named-requires : tie.Need-named-requires
 named-requires c κs = search needs

@@ -1,8 +1,9 @@
 -- `replace` takes the old rows out and enters the new ones, one in each turn of the loop; the turns are laws of `Turns`. Assumes nothing.
 use mathlib.Core.Path.{_≡_, refl, _∙_, subst}
 use mathlib.Core.List.{List}
-use Prim.Native.Nat.{ℕ, _≤_, _<_, _-_, _+_, _*_}
+use Prim.Native.Nat.{ℕ, _≤_, _<_, _-_, _*_}
 use native.Mathlib.Omega.{arith}
+use native.Mathlib.Nat.{add-sub-cancel-left}
 use lib.ListN.{length, take, drop, length-drop}
 use lib.Seq.{length-take-le}
 use borrow.Author.Needs.{needs}
@@ -39,15 +40,12 @@ state l rows H =
     let a = start l .args in
     l .loop .inv .3 (remove (a .lo) (a .hi) rows) (removed-holds rows (a .count) (a .b .now) H (a .lo) (a .hi) (r .remove .result) (start l .pre .1) (r .remove .last .0) (r .remove .ensures .1 rows H))
 
-part-is : (i : ℕ) → i * width + width - i * width ≡ width
-part-is i = omega arith
-
 -- what the turn's insertion did
 turn : (c : tie.After-insert Inv-loop μ-loop) (cur : List Row) → Holds cur (at-head c .loop .m) (at-head c .loop .b)
     → Inserted (take width (drop (at-head c .loop .i * width) (Src (at-head c)))) cur (length (at-head c .loop .b)) (c .insert .result) (c .insert .last .0)
 turn c cur H =
     let l = at-head c in
-    subst (λ (j : ℕ). Inserted (take j (drop (l .loop .i * width) (Src l))) cur (length (l .loop .b)) (c .insert .result) (c .insert .last .0)) (part-is (l .loop .i)) (c .insert .ensures .1 cur H)
+    subst (λ (j : ℕ). Inserted (take j (drop (l .loop .i * width) (Src l))) cur (length (l .loop .b)) (c .insert .result) (c .insert .last .0)) (add-sub-cancel-left (l .loop .i * width) width) (c .insert .ensures .1 cur H)
 
 row-len : (l : tie.At-loop Inv-loop μ-loop) → l .loop .i < start l .args .n → length (take width (drop (l .loop .i * width) (Src l))) ≡ width
 row-len l h =
@@ -88,7 +86,7 @@ part-insert-end c = omega arith
 insert-requires : tie.Need-insert-requires Inv-loop μ-loop
 insert-requires c κs =
     let l = c .before .before .before in
-    (l .loop .inv .2, rw (part-is (l .loop .i)) (row-len l (c .before .before .loop-test .taken)))
+    (l .loop .inv .2, rw (add-sub-cancel-left (l .loop .i * width) width) (row-len l (c .before .before .loop-test .taken)))
 
 enum-known-k : tie.Need-enum-known-k Inv-loop μ-loop
 enum-known-k c = search needs

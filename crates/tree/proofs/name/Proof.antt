@@ -3,7 +3,7 @@ use borrow.Author.Tests.{le-ltb, lt-ltb, le-leb, lt-leb, eq-eqb, ne-eqb}
 use lib.ListN.{getD}
 use Rattle.expr.specs.Answer.{stepOf}
 use Rattle.tree.specs.Reader.{wordAt}
-use Rattle.tree.proofs.Steps.{no-name}
+use Rattle.expr.proofs.Laws.{no-name}
 use borrow.Author.Needs.{needs}
 use Rattle.tree.proofs.name.Statement.{statement}
 use Rattle.tree.proofs.name.Tie as tie

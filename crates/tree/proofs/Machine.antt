@@ -22,7 +22,7 @@ use Rattle.expr.specs.declared.Step.the-variants.{Read, Wrong, Deep}
 use Rattle.expr.proofs.Steps.{halt}
 use Rattle.tree.specs.Sorts.{Sort, never, group, opt, Sorts, nil, _&_}
 use Rattle.tree.specs.Codes.{codes, pack, rowOf, singles, sortAt, unpack, sortsOf}
-use Rattle.tree.specs.Frames.{failedOf, restOf, againOf, Opens, over, more, fieldStep, frameAt, Goes, past, into, refused, deep as low, Turned, goes, same}
+use Rattle.tree.specs.Frames.{failedOf, restOf, againOf, height, Opens, over, more, fieldStep, frameAt, Goes, past, into, refused, deep as low, Turned, goes, same}
 use Rattle.tree.specs.declared.Frame.{Frame}
 use Rattle.tree.specs.declared.Turn.{Turn}
 use Rattle.tree.proofs.Steps.{then-read, sizeS, sizeR, size-none, size-pos, size-cons, size-many, size-group, size-opt, small-row, sort-opt, sort-many, sort-group}
@@ -279,25 +279,29 @@ module _ (ws ns : List ℕ) (n : ℕ) where
   pub record Held (f₀ : Frame) (at₀ : ℕ) (st : List Frame) (sp at : ℕ) (f : Frame) : Type 0 where
     pub is : frameAt ws ns n f₀ at₀ ≡ whole (onStack st) sp f at
     pub light : weight (onStack st) sp f at ≤ (length ws - at₀) * 1099511627776 + sizeF f₀
-    pub room : sp ≤ 32
-    pub long : length st ≡ 32
+    pub room : sp ≤ height
+    pub long : length st ≡ height
 
-  pub held-first : (f : Frame) (at : ℕ) (st : List Frame) → length st ≡ 32 → Held f at st 0 at f
+  pub held-first : (f : Frame) (at : ℕ) (st : List Frame) → length st ≡ height → Held f at st 0 at f
   unfolding after total
   held-first f at st h = record { is = sym (then-read _); light = omega arith; room = omega arith; long = h }
 
-  pub held-next : {f₀ f f′ : Frame} {at₀ sp at sp′ at′ : ℕ} {st st′ : List Frame} → Held f₀ at₀ st sp at f → Next (onStack st) sp f at (onStack st′) sp′ f′ at′ → sp′ ≤ 32 → length st′ ≡ 32 → Held f₀ at₀ st′ sp′ at′ f′
+  pub held-next : {f₀ f f′ : Frame} {at₀ sp at sp′ at′ : ℕ} {st st′ : List Frame} → Held f₀ at₀ st sp at f → Next (onStack st) sp f at (onStack st′) sp′ f′ at′ → sp′ ≤ height → length st′ ≡ height → Held f₀ at₀ st′ sp′ at′ f′
   held-next h x a b = record { is = h .is ∙ x .is; light = omega (arith, h .light, x .less); room = a; long = b }
 
   pub lighter : {f₀ f f′ : Frame} {at₀ sp at sp′ at′ : ℕ} {st : List Frame} {g′ : ℕ → Frame} → Held f₀ at₀ st sp at f → Next (onStack st) sp f at g′ sp′ f′ at′ → weight g′ sp′ f′ at′ < weight (onStack st) sp f at
   lighter h x = x .less
 
   -- a frame is entered: the list with the rest of the one in hand put on top
-  pub push : (st : List Frame) {sp at o : ℕ} {f r : Frame} {t : Turn} → length st ≡ 32 → sp < 32 → (f .fields ≡ 0 → ⊥) → t .kind ≡ 1 → Turned ws ns n (f .left) at (sortAt (f .fields % 256)) t → r ≡ restOf f → Opens r o → Next (onStack st) sp f at (onStack (set st sp r)) (sp + o) (t .frame) (t .at)
+  pub push : (st : List Frame) {sp at o : ℕ} {f r : Frame} {t : Turn} → length st ≡ height → sp < height → (f .fields ≡ 0 → ⊥) → t .kind ≡ 1 → Turned ws ns n (f .left) at (sortAt (f .fields % 256)) t → r ≡ restOf f → Opens r o → Next (onStack st) sp f at (onStack (set st sp r)) (sp + o) (t .frame) (t .at)
   push st {sp} {at} {o} {f} {r} {t} l h z k x q p =
       goes-into (onStack st) sp f at (onStack (set st sp r)) r o (t .at) (t .frame) z (into-is k x) (into-less k x) q p
       (λ i j. getD-set-other st sp i r _ (λ e. omega (arith, e, j)))
       (getD-set-same st sp r _ (omega arith))
+
+  -- the answer of a frame is that of its copy
+  pub copied : (at : ℕ) {s : Step} {f g : Frame} → s ≡ frameAt ws ns n f at → f ≡ g → s ≡ frameAt ws ns n g at
+  copied at e q = e ∙ ap (λ (x : Frame). frameAt ws ns n x at) q
 
   -- what a frame that is entered weighs, beside what was asked at first
   pub inner-less : {f₀ f : Frame} {at₀ sp at : ℕ} {st : List Frame} {t : Turn} → Held f₀ at₀ st sp at f → (f .fields ≡ 0 → ⊥) → t .kind ≡ 1 → Turned ws ns n (f .left) at (sortAt (f .fields % 256)) t → (length ws - t .at) * 1099511627776 + sizeF (t .frame) < (length ws - at₀) * 1099511627776 + sizeF f₀

@@ -53,6 +53,10 @@ restOf f = record { fields = f .fields / 256; row = f .row; times = f .times; le
 abbrev pub againOf : Frame → Frame
 againOf f = record { fields = pack (codes (f .row)); row = f .row; times = f .times - 1; left = f .left }
 
+-- how many frames the code's stack has
+abbrev pub height : ℕ
+height = 8
+
 -- whether anything is left
 pub data Opens (f : Frame) : ℕ → Type 0 where
   over : f .fields ≡ 0 → f .times ≡ 0 → Opens f 0

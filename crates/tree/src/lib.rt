@@ -11,7 +11,7 @@ ghost use Rattle.tree.specs.Tree.{between, strings};
 ghost use Rattle.tree.specs.Codes.{partCodes, stmtCodes, codes, joined, pack, sortAt, rowOf, chain, allRows};
 ghost use Rattle.tree.specs.Reader.{wordAt, neverAt, fieldAt, stmtAt, programAt};
 ghost use Rattle.tree.specs.Memo.{Recalled, Remembered, Noted, Keeps, Past};
-ghost use Rattle.tree.specs.Frames.{bareOf, toldOf, failedOf, fieldStep, frameAt, Goes, Turned, restOf, againOf, Opens};
+ghost use Rattle.tree.specs.Frames.{bareOf, toldOf, failedOf, fieldStep, frameAt, Goes, Turned, restOf, againOf, Opens, height};
 ghost use Rattle.expr.specs.Reader.{leafAt, nameAt, listAt, bodyAt, exprAt};
 ghost use Rattle.expr.specs.Answer.{stepOf, then};
 
@@ -31,6 +31,9 @@ struct Turn {
     at: usize,
     frame: Frame,
 }
+
+// How many frames the stack of `run` has (`height` in the proofs): few, since every call makes it anew.
+const HEIGHT: usize = 8;
 
 const FIELDS: [[u8; 6]; 54] = [
     [4, 0, 0, 0, 0, 0],
@@ -641,6 +644,18 @@ fn again(f: Frame) -> Frame
     }
 }
 
+// The same frame, field by field: what `run` passes to itself is then no part of its turn, which stays in registers.
+fn copy(f: Frame) -> Frame
+    ensures { λ r. ⌜ r ≡ f ⌝ }
+{
+    Frame {
+        fields: f.fields,
+        row: f.row,
+        times: f.times,
+        left: f.left,
+    }
+}
+
 // 1 where anything is left, else 0
 fn remains(f: Frame) -> usize
     ensures { λ r. ⌜ Opens f r ⌝ }
@@ -656,15 +671,15 @@ fn remains(f: Frame) -> usize
 
 // How many frames may stand on the stack where a field of the sort enters the row: none under a procedure, which is read by a call.
 fn room(sort: u8, row: usize) -> usize
-    ensures { λ r. ⌜ r ≤ 32 ⌝ }
+    ensures { λ r. ⌜ r ≤ height ⌝ }
 {
     if sort != 10 {
-        return 32;
+        return HEIGHT;
     }
     match row {
         59 => 0,
         60 => 0,
-        _ => 32,
+        _ => HEIGHT,
     }
 }
 
@@ -673,7 +688,7 @@ fn room(sort: u8, row: usize) -> usize
 fn run(words: &[u32], names: &[u8], n: u32, f: Frame, from: usize, memo: &mut [u32]) -> Step
     ensures { λ r. ⌜ (r ≡ frameAt (now (words .entry)) (now (names .entry)) n f from) × Keeps (now (words .entry)) (now (names .entry)) n (now (memo .entry)) (now (memo .exit)) ⌝ }
 {
-    let mut stack = [f; 32];
+    let mut stack = [f; HEIGHT];
     let mut sp = 0;
     let mut at = from;
     let mut cur = f;
@@ -707,7 +722,7 @@ fn run(words: &[u32], names: &[u8], n: u32, f: Frame, from: usize, memo: &mut [u
             cur = t.frame;
             continue;
         }
-        let s = run(words, names, n, t.frame, t.at, memo);
+        let s = run(words, names, n, copy(t.frame), t.at, memo);
         let Step::Read(d) = s else {
             return s;
         };
@@ -772,22 +787,24 @@ fn slot(place: u32, end: u32, at: usize) -> usize
     end as usize
 }
 
-// The place past the statement at `at` where the memo has it, else 0.
+// The place past the statement at `at` where the memo has it, else 0. It has a slot for each two of its words.
 pub fn recall(memo: &[u32], at: usize) -> usize
     ensures { λ r. ⌜ Recalled (now (memo .entry)) at r ⌝ }
 {
-    if memo.len() < 128 {
+    let slots = memo.len() / 2;
+    if slots == 0 {
         return 0;
     }
-    let i = at % 64;
+    let i = at % slots;
     slot(memo[2 * i], memo[2 * i + 1], at)
 }
 
-// Notes in the memo that a statement at `at` ends at `end`, unless a number is too large.
+// Notes in the memo, if it has a slot, that a statement at `at` ends at `end`, unless a number is too large.
 fn remember(memo: &mut [u32], at: usize, end: usize)
     ensures { λ r. ⌜ Remembered (now (memo .entry)) at end (now (memo .exit)) ⌝ }
 {
-    if memo.len() < 128 {
+    let slots = memo.len() / 2;
+    if slots == 0 {
         return;
     }
     if 4294967294 < at {
@@ -796,7 +813,7 @@ fn remember(memo: &mut [u32], at: usize, end: usize)
     if 4294967295 < end {
         return;
     }
-    let i = at % 64;
+    let i = at % slots;
     memo[2 * i] = (at + 1) as u32;
     memo[2 * i + 1] = end as u32;
 }

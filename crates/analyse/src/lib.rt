@@ -10,6 +10,7 @@ ghost use lib.ListN.{length};
 ghost use Rattle.words.specs.Sizes.{maxStrings};
 ghost use Rattle.strings.specs.Table.{sound};
 ghost use Rattle.tree.specs.Memo.{Remembers};
+ghost use Rattle.steps.specs.Held.{Fresh};
 ghost use Rattle.collect.specs.Code.{Named};
 ghost use Rattle.collect.specs.Passed.{Passed};
 ghost use Rattle.analyse.specs.Analyse.{Tells, Analyses, work};
@@ -37,11 +38,12 @@ fn tables(
     rows: &mut [u32],
     notes: &mut [u32],
     memo: &[u32],
+    fresh: bool,
 ) -> Counts
-    requires { ⌜ Passed (now bytes) (now ends) (now erased) (now words) (now names) × Remembers (now words) (now names) (length (now names)) (now memo) ⌝ }
+    requires { ⌜ Passed (now bytes) (now ends) (now erased) (now words) (now names) × Remembers (now words) (now names) (length (now names)) (now memo) × Fresh fresh (now rows) (now notes) ⌝ }
     ensures { λ r. ⌜ Tabled (now (bytes .entry)) (now (ends .entry)) (now (erased .entry)) (now (words .entry)) r (now (rows .entry)) (now (notes .entry)) (now (rows .exit)) (now (notes .exit)) ⌝ }
 {
-    let s = steps::begin(rows, notes);
+    let s = steps::begin_in(rows, notes, fresh);
     let m = collecting::statements(
         words,
         names,
@@ -71,11 +73,12 @@ fn run(
     rows: &mut [u32],
     out: &mut [u32],
     memo: &[u32],
+    fresh: bool,
 ) -> Answer
-    requires { ⌜ Passed (now bytes) (now ends) (now erased) (now words) (now names) × (length (now words) ≤ length (now out)) × Remembers (now words) (now names) (length (now names)) (now memo) ⌝ }
+    requires { ⌜ Passed (now bytes) (now ends) (now erased) (now words) (now names) × (length (now words) ≤ length (now out)) × Remembers (now words) (now names) (length (now names)) (now memo) × Fresh fresh (now rows) (now notes) ⌝ }
     ensures { λ r. ⌜ Tells r (now (notes .entry)) (now (rows .entry)) (now (out .entry)) (now (notes .exit)) (now (rows .exit)) (now (out .exit)) (work (length (now (rows .entry))) (length (now (notes .entry))) (length (now (out .entry))) (now (bytes .entry)) (now (ends .entry)) (now (erased .entry)) (now (words .entry))) ⌝ }
 {
-    let s = tables(words, names, bytes, ends, erased, rows, notes, memo);
+    let s = tables(words, names, bytes, ends, erased, rows, notes, memo, fresh);
     if s.stop != 0 {
         return Answer::Refused(steps::refusal(s.stop));
     }
@@ -98,8 +101,9 @@ fn noted(
     rows: &mut [u32],
     out: &mut [u32],
     memo: &mut [u32],
+    fresh: bool,
 ) -> Answer
-    requires { ⌜ Named (now bytes) (now ends) (now names) × (length (now names) ≤ maxStrings) × Remembers (now words) (now names) (length (now names)) (now memo) ⌝ }
+    requires { ⌜ Named (now bytes) (now ends) (now names) × (length (now names) ≤ maxStrings) × Remembers (now words) (now names) (length (now names)) (now memo) × Fresh fresh (now rows) (now notes) ⌝ }
     ensures { λ r. ⌜ Tells r (now (notes .entry)) (now (rows .entry)) (now (out .entry)) (now (notes .exit)) (now (rows .exit)) (now (out .exit)) (work (length (now (rows .entry))) (length (now (notes .entry))) (length (now (out .entry))) (now (bytes .entry)) (now (ends .entry)) (now (erased .entry)) (now (words .entry))) ⌝ }
 {
     match reader::check_program_with(words, erased, names, memo) {
@@ -108,7 +112,18 @@ fn noted(
             if out.len() < words.len() {
                 return Answer::Refused(Refusal::Output);
             }
-            run(words, names, bytes, ends, erased, notes, rows, out, memo)
+            run(
+                words,
+                names,
+                bytes,
+                ends,
+                erased,
+                notes,
+                rows,
+                out,
+                memo,
+                fresh,
+            )
         }
     }
 }
@@ -123,8 +138,9 @@ fn checked(
     notes: &mut [u32],
     rows: &mut [u32],
     out: &mut [u32],
+    fresh: bool,
 ) -> Answer
-    requires { ⌜ Named (now bytes) (now ends) (now names) × (length (now names) ≤ maxStrings) ⌝ }
+    requires { ⌜ Named (now bytes) (now ends) (now names) × (length (now names) ≤ maxStrings) × Fresh fresh (now rows) (now notes) ⌝ }
     ensures { λ r. ⌜ Tells r (now (notes .entry)) (now (rows .entry)) (now (out .entry)) (now (notes .exit)) (now (rows .exit)) (now (out .exit)) (work (length (now (rows .entry))) (length (now (notes .entry))) (length (now (out .entry))) (now (bytes .entry)) (now (ends .entry)) (now (erased .entry)) (now (words .entry))) ⌝ }
 {
     let mut memo = [0u32; 128];
@@ -138,17 +154,59 @@ fn checked(
         rows,
         out,
         &mut memo,
+        fresh,
     )
 }
 
-// Room for the marks of all strings that a table may have.
-fn room() -> [u8; 1024]
-    ensures { λ r. ⌜ length r ≡ 1024 ⌝ }
+// Where the strings are sound: their marks, one for each, and then the checks of the tree.
+fn marked_in(
+    words: &[u32],
+    marks: &mut [u8],
+    bytes: &[u8],
+    ends: &[u32],
+    erased: &[u32],
+    notes: &mut [u32],
+    rows: &mut [u32],
+    out: &mut [u32],
+    fresh: bool,
+) -> Answer
+    requires { ⌜ (sound (now bytes) (now ends) ≡ true) × (length (now ends) ≤ maxStrings) × (length (now marks) ≡ length (now ends)) × Fresh fresh (now rows) (now notes) ⌝ }
+    ensures { λ r. ⌜ Tells r (now (notes .entry)) (now (rows .entry)) (now (out .entry)) (now (notes .exit)) (now (rows .exit)) (now (out .exit)) (work (length (now (rows .entry))) (length (now (notes .entry))) (length (now (out .entry))) (now (bytes .entry)) (now (ends .entry)) (now (erased .entry)) (now (words .entry))) ⌝ }
 {
-    [0u8; 1024]
+    strings::mark_names(bytes, ends, marks);
+    checked(words, marks, bytes, ends, erased, notes, rows, out, fresh)
 }
 
-// Where the strings are sound: their marks, in an array of its own, which nothing copies; and then the checks of the tree.
+// With room for the marks of all strings that a table may have.
+fn many(
+    words: &[u32],
+    bytes: &[u8],
+    ends: &[u32],
+    erased: &[u32],
+    notes: &mut [u32],
+    rows: &mut [u32],
+    out: &mut [u32],
+    fresh: bool,
+) -> Answer
+    requires { ⌜ (sound (now bytes) (now ends) ≡ true) × (length (now ends) ≤ maxStrings) × Fresh fresh (now rows) (now notes) ⌝ }
+    ensures { λ r. ⌜ Tells r (now (notes .entry)) (now (rows .entry)) (now (out .entry)) (now (notes .exit)) (now (rows .exit)) (now (out .exit)) (work (length (now (rows .entry))) (length (now (notes .entry))) (length (now (out .entry))) (now (bytes .entry)) (now (ends .entry)) (now (erased .entry)) (now (words .entry))) ⌝ }
+{
+    let n = ends.len();
+    let mut marks = [0u8; 1024];
+    marked_in(
+        words,
+        &mut marks[..n],
+        bytes,
+        ends,
+        erased,
+        notes,
+        rows,
+        out,
+        fresh,
+    )
+}
+
+// Most programs have few strings, and so little room to clear.
 fn marked(
     words: &[u32],
     bytes: &[u8],
@@ -157,17 +215,55 @@ fn marked(
     notes: &mut [u32],
     rows: &mut [u32],
     out: &mut [u32],
+    fresh: bool,
 ) -> Answer
-    requires { ⌜ (sound (now bytes) (now ends) ≡ true) × (length (now ends) ≤ maxStrings) ⌝ }
+    requires { ⌜ (sound (now bytes) (now ends) ≡ true) × (length (now ends) ≤ maxStrings) × Fresh fresh (now rows) (now notes) ⌝ }
     ensures { λ r. ⌜ Tells r (now (notes .entry)) (now (rows .entry)) (now (out .entry)) (now (notes .exit)) (now (rows .exit)) (now (out .exit)) (work (length (now (rows .entry))) (length (now (notes .entry))) (length (now (out .entry))) (now (bytes .entry)) (now (ends .entry)) (now (erased .entry)) (now (words .entry))) ⌝ }
 {
     let n = ends.len();
-    let mut names = room();
-    strings::mark_names(bytes, ends, &mut names[..n]);
-    checked(words, &names[..n], bytes, ends, erased, notes, rows, out)
+    if 64 < n {
+        return many(words, bytes, ends, erased, notes, rows, out, fresh);
+    }
+    let mut marks = [0u8; 64];
+    marked_in(
+        words,
+        &mut marks[..n],
+        bytes,
+        ends,
+        erased,
+        notes,
+        rows,
+        out,
+        fresh,
+    )
 }
 
-// A refusal leaves the buffers as they came, but for 7, 8 and 9, which leave rows and diagnostics zero.
+// A refusal leaves the buffers as they came, but for 7, 8 and 9, which leave rows and diagnostics zero. Rows and diagnostics that are zeros, as in new buffers,
+// need no clearing before the run.
+pub fn analyse_in(
+    bytes: &[u8],
+    ends: &[u32],
+    words: &[u32],
+    erased: &[u32],
+    notes: &mut [u32],
+    rows: &mut [u32],
+    out: &mut [u32],
+    fresh: bool,
+) -> Answer
+    requires { ⌜ Fresh fresh (now rows) (now notes) ⌝ }
+    ensures { λ r. ⌜ Analyses (now (bytes .entry)) (now (ends .entry)) (now (erased .entry)) (now (words .entry)) r (now (notes .entry)) (now (rows .entry)) (now (out .entry)) (now (notes .exit)) (now (rows .exit)) (now (out .exit)) ⌝ }
+{
+    if !reader::sized_program(bytes, ends, words, erased) {
+        return Answer::Refused(Refusal::Size);
+    }
+    let v = strings::check(bytes, ends);
+    if let Verdict::Breaks(p) = v {
+        return Answer::Refused(Refusal::Strings(p));
+    }
+    marked(words, bytes, ends, erased, notes, rows, out, fresh)
+}
+
+// Into buffers that may hold anything.
 pub fn analyse(
     bytes: &[u8],
     ends: &[u32],
@@ -179,12 +275,5 @@ pub fn analyse(
 ) -> Answer
     ensures { λ r. ⌜ Analyses (now (bytes .entry)) (now (ends .entry)) (now (erased .entry)) (now (words .entry)) r (now (notes .entry)) (now (rows .entry)) (now (out .entry)) (now (notes .exit)) (now (rows .exit)) (now (out .exit)) ⌝ }
 {
-    if !reader::sized_program(bytes, ends, words, erased) {
-        return Answer::Refused(Refusal::Size);
-    }
-    let v = strings::check(bytes, ends);
-    if let Verdict::Breaks(p) = v {
-        return Answer::Refused(Refusal::Strings(p));
-    }
-    marked(words, bytes, ends, erased, notes, rows, out)
+    analyse_in(bytes, ends, words, erased, notes, rows, out, false)
 }

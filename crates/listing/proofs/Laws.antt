@@ -7,7 +7,7 @@ use mathlib.Core.List.{List}
 use mathlib.Core.Bool.{Bool, true, false}
 use mathlib.Core.Option.{Option, none, some}
 use borrow.Author.Tests.{le-leb, ne-eqb}
-use lib.ListN.{length, take, drop}
+use lib.ListN.{length, length-replicate, take, drop}
 use Rattle.words.specs.Told.{Told, stops, gives, unless}
 use Rattle.words.specs.Refusals.{numberOf, refused}
 use Rattle.words.specs.declared.Refusal.{Refusal}
@@ -15,7 +15,8 @@ use Rattle.text.specs.Wrote.{Wrote}
 use Rattle.strings.specs.Table.{sound}
 use Rattle.strings.specs.Open.{entryOf}
 use Rattle.reader.specs.Sized.{sizedProgram}
-use Rattle.table.specs.Rows.{width, noteWidth}
+use Rattle.table.specs.Rows.{width, noteWidth, zeros}
+use Rattle.steps.specs.Held.{Fresh}
 use Rattle.image.specs.Image.{wordsAt, treeFrom, erasedFrom, bytesFrom, parts, decode}
 use Rattle.image.specs.Laws.{Shaped}
 use Rattle.page.specs.Page.{page, refusal}
@@ -29,6 +30,10 @@ use Rattle.analyse.specs.declared.Answer.{Answer}
 use Rattle.analyse.specs.declared.Answer.the-variants.{Refused, Done}
 use Rattle.listing.specs.Listing.{textOf, listed, analysed, listing}
 use Rattle.listing.specs.Shown.{shownText, answerText, programText, limit, tooShort}
+
+-- buffers of zeros are fresh
+pub made : (n m : ℕ) → Fresh true (zeros n) (zeros m)
+made n m = (ap zeros (sym (length-replicate n 0)), ap zeros (sym (length-replicate m 0)))
 
 -- ---- an answer's text
 

@@ -1,6 +1,6 @@
 // The listing of a program's image, for the program `list` and for a compiler in Rust.
 use analyse::Answer;
-use analyse::analyse;
+use analyse::analyse_in;
 use image::Opened;
 use image::Shape;
 use image::open;
@@ -11,10 +11,12 @@ use page::put_refusal;
 use text::finish;
 use words::number;
 ghost use mathlib.Core.Path.{_≡_};
+ghost use mathlib.Core.Bool.{true};
 ghost use Prim.Native.Nat.{_*_, _≤_};
 ghost use lib.ListN.{length};
 ghost use Rattle.text.specs.Wrote.{Wrote, size, laid};
 ghost use Rattle.table.specs.Rows.{width, noteWidth};
+ghost use Rattle.steps.specs.Held.{Fresh};
 ghost use Rattle.image.specs.Laws.{Shaped};
 ghost use Rattle.analyse.specs.ReadOff.{Within};
 ghost use Rattle.listing.specs.Listing.{listing as listingOf};
@@ -81,10 +83,10 @@ fn put_all(
     rows: &mut [u32],
     resolved: &mut [u32],
 ) -> usize
-    requires { ⌜ (length (now words) ≤ length (now resolved)) × (length (now rows) ≡ 2048 * width) × (length (now notes) ≡ 2048 * noteWidth) ⌝ }
+    requires { ⌜ (length (now words) ≤ length (now resolved)) × (length (now rows) ≡ 2048 * width) × (length (now notes) ≡ 2048 * noteWidth) × Fresh true (now rows) (now notes) ⌝ }
     ensures { λ r. ⌜ Wrote (programText (now (bytes .entry)) (now (ends .entry)) (now (erased .entry)) (now (words .entry))) (now (out .entry)) (now (out .exit)) 0 r ⌝ }
 {
-    let a = analyse(bytes, ends, words, erased, notes, rows, resolved);
+    let a = analyse_in(bytes, ends, words, erased, notes, rows, resolved, true);
     put_answer(out, bytes, ends, notes, rows, resolved, a)
 }
 
@@ -132,10 +134,10 @@ fn put_first(
     rows: &mut [u32],
     resolved: &mut [u32],
 ) -> usize
-    requires { ⌜ Shaped (now image) (s .strings) (s .words) (s .erased) (s .bytes) × (programText (now bytes) (now ends) (now erased) (now words) ≡ listingOf (now image)) × (length (now words) ≤ length (now resolved)) × (length (now rows) ≤ 2048 * width) × (length (now notes) ≤ 2048 * noteWidth) ⌝ }
+    requires { ⌜ Shaped (now image) (s .strings) (s .words) (s .erased) (s .bytes) × (programText (now bytes) (now ends) (now erased) (now words) ≡ listingOf (now image)) × (length (now words) ≤ length (now resolved)) × (length (now rows) ≤ 2048 * width) × (length (now notes) ≤ 2048 * noteWidth) × Fresh true (now rows) (now notes) ⌝ }
     ensures { λ r. ⌜ Wrote (listingOf (now (image .entry))) (now (out .entry)) (now (out .exit)) 0 r ⌝ }
 {
-    let a = analyse(bytes, ends, words, erased, notes, rows, resolved);
+    let a = analyse_in(bytes, ends, words, erased, notes, rows, resolved, true);
     if too_short(a) {
         return put_full(out, image, s);
     }
@@ -154,7 +156,7 @@ fn put_read(
     rows: &mut [u32],
     resolved: &mut [u32],
 ) -> usize
-    requires { ⌜ Shaped (now image) (s .strings) (s .words) (s .erased) (s .bytes) × (s .strings ≤ length (now ends)) × (s .words ≤ length (now words)) × (s .erased ≤ length (now erased)) × (length (now rows) ≤ 2048 * width) × (length (now notes) ≤ 2048 * noteWidth) × (s .words ≤ length (now resolved)) ⌝ }
+    requires { ⌜ Shaped (now image) (s .strings) (s .words) (s .erased) (s .bytes) × (s .strings ≤ length (now ends)) × (s .words ≤ length (now words)) × (s .erased ≤ length (now erased)) × (length (now rows) ≤ 2048 * width) × (length (now notes) ≤ 2048 * noteWidth) × (s .words ≤ length (now resolved)) × Fresh true (now rows) (now notes) ⌝ }
     ensures { λ r. ⌜ Wrote (listingOf (now (image .entry))) (now (out .entry)) (now (out .exit)) 0 r ⌝ }
 {
     let tree_from = 12 + 4 * s.strings;

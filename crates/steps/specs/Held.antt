@@ -1,6 +1,6 @@
 -- What two lent buffers hold of collecting's state, and what it is to do a step on them. These are definitions.
 use mathlib.Core.Path.{_≡_}
-use mathlib.Core.Bool.{Bool}
+use mathlib.Core.Bool.{Bool, true, false}
 use mathlib.Core.List.{List}
 use mathlib.Core.Option.{some}
 use Prim.Native.Nat.{ℕ, _*_, _≤_, _<_}
@@ -25,6 +25,11 @@ pub record Held (N D : ℕ) (st : State) (s : Counts) (b d : List ℕ) : Type 0 
   pub rows-long : length b ≡ N
   pub notes-long : length d ≡ D
   pub inside : Inside st s b d
+
+-- fresh buffers are zeros; of others nothing is known
+abbrev pub Fresh : Bool → List ℕ → List ℕ → Type 0
+Fresh true b d = (b ≡ zeros (length b)) × (d ≡ zeros (length d))
+Fresh false b d = Unit {0}
 
 -- a step that knows the words of both buffers
 abbrev pub Sized : Type 0

@@ -11,7 +11,7 @@ use borrow.Author.Tests.{le-leb, leb-true, eqb-true, ne-eqb}
 use Rattle.words.specs.declared.Refusal.the-variants.{TypeWords}
 use Rattle.table.specs.Rows.{Row, width, noteWidth, Table, insert, remove, zeros, image, Filled, Holds}
 use Rattle.table.specs.Laws.{pick-true, remove-len}
-use Rattle.table.specs.Images.{holds-fits, holds-image}
+use Rattle.table.specs.Images.{holds-fits, holds-image, image-none}
 use Rattle.table.specs.Answers.{Fits, More, Inserted, Removed, Entered, Pushed}
 use Rattle.table.specs.Buffers.{picked-done, picked-full, removed-holds, pushed-filled, more-done, more-full}
 use Rattle.table.specs.Answers as Answers
@@ -20,11 +20,21 @@ use Rattle.table.specs.declared.Put.the-variants.{Full, Done}
 use Rattle.steps.specs.State.{State, running, stopped, stop, fits, change, enter, push}
 use Rattle.steps.specs.declared.Counts.{Counts}
 use Rattle.steps.specs.Refused.{zeroing, Numbered}
-use Rattle.steps.specs.Held.{Fit, Held, Notes, Rows, Counted, changing, entering, pushing, noting, rowsPut, notesPut, countsOf, rowsLeft, notesLeft, Left}
+use Rattle.steps.specs.Held.{Fit, Held, Fresh, Notes, Rows, Counted, changing, entering, pushing, noting, rowsPut, notesPut, countsOf, rowsLeft, notesLeft, Left}
 
 -- a run that goes on is not stopped
 going : {A : Type 0} (k : ℕ) → 0 ≡ k → 0 < k → A
 going k e h = absurd (omega arith)
+
+-- ---- the beginning
+
+-- buffers of zeros hold no rows and no diagnostics
+pub fresh-held : (f : Bool) {b d : List ℕ} → f ≡ true → Fresh f b d → Held (length b) (length d) (running [] []) (record { stop = 0; rows = 0; notes = 0 }) b d
+fresh-held true {b} {d} e h =
+    let rows : Holds [] 0 b = record { filled = record { words = h .0 ∙ sym (image-none width (length b)); count = refl; wide = tt }; table = tt } in
+    let notes : Filled noteWidth [] 0 d = record { words = h .1 ∙ sym (image-none noteWidth (length d)); count = refl; wide = tt } in
+    record { rows-long = refl; notes-long = refl; inside = (refl, rows, notes) }
+fresh-held false e h = absurd (false≢true e)
 
 -- ---- rows changed
 

@@ -11,7 +11,7 @@ ghost use Rattle.table.specs.Rows.{Row, width, noteWidth, remove};
 ghost use Rattle.entries.specs.Entries.{row, entryKey};
 ghost use Rattle.steps.specs.State.{State, running, stop as stopWith};
 ghost use Rattle.steps.specs.Refused.{zeroing, Numbered};
-ghost use Rattle.steps.specs.Held.{Held, Notes, Rows, Counted, changing, entering, pushing, noting, rowsPut, notesPut, Left};
+ghost use Rattle.steps.specs.Held.{Held, Fresh, Notes, Rows, Counted, changing, entering, pushing, noting, rowsPut, notesPut, Left};
 
 // The number that stopped the run, or 0, and how many rows and diagnostics there are.
 pub struct Counts {
@@ -31,6 +31,21 @@ pub fn begin(b: &mut [u32], d: &mut [u32]) -> Counts
         rows: 0,
         notes: 0,
     }
+}
+
+// The same; fresh buffers are zeros already and need no clearing.
+pub fn begin_in(b: &mut [u32], d: &mut [u32], fresh: bool) -> Counts
+    requires { ⌜ Fresh fresh (now b) (now d) ⌝ }
+    ensures { λ r. ⌜ Held (length (now (b .entry))) (length (now (d .entry))) (running [] []) r (now (b .exit)) (now (d .exit)) ⌝ }
+{
+    if fresh {
+        return Counts {
+            stop: 0,
+            rows: 0,
+            notes: 0,
+        };
+    }
+    begin(b, d)
 }
 
 // The end of a run: one that was stopped leaves zeros to the last word of both buffers.

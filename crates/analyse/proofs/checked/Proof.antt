@@ -8,7 +8,7 @@ slice-aggregate-noted : tie.Need-slice-aggregate-noted
 slice-aggregate-noted c = search needs
 
 noted-requires : tie.Need-noted-requires
-noted-requires c κs = (search needs, search needs, blank _ _ _ 128)
+noted-requires c κs = (search needs, search needs, blank _ _ _ 128, search needs)
 
 same-length : tie.Need-same-length
 same-length c = search needs

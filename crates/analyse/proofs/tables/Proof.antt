@@ -5,11 +5,11 @@ use borrow.Author.Needs.{needs}
 use Rattle.analyse.proofs.tables.Statement.{statement}
 use Rattle.analyse.proofs.tables.Tie as tie
 
-begin-requires : tie.Need-begin-requires
-begin-requires c κs = search needs
+begin-in-requires : tie.Need-begin-in-requires
+begin-in-requires c κs = search needs
 
 statements-requires : tie.Need-statements-requires
-statements-requires c κs = (start-ready (c .before .before .before .before .before .before .before .before .before .before .before .before .before .before .before .before .before .pre .0) (c .before .before .before .before .before .before .begin .ensures), c .before .before .before .before .before .before .before .before .before .before .before .before .before .before .before .before .before .pre .1)
+statements-requires c κs = (start-ready (c .before .before .before .before .before .before .before .before .before .before .before .before .before .before .before .before .before .pre .0) (c .before .before .before .before .before .before .begin-in .ensures), c .before .before .before .before .before .before .before .before .before .before .before .before .before .before .before .before .before .pre .1)
 
 collisions-requires : tie.Need-collisions-requires
 collisions-requires c κs = check-ready (c .before .before .before .before .before .before .before .before .before .before .before .before .before .before .before .before .before .before .before .before .before .before .before .before .before .pre .0) (c .before .before .before .before .before .before .before .statements .ensures .kept)
@@ -24,13 +24,13 @@ same-length-2 : tie.Need-same-length-2
 same-length-2 c = search needs
 
 returns : tie.Need-returns
-returns c = tabled (c .before .before .before .before .before .before .before .before .before .before .before .before .before .before .before .before .before .before .before .before .before .before .before .before .before .before .before .before .before .before .before .before .before .before .before .pre .0) (c .before .before .before .before .before .before .before .before .before .before .before .before .before .before .before .before .before .before .before .before .before .before .before .before .begin .ensures) (c .before .before .before .before .before .before .before .before .before .before .before .before .before .before .before .before .before .statements .ensures) (c .before .before .before .before .before .before .before .before .before .collisions .ensures) (c .before .before .before .before .finish .ensures)
+returns c = tabled (c .before .before .before .before .before .before .before .before .before .before .before .before .before .before .before .before .before .before .before .before .before .before .before .before .before .before .before .before .before .before .before .before .before .before .before .pre .0) (c .before .before .before .before .before .before .before .before .before .before .before .before .before .before .before .before .before .before .before .before .before .before .before .before .begin-in .ensures) (c .before .before .before .before .before .before .before .before .before .before .before .before .before .before .before .before .before .statements .ensures) (c .before .before .before .before .before .before .before .before .before .collisions .ensures) (c .before .before .before .before .finish .ensures)
 
 pub tables-spec : {M : Type 1} → statement M
 tables-spec =
     tie.close
     (tie.spec
-    begin-requires
+    begin-in-requires
     statements-requires
     collisions-requires
     finish-requires

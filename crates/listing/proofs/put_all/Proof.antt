@@ -5,11 +5,11 @@ use borrow.Author.Needs.{needs}
 use Rattle.listing.proofs.put_all.Statement.{statement}
 use Rattle.listing.proofs.put_all.Tie as tie
 
-analyse-requires : tie.Need-analyse-requires
-analyse-requires c κs = search needs
+analyse-in-requires : tie.Need-analyse-in-requires
+analyse-in-requires c κs = search needs
 
 put-answer-requires : tie.Need-put-answer-requires
-put-answer-requires c κs = counts-within (c .before .before .before .before .before .before .before .before .before .before .analyse .ensures)
+put-answer-requires c κs = counts-within (c .before .before .before .before .before .before .before .before .before .before .analyse-in .ensures)
 
 same-length : tie.Need-same-length
 same-length c = search needs
@@ -24,13 +24,13 @@ same-length-4 : tie.Need-same-length-4
 same-length-4 c = search needs
 
 returns : tie.Need-returns
-returns c = same (text-full (c .before .before .before .before .before .before .before .before .before .before .before .before .before .analyse .ensures) (c .before .before .before .before .before .before .before .before .before .before .before .before .before .before .before .before .before .before .before .before .before .before .before .before .before .pre .0) (c .before .before .before .before .before .before .before .before .before .before .before .before .before .before .before .before .before .before .before .before .before .before .before .before .before .pre .1) (c .before .before .before .before .before .before .before .before .before .before .before .before .before .before .before .before .before .before .before .before .before .before .before .before .before .pre .2)) (c .before .before .put-answer .ensures)
+returns c = same (text-full (c .before .before .before .before .before .before .before .before .before .before .before .before .before .analyse-in .ensures) (c .before .before .before .before .before .before .before .before .before .before .before .before .before .before .before .before .before .before .before .before .before .before .before .before .before .pre .0) (c .before .before .before .before .before .before .before .before .before .before .before .before .before .before .before .before .before .before .before .before .before .before .before .before .before .pre .1) (c .before .before .before .before .before .before .before .before .before .before .before .before .before .before .before .before .before .before .before .before .before .before .before .before .before .pre .2)) (c .before .before .put-answer .ensures)
 
 pub put-all-spec : {M : Type 1} → statement M
 put-all-spec =
     tie.close
     (tie.spec
-    analyse-requires
+    analyse-in-requires
     put-answer-requires
     same-length
     same-length-2

@@ -6,8 +6,8 @@ use borrow.Author.Needs.{needs}
 use Rattle.listing.proofs.put_first.Statement.{statement}
 use Rattle.listing.proofs.put_first.Tie as tie
 
-analyse-requires : tie.Need-analyse-requires
-analyse-requires c κs = search needs
+analyse-in-requires : tie.Need-analyse-in-requires
+analyse-in-requires c κs = search needs
 
 too-short-requires : tie.Need-too-short-requires
 too-short-requires c κs = search needs
@@ -31,7 +31,7 @@ returns : tie.Need-returns
 returns c = search needs
 
 put-answer-requires : tie.Need-put-answer-requires
-put-answer-requires c κs = counts-within (c .before .before .before .before .before .before .before .before .before .before .before .before .analyse .ensures)
+put-answer-requires c κs = counts-within (c .before .before .before .before .before .before .before .before .before .before .before .before .analyse-in .ensures)
 
 same-length-5 : tie.Need-same-length-5
 same-length-5 c = search needs
@@ -46,13 +46,13 @@ same-length-8 : tie.Need-same-length-8
 same-length-8 c = search needs
 
 returns-2 : tie.Need-returns-2
-returns-2 c = same (text-first (c .before .before .before .before .before .before .before .before .before .before .before .before .before .before .before .analyse .ensures) (c .before .before .before .before .before .before .before .before .before .before .before .before .before .before .before .before .before .before .before .before .before .before .before .before .before .before .before .before .pre .2) (sym (c .before .before .before .before .before .before .before .before .too-short .ensures) ∙ c .before .before .before .before .before .before .before .if1 .left) (c .before .before .before .before .before .before .before .before .before .before .before .before .before .before .before .before .before .before .before .before .before .before .before .before .before .before .before .before .pre .3) (c .before .before .before .before .before .before .before .before .before .before .before .before .before .before .before .before .before .before .before .before .before .before .before .before .before .before .before .before .pre .4) ∙ c .before .before .before .before .before .before .before .before .before .before .before .before .before .before .before .before .before .before .before .before .before .before .before .before .before .before .before .before .pre .1) (c .before .before .put-answer .ensures)
+returns-2 c = same (text-first (c .before .before .before .before .before .before .before .before .before .before .before .before .before .before .before .analyse-in .ensures) (c .before .before .before .before .before .before .before .before .before .before .before .before .before .before .before .before .before .before .before .before .before .before .before .before .before .before .before .before .pre .2) (sym (c .before .before .before .before .before .before .before .before .too-short .ensures) ∙ c .before .before .before .before .before .before .before .if1 .left) (c .before .before .before .before .before .before .before .before .before .before .before .before .before .before .before .before .before .before .before .before .before .before .before .before .before .before .before .before .pre .3) (c .before .before .before .before .before .before .before .before .before .before .before .before .before .before .before .before .before .before .before .before .before .before .before .before .before .before .before .before .pre .4) ∙ c .before .before .before .before .before .before .before .before .before .before .before .before .before .before .before .before .before .before .before .before .before .before .before .before .before .before .before .before .pre .1) (c .before .before .put-answer .ensures)
 
 pub put-first-spec : {M : Type 1} → statement M
 put-first-spec =
     tie.close
     (tie.spec
-    analyse-requires
+    analyse-in-requires
     too-short-requires
     put-full-requires
     same-length

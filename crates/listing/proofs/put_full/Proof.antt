@@ -4,7 +4,7 @@ use Prim.Native.Nat.{_+_, _*_}
 use native.Mathlib.Omega.{arith}
 use Rattle.text.specs.Laws.{same}
 use Rattle.image.specs.Laws.{front, front-length}
-use Rattle.listing.proofs.Laws.{image-text, from-to}
+use Rattle.listing.proofs.Laws.{image-text, from-to, made}
 use borrow.Author.Needs.{needs}
 use Rattle.listing.proofs.put_full.Statement.{statement}
 use Rattle.listing.proofs.put_full.Tie as tie
@@ -85,7 +85,7 @@ slice-aggregate-put-all-6 : tie.Need-slice-aggregate-put-all-6
 slice-aggregate-put-all-6 c = search needs
 
 put-all-requires : tie.Need-put-all-requires
-put-all-requires c κs = (omega (arith, front-length (c .before .before .before .before .before .before .before .before .before .before .before .before .before .before .before .before .before .before .before .before .before .before .before .args .image .now) _ ((c .before .before .before .before .before .before .before .before .before .before .before .before .before .before .before .before .before .before .before .before .before .before .before .args .s) .words) _ _ (c .before .before .before .before .before .before .before .before .before .before .before .before .read-words2 .ensures), c .before .before .before .before .before .before .before .before .before .before .before .before .before .before .before .before .before .before .before .before .before .before .before .pre .words-fit), refl, refl)
+put-all-requires c κs = (omega (arith, front-length (c .before .before .before .before .before .before .before .before .before .before .before .before .before .before .before .before .before .before .before .before .before .before .before .args .image .now) _ ((c .before .before .before .before .before .before .before .before .before .before .before .before .before .before .before .before .before .before .before .before .before .before .before .args .s) .words) _ _ (c .before .before .before .before .before .before .before .before .before .before .before .before .read-words2 .ensures), c .before .before .before .before .before .before .before .before .before .before .before .before .before .before .before .before .before .before .before .before .before .before .before .pre .words-fit), refl, refl, made 12288 12288)
 
 same-length : tie.Need-same-length
 same-length c = search needs

@@ -5,8 +5,8 @@ use Rattle.strings.specs.OpenLaws.{said-sound, answers-size, answers-breaks, an
 use Rattle.reader.proofs.Laws.{few-strings′}
 use Rattle.analyse.proofs.Laws.{entry-tells, size-tells, breaks-tells}
 use borrow.Author.Needs.{needs}
-use Rattle.analyse.proofs.analyse.Statement.{statement}
-use Rattle.analyse.proofs.analyse.Tie as tie
+use Rattle.analyse.proofs.analyse_in.Statement.{statement}
+use Rattle.analyse.proofs.analyse_in.Tie as tie
 
 sized-program-requires : tie.Need-sized-program-requires
 sized-program-requires c κs = search needs
@@ -27,7 +27,7 @@ enum-told : tie.Need-enum-told
 enum-told c = search needs
 
 marked-requires : tie.Need-marked-requires
-marked-requires c κs = (said-sound (c .before .before .before .before .before .check .ensures) (c .before .before .before .enum-told .given .1), few-strings′ (c .before .before .before .before .before .before .before .before .before .before .before .before .before .before .before .args .bytes .now) (c .before .before .before .before .before .before .before .before .before .before .before .before .before .before .before .args .ends .now) (c .before .before .before .before .before .before .before .before .before .before .before .before .before .before .before .args .words .now) (c .before .before .before .before .before .before .before .before .before .before .before .before .before .before .before .args .erased .now) (sym (c .before .before .before .before .before .before .before .sized-program .ensures) ∙ not-false _ (c .before .before .before .before .before .before .if1 .left)))
+marked-requires c κs = (said-sound (c .before .before .before .before .before .check .ensures) (c .before .before .before .enum-told .given .1), few-strings′ (c .before .before .before .before .before .before .before .before .before .before .before .before .before .before .before .args .bytes .now) (c .before .before .before .before .before .before .before .before .before .before .before .before .before .before .before .args .ends .now) (c .before .before .before .before .before .before .before .before .before .before .before .before .before .before .before .args .words .now) (c .before .before .before .before .before .before .before .before .before .before .before .before .before .before .before .args .erased .now) (sym (c .before .before .before .before .before .before .before .sized-program .ensures) ∙ not-false _ (c .before .before .before .before .before .before .if1 .left)), c .before .before .before .before .before .before .before .before .before .before .before .before .before .before .before .pre)
 
 same-length : tie.Need-same-length
 same-length c = search needs
@@ -41,8 +41,8 @@ same-length-3 c = search needs
 returns-3 : tie.Need-returns-3
 returns-3 c = entry-tells (answers-inner (sym (c .before .before .before .before .before .before .before .before .before .before .before .before .before .before .sized-program .ensures) ∙ not-false _ (c .before .before .before .before .before .before .before .before .before .before .before .before .before .if1 .left)) (said-sound (c .before .before .before .before .before .before .before .before .before .before .before .before .check .ensures) (c .before .before .before .before .before .before .before .before .before .before .enum-told .given .1)) refl) (c .before .before .before .before .before .before .marked .ensures)
 
-pub analyse-spec : {M : Type 1} → statement M
-analyse-spec =
+pub analyse-in-spec : {M : Type 1} → statement M
+analyse-in-spec =
     tie.close
     (tie.spec
     sized-program-requires

@@ -296,6 +296,13 @@ pub not-procedure : (f : ℕ) {count : ℕ} {buf : List ℕ} {b : Bool} → ((rs
 unfolding tablesOf
 not-procedure f g e rs H = sym (g rs H) ∙ e
 
+pub array-head : (scope f : ℕ) {count w : ℕ} {buf : List ℕ} {b : Bool} → w ≡ wordOf (pick b 18 21) 0 → ((rs : List Row) → Holds rs count buf → b ≡ tablesOf rs .array scope f) → ((rs : List Row) → Holds rs count buf → tablesOf rs .procedure f ≡ false)
+    → (rs : List Row) → Holds rs count buf → w ≡ calledHead (tablesOf rs) scope f
+unfolding element
+array-head scope f {b = b} e a n rs H =
+    let is : b ≡ element (tablesOf rs) scope f = rw (n rs H) (a rs H) in
+    e ∙ ap (λ (x : Bool). wordOf (pick x 18 21) 0) is
+
 module _ {ns ws buf : List ℕ} {count scope at to size : ℕ} (r : ReadyToken ns ws buf count scope at to size) where
   head-room : {h : Tables → ℕ → ℕ → ℕ} → HeadAt h ws ns at (r .items) (r .end) → (at + 3 ≤ length ws) × (to + 3 ≤ size)
   head-room C =

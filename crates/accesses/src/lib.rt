@@ -73,7 +73,8 @@ fn call(
     if lookup::has(rows, count, 135, f, 0) {
         return resolver::resolve_expr(words, rows, count, scope, out, at, to);
     }
-    three(words, out, at, to, resolver::head(rows, count, scope, f))
+    let h = resolver::headed(resolve::is_array(rows, count, scope, f));
+    three(words, out, at, to, h)
 }
 
 // A CALL, in the same way: it never turns into an element.

@@ -135,6 +135,9 @@ is-plain k a b c d e f g h i = record { no-call = a; no-raw = λ x y. five x y (
     three : 84 ≤ k → k < 87 → 87 ≤ k → ⊥
     three x y z = omega (arith, y, z)
 
+pub low-plain : (k : ℕ) → k < 21 → Plain k
+low-plain k h = record { no-call = λ e. omega (arith, e, h); no-raw = λ x y. omega (arith, x, h); no-procedure = λ x y. omega (arith, x, h) }
+
 -- a statement that has no scope of its own: its head, and then its fields
 stmt-moved : {ns ws : List ℕ} {xs : List Item} {at end : ℕ} → StmtAt ws ns (length ns) maxDepth at xs end → (84 ≤ kindOf (getD ws at 0) → kindOf (getD ws at 0) < 87 → ⊥) → (T : Tables) (σ : ℕ) {to : ℕ} (out : List ℕ) → Moved T σ ns ws xs at end to out (at + 1) (to + 1) (set out to (getD ws at 0))
 unfolding writtenI writtenIs
@@ -158,7 +161,7 @@ stmt-moved {ws = ws} {xs} {at} S p T σ {to} out =
       rest = S .writes g (parted T σ) ∙ ap (λ (l : List ℕ). l ++ writtenIs g (S .rest)) is;
     }
 
-pub plain-done : {ns ws buf out : List ℕ} {count scope at to : ℕ} → Plain (kindOf (getD ws at 0)) → DoneToken ns ws buf out (set out to (getD ws at 0)) count scope at to (at + 1) (to + 1)
+plain-done : {ns ws buf out : List ℕ} {count scope at to : ℕ} → Plain (kindOf (getD ws at 0)) → DoneToken ns ws buf out (set out to (getD ws at 0)) count scope at to (at + 1) (to + 1)
 plain-done {ns} {ws} {buf} {out} {count} {scope} {at} {to} p = record { gives = λ rs H xs end s z. (go rs xs end s z (front-at s), omega arith) }
   where
     go : (rs : List Row) (xs : List Item) (end : ℕ) → StandsAll ws ns (length ns) maxDepth at xs end → at < end → FrontAt ws ns (length ns) maxDepth at xs end → Moved (tablesOf rs) scope ns ws xs at end to out (at + 1) (to + 1) (set out to (getD ws at 0))
@@ -169,6 +172,10 @@ plain-done {ns} {ws} {buf} {out} {count} {scope} {at} {to} p = record { gives = 
     go rs xs end s z (parenAt k W) = absurd (p .no-raw (omega (arith, k)) (omega (arith, k)))
     go rs xs end s z (callAt k W) = absurd (p .no-call k)
     go rs xs end s z (stmtAt a b S) = stmt-moved S (p .no-procedure) (tablesOf rs) scope out
+
+-- the same of a word that was copied
+pub one-done : {ns ws buf out last : List ℕ} {count scope at to a t : ℕ} → Plain (kindOf (getD ws at 0)) → (a ≡ at + 1) × (t ≡ to + 1) × (last ≡ set out to (getD ws at 0)) → DoneToken ns ws buf out last count scope at to a t
+one-done p e = rw (e .0, e .1, e .2) (plain-done p)
 
 -- ---- calls and CALLs
 
@@ -287,6 +294,13 @@ whole-moved C T σ d =
 pub not-procedure : (f : ℕ) {count : ℕ} {buf : List ℕ} {b : Bool} → ((rs : List Row) → Holds rs count buf → b ≡ has rs 135 f 0) → b ≡ false → (rs : List Row) → Holds rs count buf → tablesOf rs .procedure f ≡ false
 unfolding tablesOf
 not-procedure f g e rs H = sym (g rs H) ∙ e
+
+pub array-head : (scope f : ℕ) {count w : ℕ} {buf : List ℕ} {b : Bool} → w ≡ wordOf (pick b 18 21) 0 → ((rs : List Row) → Holds rs count buf → b ≡ tablesOf rs .array scope f) → ((rs : List Row) → Holds rs count buf → tablesOf rs .procedure f ≡ false)
+    → (rs : List Row) → Holds rs count buf → w ≡ calledHead (tablesOf rs) scope f
+unfolding element
+array-head scope f {b = b} e a n rs H =
+    let is : b ≡ element (tablesOf rs) scope f = rw (n rs H) (a rs H) in
+    e ∙ ap (λ (x : Bool). wordOf (pick x 18 21) 0) is
 
 module _ {ns ws buf : List ℕ} {count scope at to size : ℕ} (r : ReadyToken ns ws buf count scope at to size) where
   head-room : {h : Tables → ℕ → ℕ → ℕ} → HeadAt h ws ns at (r .items) (r .end) → (at + 3 ≤ length ws) × (to + 3 ≤ size)

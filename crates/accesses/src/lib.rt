@@ -3,7 +3,7 @@ use resolver::Spot;
 ghost use mathlib.Core.Path.{_≡_};
 ghost use mathlib.Core.List.{List, [], _∷_};
 ghost use Prim.Native.Nat.{_+_, _≤_, _<_};
-ghost use lib.ListN.{length, getD};
+ghost use lib.ListN.{length, getD, set};
 ghost use lib.Seq.{sets};
 ghost use Rattle.words.specs.Word.{kindOf};
 ghost use Rattle.words.specs.Sizes.{maxStrings};
@@ -16,6 +16,18 @@ fn past(words: &[u32], names: &[u8], at: usize, memo: &[u32]) -> usize
     ensures { λ r. ⌜ PastStmt (now (names .entry)) (now (words .entry)) at r ⌝ }
 {
     tree::past(words, names, names.len() as u32, memo, at)
+}
+
+// Copies one word.
+fn one(words: &[u32], out: &mut [u32], at: usize, to: usize) -> Spot
+    requires { ⌜ (at < length (now words)) × (to < length (now out)) ⌝ }
+    ensures { λ r. ⌜ (r .at ≡ at + 1) × (r .to ≡ to + 1) × (now (out .exit) ≡ set (now (out .entry)) to (getD (now (words .entry)) at 0)) ⌝ }
+{
+    out[to] = words[at];
+    Spot {
+        at: at + 1,
+        to: to + 1,
+    }
 }
 
 // Copies two words.
@@ -61,7 +73,8 @@ fn call(
     if lookup::has(rows, count, 135, f, 0) {
         return resolver::resolve_expr(words, rows, count, scope, out, at, to);
     }
-    three(words, out, at, to, resolver::head(rows, count, scope, f))
+    let h = resolver::headed(resolve::is_array(rows, count, scope, f));
+    three(words, out, at, to, h)
 }
 
 // A CALL, in the same way: it never turns into an element.
@@ -120,7 +133,8 @@ fn procedure(
     Spot { at: end, to: t }
 }
 
-// The next token. A word is copied unless it is a call's head or stands for parentheses, which go.
+// The next token. A word is copied unless it is a call's head or stands for parentheses, which go. Most words have a kind below 21, and one
+// test is enough for them.
 fn token(
     words: &[u32],
     names: &[u8],
@@ -136,7 +150,11 @@ fn token(
     ensures { λ r. ⌜ DoneToken (now (names .entry)) (now (words .entry)) (now (rows .entry)) (now (out .entry)) (now (out .exit)) count scope at to (r .at) (r .to) ⌝ }
 {
     let w = words[at];
-    match w / 16777216 {
+    let k = w / 16777216;
+    if k < 21 {
+        return one(words, out, at, to);
+    }
+    match k {
         21 => call(words, names, rows, count, scope, out, at, to),
         23 => Spot { at: at + 1, to },
         24 => two(words, out, at, to),
@@ -146,13 +164,7 @@ fn token(
         84 => procedure(words, names, rows, count, scope, out, at, to, memo),
         85 => procedure(words, names, rows, count, scope, out, at, to, memo),
         86 => calling(words, names, rows, count, scope, out, at, to),
-        _ => {
-            out[to] = w;
-            Spot {
-                at: at + 1,
-                to: to + 1,
-            }
-        }
+        _ => one(words, out, at, to),
     }
 }
 

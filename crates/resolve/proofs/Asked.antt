@@ -5,9 +5,8 @@ use mathlib.Core.Bool.{Bool, true, false}
 use mathlib.Core.List.{List}
 use Rattle.table.specs.Rows.{Row, find}
 use Rattle.entries.specs.Entries.{entryKey, has}
-use Rattle.lookup.specs.Lookup.{lookupArray}
 use Rattle.resolve.specs.Tables.{places, element}
-use Rattle.resolve.specs.FromRows.{byRef, isSome, tablesOf}
+use Rattle.resolve.specs.FromRows.{byRef, tablesOf}
 
 module _ (rows : List Row) (f : ℕ) where
   pub unknown : (i : ℕ) → has rows 135 f 0 ≡ false → false ≡ places (tablesOf rows) f i
@@ -22,6 +21,6 @@ module _ (rows : List Row) (f : ℕ) where
   unfolding element tablesOf
   a-procedure scope e = rw e
 
-  pub no-procedure : (scope : ℕ) (b : Bool) → has rows 135 f 0 ≡ false → b ≡ isSome (lookupArray rows scope f) → b ≡ element (tablesOf rows) scope f
+  pub no-procedure : (scope : ℕ) (b : Bool) → has rows 135 f 0 ≡ false → b ≡ tablesOf rows .array scope f → b ≡ element (tablesOf rows) scope f
   unfolding element tablesOf
   no-procedure scope b e h = rw e h

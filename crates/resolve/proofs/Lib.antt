@@ -1,3 +1,4 @@
--- The two questions by the lookups' answers, and worked examples of the definitions.
+-- The two questions by the lookups' answers, the arrays of a name, and worked examples of the definitions.
 pub mod Asked
+pub mod Arrays
 pub mod Examples

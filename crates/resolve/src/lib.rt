@@ -1,5 +1,4 @@
 // What resolving asks of the rows: whether an argument keeps its pair of parentheses, and whether a call is an element.
-use lookup::Array;
 use table::Found;
 ghost use mathlib.Core.Path.{_≡_};
 ghost use mathlib.Core.List.{List};
@@ -10,6 +9,7 @@ ghost use Rattle.table.specs.Answers.{Within};
 ghost use Rattle.lookup.specs.Answers.{rowAt};
 ghost use Rattle.resolve.specs.Tables.{places, element};
 ghost use Rattle.resolve.specs.FromRows.{isScalar, byRef, tablesOf};
+ghost use Rattle.resolve.specs.Scopes.{FirstScope};
 
 // Whether a parameter with these marks and this type is by reference, and neither an array nor a record.
 fn is_scalar(marks: u32, head: u32) -> bool
@@ -49,21 +49,46 @@ fn takes(b: &[u32], count: usize, found: Found) -> bool
     }
 }
 
+// The least scope that has an array f, or more than any scope. The rows of f stand together, in the order of their scopes.
+fn first_scope(b: &[u32], count: usize, f: u32) -> u32
+    requires { ⌜ (count * width ≤ length (now b)) × (f < 16777216) ⌝ }
+    ensures { λ r. ⌜ ((rows : List Row) → Holds rows count (now (b .entry)) → FirstScope rows f r) ⌝ }
+{
+    let p = table::lower_bound(b, count, entries::entry_key(133, f, 0));
+    if p < count {
+        let at = p * table::WIDTH;
+        if b[at] == 133 * 16777216 + f {
+            return b[at + 1];
+        }
+    }
+    4294967295
+}
+
+// Whether f is a visible array from the scope. Most names that are called are no array anywhere, and one search tells it.
+pub fn is_array(b: &[u32], count: usize, scope: u32, f: u32) -> bool
+    requires { ⌜ (count * width ≤ length (now b)) × (scope ≤ 16777216) × (f < 16777216) ⌝ }
+    ensures { λ r. ⌜ ((rows : List Row) → Holds rows count (now (b .entry)) → r ≡ tablesOf rows .array scope f) ⌝ }
+{
+    let s = first_scope(b, count, f);
+    if scope <= s {
+        return scope == s;
+    }
+    if lookup::has(b, count, 133, f, scope) {
+        return true;
+    }
+    if s == 0 {
+        return lookup::shares(b, count, scope - 1, f, true);
+    }
+    false
+}
+
 // Whether a call of f from the scope is an element: a visible array, and no procedure.
 pub fn is_element(b: &[u32], count: usize, scope: u32, f: u32) -> bool
     requires { ⌜ (count * width ≤ length (now b)) × (scope ≤ 16777216) × (f < 16777216) ⌝ }
     ensures { λ r. ⌜ ((rows : List Row) → Holds rows count (now (b .entry)) → r ≡ element (tablesOf rows) scope f) ⌝ }
 {
-    let procedure = lookup::has(b, count, 135, f, 0);
-    if procedure {
+    if lookup::has(b, count, 135, f, 0) {
         return false;
     }
-    match lookup::lookup_array(b, count, scope, f) {
-        Array::Info {
-            rank: _,
-            line: _,
-            lower: _,
-        } => true,
-        Array::NoArray => false,
-    }
+    is_array(b, count, scope, f)
 }

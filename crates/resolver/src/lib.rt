@@ -40,15 +40,22 @@ fn copied(words: &[u32], out: &mut [u32], at: usize, to: usize, n: usize) -> Spo
     }
 }
 
-// The head of a call of f: an element's where it is one.
-pub fn head(rows: &[u32], count: usize, scope: u32, f: u32) -> u32
-    requires { ⌜ (count * width ≤ length (now rows)) × (scope ≤ 16777216) × (f < 16777216) ⌝ }
-    ensures { λ r. ⌜ ((rs : List Row) → Holds rs count (now (rows .entry)) → r ≡ wordOf (pick (element (tablesOf rs) scope f) 18 21) 0) ⌝ }
+// The head of an element, or of a call.
+pub fn headed(element: bool) -> u32
+    ensures { λ r. ⌜ r ≡ wordOf (pick element 18 21) 0 ⌝ }
 {
-    if resolve::is_element(rows, count, scope, f) {
+    if element {
         return 0x12000000;
     }
     0x15000000
+}
+
+// The head of a call of f: an element's where it is one.
+fn head(rows: &[u32], count: usize, scope: u32, f: u32) -> u32
+    requires { ⌜ (count * width ≤ length (now rows)) × (scope ≤ 16777216) × (f < 16777216) ⌝ }
+    ensures { λ r. ⌜ ((rs : List Row) → Holds rs count (now (rows .entry)) → r ≡ wordOf (pick (element (tablesOf rs) scope f) 18 21) 0) ⌝ }
+{
+    headed(resolve::is_element(rows, count, scope, f))
 }
 
 // Writes the head h, and the name and the list's head of the call at `at` as they are.

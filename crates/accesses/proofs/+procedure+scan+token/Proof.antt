@@ -4,7 +4,7 @@ use Prim.Native.Nat.{ℕ, _+_, _-_, _*_, _<_}
 use mathlib.Core.Path.{_≡_, refl, _∙_}
 use native.Mathlib.Omega.{arith}
 use lib.ListN.{length, length-set}
-use Rattle.accesses.proofs.Steps.{token-inside, raw-room, raws-room, raw-done, raws-done, paren-done, is-plain, plain-done}
+use Rattle.accesses.proofs.Steps.{token-inside, raw-room, raws-room, raw-done, raws-done, paren-done, is-plain, low-plain, one-done}
 use Rattle.accesses.proofs.Scanning.{some-stmt, ready-inner, procedure-done, Scanned, scan-start, scan-from, scan-next, scan-less, scan-step, scan-done}
 use borrow.Fn.Kinds.{In}
 use borrow.Fn.PlainCycle.{Measures, is, falls, and}
@@ -19,6 +19,7 @@ use Rattle.accesses.proofs.token.Kinds as token-kinds
 use Rattle.accesses.proofs.+procedure+scan+token.Lts-token as token-lts
 use Rattle.accesses.proofs.call.Reads as call-reads
 use Rattle.accesses.proofs.calling.Reads as calling-reads
+use Rattle.accesses.proofs.one.Reads as one-reads
 use Rattle.accesses.proofs.past.Reads as past-reads
 use Rattle.accesses.proofs.three.Reads as three-reads
 use Rattle.accesses.proofs.two.Reads as two-reads
@@ -58,7 +59,7 @@ abbrev K-procedure : ℕ → procedure-lts.Claims
 K-procedure t = (past-reads.Asked, past-reads.Learnt, inside-reads.Asked, inside-reads.Learnt, scan-below t, scan.Post)
 
 abbrev K-token : ℕ → token-lts.Claims
-K-token t = (call-reads.Asked, call-reads.Learnt, two-reads.Asked, two-reads.Learnt, three-reads.Asked, three-reads.Learnt, procedure-below t, procedure.Post, calling-reads.Asked, calling-reads.Learnt)
+K-token t = (one-reads.Asked, one-reads.Learnt, call-reads.Asked, call-reads.Learnt, two-reads.Asked, two-reads.Learnt, three-reads.Asked, three-reads.Learnt, procedure-below t, procedure.Post, calling-reads.Asked, calling-reads.Learnt)
 
 procedure-mul-out : (t : ℕ) → procedure-lts.Need-mul-out (K-procedure t) (procedure-at t) procedure.Post
 procedure-mul-out t c = omega (arith, token-inside (c .before .before .before .before .before .pre .1 .0))
@@ -123,101 +124,101 @@ token-mul-w t c = omega (arith, token-inside (c .before .before .before .before 
 token-shared-slice-read-w : (t : ℕ) → token-lts.Need-shared-slice-read-w (K-token t) (token-at t) token.Post
 token-shared-slice-read-w t c = token-inside (c .before .before .before .before .before .before .pre .1 .0) .0
 
-token-call-requires : (t : ℕ) → token-lts.Need-call-requires (K-token t) (token-at t) token.Post
-token-call-requires t c κs = (c .before .before .before .before .before .before .before .before .pre .1 .0, c .before .match .keys1)
-
-token-add-t18 : (t : ℕ) → token-lts.Need-add-t18 (K-token t) (token-at t) token.Post
-token-add-t18 t c = omega (arith, token-inside (c .before .before .before .before .before .before .before .pre .1 .0))
-
-token-two-requires : (t : ℕ) → token-lts.Need-two-requires (K-token t) (token-at t) token.Post
-token-two-requires t c κs = raw-room (c .before .before .before .before .before .before .before .before .pre .1 .0) (omega (arith, c .before .match .keys3)) (omega (arith, c .before .match .keys3))
-
-token-two-requires-2 : (t : ℕ) → token-lts.Need-two-requires-2 (K-token t) (token-at t) token.Post
-token-two-requires-2 t c κs = raw-room (c .before .before .before .before .before .before .before .before .pre .1 .0) (omega (arith, c .before .match .keys4)) (omega (arith, c .before .match .keys4))
-
-token-three-requires : (t : ℕ) → token-lts.Need-three-requires (K-token t) (token-at t) token.Post
-token-three-requires t c κs = raws-room (c .before .before .before .before .before .before .before .before .pre .1 .0) (omega (arith, c .before .match .keys5)) (omega (arith, c .before .match .keys5))
-
-token-three-requires-2 : (t : ℕ) → token-lts.Need-three-requires-2 (K-token t) (token-at t) token.Post
-token-three-requires-2 t c κs = raws-room (c .before .before .before .before .before .before .before .before .pre .1 .0) (omega (arith, c .before .match .keys6)) (omega (arith, c .before .match .keys6))
-
-token-procedure-requires : (t : ℕ) → token-lts.Need-procedure-requires (K-token t) (token-at t) token.Post
-token-procedure-requires t c κs = (omega (arith, c .before .before .before .before .before .before .before .before .pre .0), (c .before .before .before .before .before .before .before .before .pre .1 .0, omega (arith, c .before .match .keys7), omega (arith, c .before .match .keys7), c .before .before .before .before .before .before .before .before .pre .1 .1))
-
-token-procedure-requires-2 : (t : ℕ) → token-lts.Need-procedure-requires-2 (K-token t) (token-at t) token.Post
-token-procedure-requires-2 t c κs = (omega (arith, c .before .before .before .before .before .before .before .before .pre .0), (c .before .before .before .before .before .before .before .before .pre .1 .0, omega (arith, c .before .match .keys8), omega (arith, c .before .match .keys8), c .before .before .before .before .before .before .before .before .pre .1 .1))
-
-token-calling-requires : (t : ℕ) → token-lts.Need-calling-requires (K-token t) (token-at t) token.Post
-token-calling-requires t c κs = (c .before .before .before .before .before .before .before .before .pre .1 .0, c .before .match .keys9)
-
-token-mul-out : (t : ℕ) → token-lts.Need-mul-out (K-token t) (token-at t) token.Post
-token-mul-out t c = omega (arith, token-inside (c .before .before .before .before .before .before .before .pre .1 .0))
-
-token-slice-write-out : (t : ℕ) → token-lts.Need-slice-write-out (K-token t) (token-at t) token.Post
-token-slice-write-out t c = token-inside (c .before .before .before .before .before .before .before .pre .1 .0) .1
-
-token-add-t33 : (t : ℕ) → token-lts.Need-add-t33 (K-token t) (token-at t) token.Post
-token-add-t33 t c = omega (arith, token-inside (c .before .before .before .before .before .before .before .pre .1 .0))
-
-token-add-t35 : (t : ℕ) → token-lts.Need-add-t35 (K-token t) (token-at t) token.Post
-token-add-t35 t c = omega (arith, token-inside (c .before .before .before .before .before .before .before .pre .1 .0))
+token-one-requires : (t : ℕ) → token-lts.Need-one-requires (K-token t) (token-at t) token.Post
+token-one-requires t c κs = token-inside (c .before .before .before .before .before .before .before .before .pre .1 .0)
 
 token-same-length : (t : ℕ) → token-lts.Need-same-length (K-token t) (token-at t) token.Post
-token-same-length t c = c .before .before .call .kept .1 .1 .1 .1 .1 .0
+token-same-length t c = c .before .before .one .kept .1 .0
 
 token-returns : (t : ℕ) → token-lts.Need-returns (K-token t) (token-at t) token.Post
-token-returns t c = c .before .before .call .ensures
+token-returns t c = one-done (low-plain _ (c .before .before .before .before .if1 .taken)) (c .before .before .one .ensures)
 
-token-returns-2 : (t : ℕ) → token-lts.Need-returns-2 (K-token t) (token-at t) token.Post
-token-returns-2 t c = paren-done (c .match .keys2)
+token-call-requires : (t : ℕ) → token-lts.Need-call-requires (K-token t) (token-at t) token.Post
+token-call-requires t c κs = (c .before .before .before .before .before .before .before .before .before .pre .1 .0, c .before .match .keys1)
+
+token-add-t21 : (t : ℕ) → token-lts.Need-add-t21 (K-token t) (token-at t) token.Post
+token-add-t21 t c = omega (arith, token-inside (c .before .before .before .before .before .before .before .before .pre .1 .0))
+
+token-two-requires : (t : ℕ) → token-lts.Need-two-requires (K-token t) (token-at t) token.Post
+token-two-requires t c κs = raw-room (c .before .before .before .before .before .before .before .before .before .pre .1 .0) (omega (arith, c .before .match .keys3)) (omega (arith, c .before .match .keys3))
+
+token-two-requires-2 : (t : ℕ) → token-lts.Need-two-requires-2 (K-token t) (token-at t) token.Post
+token-two-requires-2 t c κs = raw-room (c .before .before .before .before .before .before .before .before .before .pre .1 .0) (omega (arith, c .before .match .keys4)) (omega (arith, c .before .match .keys4))
+
+token-three-requires : (t : ℕ) → token-lts.Need-three-requires (K-token t) (token-at t) token.Post
+token-three-requires t c κs = raws-room (c .before .before .before .before .before .before .before .before .before .pre .1 .0) (omega (arith, c .before .match .keys5)) (omega (arith, c .before .match .keys5))
+
+token-three-requires-2 : (t : ℕ) → token-lts.Need-three-requires-2 (K-token t) (token-at t) token.Post
+token-three-requires-2 t c κs = raws-room (c .before .before .before .before .before .before .before .before .before .pre .1 .0) (omega (arith, c .before .match .keys6)) (omega (arith, c .before .match .keys6))
+
+token-procedure-requires : (t : ℕ) → token-lts.Need-procedure-requires (K-token t) (token-at t) token.Post
+token-procedure-requires t c κs = (omega (arith, c .before .before .before .before .before .before .before .before .before .pre .0), (c .before .before .before .before .before .before .before .before .before .pre .1 .0, omega (arith, c .before .match .keys7), omega (arith, c .before .match .keys7), c .before .before .before .before .before .before .before .before .before .pre .1 .1))
+
+token-procedure-requires-2 : (t : ℕ) → token-lts.Need-procedure-requires-2 (K-token t) (token-at t) token.Post
+token-procedure-requires-2 t c κs = (omega (arith, c .before .before .before .before .before .before .before .before .before .pre .0), (c .before .before .before .before .before .before .before .before .before .pre .1 .0, omega (arith, c .before .match .keys8), omega (arith, c .before .match .keys8), c .before .before .before .before .before .before .before .before .before .pre .1 .1))
+
+token-calling-requires : (t : ℕ) → token-lts.Need-calling-requires (K-token t) (token-at t) token.Post
+token-calling-requires t c κs = (c .before .before .before .before .before .before .before .before .before .pre .1 .0, c .before .match .keys9)
+
+token-one-requires-2 : (t : ℕ) → token-lts.Need-one-requires-2 (K-token t) (token-at t) token.Post
+token-one-requires-2 t c κs = token-inside (c .before .before .before .before .before .before .before .before .before .pre .1 .0)
 
 token-same-length-2 : (t : ℕ) → token-lts.Need-same-length-2 (K-token t) (token-at t) token.Post
-token-same-length-2 t c = c .before .before .two .kept .1 .0
+token-same-length-2 t c = c .before .before .call .kept .1 .1 .1 .1 .1 .0
+
+token-returns-2 : (t : ℕ) → token-lts.Need-returns-2 (K-token t) (token-at t) token.Post
+token-returns-2 t c = c .before .before .call .ensures
 
 token-returns-3 : (t : ℕ) → token-lts.Need-returns-3 (K-token t) (token-at t) token.Post
-token-returns-3 t c = raw-done (omega (arith, c .before .before .before .before .match .keys3)) (omega (arith, c .before .before .before .before .match .keys3)) (c .before .before .two .ensures)
+token-returns-3 t c = paren-done (c .match .keys2)
 
 token-same-length-3 : (t : ℕ) → token-lts.Need-same-length-3 (K-token t) (token-at t) token.Post
-token-same-length-3 t c = c .before .before .two2 .kept .1 .0
+token-same-length-3 t c = c .before .before .two .kept .1 .0
 
 token-returns-4 : (t : ℕ) → token-lts.Need-returns-4 (K-token t) (token-at t) token.Post
-token-returns-4 t c = raw-done (omega (arith, c .before .before .before .before .match .keys4)) (omega (arith, c .before .before .before .before .match .keys4)) (c .before .before .two2 .ensures)
+token-returns-4 t c = raw-done (omega (arith, c .before .before .before .before .match .keys3)) (omega (arith, c .before .before .before .before .match .keys3)) (c .before .before .two .ensures)
 
 token-same-length-4 : (t : ℕ) → token-lts.Need-same-length-4 (K-token t) (token-at t) token.Post
-token-same-length-4 t c = c .before .before .three .kept .1 .0
+token-same-length-4 t c = c .before .before .two2 .kept .1 .0
 
 token-returns-5 : (t : ℕ) → token-lts.Need-returns-5 (K-token t) (token-at t) token.Post
-token-returns-5 t c = raws-done (omega (arith, c .before .before .before .before .match .keys5)) (omega (arith, c .before .before .before .before .match .keys5)) (c .before .before .three .ensures)
+token-returns-5 t c = raw-done (omega (arith, c .before .before .before .before .match .keys4)) (omega (arith, c .before .before .before .before .match .keys4)) (c .before .before .two2 .ensures)
 
 token-same-length-5 : (t : ℕ) → token-lts.Need-same-length-5 (K-token t) (token-at t) token.Post
-token-same-length-5 t c = c .before .before .three2 .kept .1 .0
+token-same-length-5 t c = c .before .before .three .kept .1 .0
 
 token-returns-6 : (t : ℕ) → token-lts.Need-returns-6 (K-token t) (token-at t) token.Post
-token-returns-6 t c = raws-done (omega (arith, c .before .before .before .before .match .keys6)) (omega (arith, c .before .before .before .before .match .keys6)) (c .before .before .three2 .ensures)
+token-returns-6 t c = raws-done (omega (arith, c .before .before .before .before .match .keys5)) (omega (arith, c .before .before .before .before .match .keys5)) (c .before .before .three .ensures)
 
 token-same-length-6 : (t : ℕ) → token-lts.Need-same-length-6 (K-token t) (token-at t) token.Post
-token-same-length-6 t c = c .before .before .procedure .kept .1 .1 .1 .1 .1 .0
+token-same-length-6 t c = c .before .before .three2 .kept .1 .0
 
 token-returns-7 : (t : ℕ) → token-lts.Need-returns-7 (K-token t) (token-at t) token.Post
-token-returns-7 t c = c .before .before .procedure .ensures
+token-returns-7 t c = raws-done (omega (arith, c .before .before .before .before .match .keys6)) (omega (arith, c .before .before .before .before .match .keys6)) (c .before .before .three2 .ensures)
 
 token-same-length-7 : (t : ℕ) → token-lts.Need-same-length-7 (K-token t) (token-at t) token.Post
-token-same-length-7 t c = c .before .before .procedure2 .kept .1 .1 .1 .1 .1 .0
+token-same-length-7 t c = c .before .before .procedure .kept .1 .1 .1 .1 .1 .0
 
 token-returns-8 : (t : ℕ) → token-lts.Need-returns-8 (K-token t) (token-at t) token.Post
-token-returns-8 t c = c .before .before .procedure2 .ensures
+token-returns-8 t c = c .before .before .procedure .ensures
 
 token-same-length-8 : (t : ℕ) → token-lts.Need-same-length-8 (K-token t) (token-at t) token.Post
-token-same-length-8 t c = c .before .before .calling .kept .1 .1 .1 .1 .1 .0
+token-same-length-8 t c = c .before .before .procedure2 .kept .1 .1 .1 .1 .1 .0
 
 token-returns-9 : (t : ℕ) → token-lts.Need-returns-9 (K-token t) (token-at t) token.Post
-token-returns-9 t c = c .before .before .calling .ensures
+token-returns-9 t c = c .before .before .procedure2 .ensures
 
 token-same-length-9 : (t : ℕ) → token-lts.Need-same-length-9 (K-token t) (token-at t) token.Post
-token-same-length-9 t c = simp length-set
+token-same-length-9 t c = c .before .before .calling .kept .1 .1 .1 .1 .1 .0
 
 token-returns-10 : (t : ℕ) → token-lts.Need-returns-10 (K-token t) (token-at t) token.Post
-token-returns-10 t c = let n = c .match .rest in plain-done (is-plain _ (n .0 .0 .0 .0 .0 .0 .0 .0 .1) (n .0 .0 .0 .0 .0 .0 .0 .1) (n .0 .0 .0 .0 .0 .0 .1) (n .0 .0 .0 .0 .0 .1) (n .0 .0 .0 .0 .1) (n .0 .0 .0 .1) (n .0 .0 .1) (n .0 .1) (n .1))
+token-returns-10 t c = c .before .before .calling .ensures
+
+token-same-length-10 : (t : ℕ) → token-lts.Need-same-length-10 (K-token t) (token-at t) token.Post
+token-same-length-10 t c = c .before .before .one2 .kept .1 .0
+
+token-returns-11 : (t : ℕ) → token-lts.Need-returns-11 (K-token t) (token-at t) token.Post
+token-returns-11 t c = let n = c .before .before .before .before .match .rest in one-done (is-plain _ (n .0 .0 .0 .0 .0 .0 .0 .0 .1) (n .0 .0 .0 .0 .0 .0 .0 .1) (n .0 .0 .0 .0 .0 .0 .1) (n .0 .0 .0 .0 .0 .1) (n .0 .0 .0 .0 .1) (n .0 .0 .0 .1) (n .0 .0 .1) (n .0 .1) (n .1)) (c .before .before .one2 .ensures)
 
 pub +procedure+scan+token-spec : {M : Type 1} → statement M
 +procedure+scan+token-spec = close μ-procedure μ-scan μ-token (λ t. procedure-lts.spec (K-procedure t)
@@ -251,8 +252,11 @@ pub +procedure+scan+token-spec : {M : Type 1} → statement M
     token.Post
     (token-mul-w t)
     (token-shared-slice-read-w t)
+    (token-one-requires t)
+    (token-same-length t)
+    (token-returns t)
     (token-call-requires t)
-    (token-add-t18 t)
+    (token-add-t21 t)
     (token-two-requires t)
     (token-two-requires-2 t)
     (token-three-requires t)
@@ -260,14 +264,9 @@ pub +procedure+scan+token-spec : {M : Type 1} → statement M
     (token-procedure-requires t)
     (token-procedure-requires-2 t)
     (token-calling-requires t)
-    (token-mul-out t)
-    (token-slice-write-out t)
-    (token-add-t33 t)
-    (token-add-t35 t)
-    (token-same-length t)
-    (token-returns t)
-    (token-returns-2 t)
+    (token-one-requires-2 t)
     (token-same-length-2 t)
+    (token-returns-2 t)
     (token-returns-3 t)
     (token-same-length-3 t)
     (token-returns-4 t)
@@ -283,3 +282,5 @@ pub +procedure+scan+token-spec : {M : Type 1} → statement M
     (token-returns-9 t)
     (token-same-length-9 t)
     (token-returns-10 t)
+    (token-same-length-10 t)
+    (token-returns-11 t)

@@ -1,12 +1,12 @@
 -- `defined_before`: what the rows say, asked before the diagnostic; without a row nothing is said. Assumes nothing.
 use mathlib.Core.Path.{_≡_, refl, sym, ap, _∙_, subst}
 use mathlib.Core.Bool.{true, false}
-use mathlib.Core.List.{List, []}
+use mathlib.Core.List.{List, [], _∷_}
 use mathlib.Core.Option.{none, some}
-use Prim.Native.Nat.{ℕ, _<_}
+use Prim.Native.Nat.{ℕ, _+_, _*_, _<_}
 use native.Mathlib.Omega.{arith}
 use lib.ListN.{getD}
-use Rattle.table.specs.Rows.{Row, find, Holds}
+use Rattle.table.specs.Rows.{Row, width, find, Holds}
 use Rattle.table.specs.Answers.{Within}
 use Rattle.table.specs.Images.{word-at}
 use Rattle.table.specs.declared.Found.{Found}
@@ -67,7 +67,8 @@ returns-2 c =
     let i : ℕ = f .i .given .0 .0 in
     let is : (rows : List Row) → Holds rows (a .s .rows) (a .b .now) → some (getD rows i []) ≡ find (entryKey 135 (a .name) 0) rows =
     λ rows H. ap (rowAt rows) (sym (f .i .given .1)) ∙ f .before .before .find-entry .ensures .1 rows H in
-    defined-acts (a .line) (a .name) _ true (c .before .before .before .before .before .before .before .before .before .before .before .pre .1 .0) (λ rows H. ap hasRow (is rows H)) (λ rows H. word-at (H .filled) i 3 (in-table f) (omega arith) ∙ ap (rowWord 3) (is rows H)) (noting-is _ true refl (c .before .before .push .ensures))
+    let prev : ℕ = getD (a .b .now) (i * width + 3) 0 in
+    defined-acts (a .line) (a .name) prev true (c .before .before .before .before .before .before .before .before .before .before .before .pre .1 .0) (λ rows H. ap hasRow (is rows H)) (λ rows H. word-at (H .filled) i 3 (in-table f) (omega arith) ∙ ap (rowWord 3) (is rows H)) (noting-is (25 ∷ a .line ∷ (a .name + 1) ∷ 0 ∷ 0 ∷ prev ∷ []) true refl (c .before .before .push .ensures))
 
 pub defined-before-spec : {M : Type 1} → statement M
 defined-before-spec =

@@ -64,7 +64,7 @@ fn first_scope(b: &[u32], count: usize, f: u32) -> u32
     4294967295
 }
 
-// Whether f is a visible array from the scope. Most names that are called are no array anywhere, and one search tells it.
+// Whether f is a visible array from the scope. For a name that is no array anywhere one search is enough.
 pub fn is_array(b: &[u32], count: usize, scope: u32, f: u32) -> bool
     requires { ⌜ (count * width ≤ length (now b)) × (scope ≤ 16777216) × (f < 16777216) ⌝ }
     ensures { λ r. ⌜ ((rows : List Row) → Holds rows count (now (b .entry)) → r ≡ tablesOf rows .array scope f) ⌝ }

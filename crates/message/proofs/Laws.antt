@@ -1,6 +1,6 @@
 -- The table of the templates, and a template read byte by byte: the run of bytes from one start to the next is the template (`row`), and
 -- rendering it from the left is rendering it whole (`render-append`).
-use Prim.Native.Nat.{ℕ, zero, suc, _+_, _-_, _≤_, _<_}
+use Prim.Native.Nat.{ℕ, zero, suc, _+_, _-_, _≤_, _<_, min}
 use native.Mathlib.Numerals.{add-one}
 use native.Mathlib.Omega.{arith}
 use mathlib.Core.Path.{_≡_, refl, sym, ap, _∙_}
@@ -8,7 +8,7 @@ use mathlib.Core.Bool.{Bool, true, false, _||_, false≢true}
 use mathlib.Core.List.{List, [], _∷_, _++_, append-assoc, append-nil, map}
 use borrow.Author.Tests.{ne-eqb}
 use lib.Dec.{eqb}
-use lib.ListN.{length, take, drop, getD, set, length-append, length-drop, List·getD-eq-default}
+use lib.ListN.{length, take, drop, getD, set, length-append, length-take, length-drop, List·getD-eq-default}
 use lib.Seq.{sets, take-suc, take-add, getD-drop, take-all, take-take, take-nil, drop-nil, drop-drop, drop-append-add, take-append-seam, length-take-le}
 use Rattle.text.specs.Text.{ascii, decimal}
 use Rattle.text.specs.Wrote.{Wrote}
@@ -21,9 +21,6 @@ use Rattle.message.specs.Plain.{Itself, Plain, marks}
 pub long : length (flat table) ≡ 1325
 unfolding table run templates ascii flat
 long = refl
-
-pub long-as : {t : List ℕ} → t ≡ flat table → length t ≡ 1325
-long-as e = ap length e ∙ long
 
 pub many : length table ≡ 29
 unfolding table templates
@@ -108,55 +105,80 @@ unmarked (b ∷ xs) e (suc n) bytes ends d =
     let h₇ = neither (eqb b 94) (marks xs) (h₆ .1) in
     rw (h₁ .0, h₂ .0, h₃ .0, h₄ .0, h₅ .0, h₆ .0, h₇ .0) (ap (λ y. b ∷ y) (unmarked xs (h₇ .1) n bytes ends d))
 
+-- a run without a mark has none where the bytes end before it does
+shorter : (xs : List ℕ) (m n : ℕ) → marks (take n xs) ≡ false → marks (take n (take m xs)) ≡ false
+unfolding marks
+shorter xs zero n e = rw take-nil
+shorter [] (suc m) n e = rw take-nil
+shorter (b ∷ xs) (suc m) zero e = refl
+shorter (b ∷ xs) (suc m) (suc n) e =
+    let h₁ = neither (eqb b 64) _ e in
+    let h₂ = neither (eqb b 38) _ (h₁ .1) in
+    let h₃ = neither (eqb b 35) _ (h₂ .1) in
+    let h₄ = neither (eqb b 37) _ (h₃ .1) in
+    let h₅ = neither (eqb b 36) _ (h₄ .1) in
+    let h₆ = neither (eqb b 33) _ (h₅ .1) in
+    let h₇ = neither (eqb b 94) (marks (take n xs)) (h₆ .1) in
+    rw (h₁ .0, h₂ .0, h₃ .0, h₄ .0, h₅ .0, h₆ .0, h₇ .0) (shorter xs m n (h₇ .1))
+
+within : (xs : List ℕ) (m i n : ℕ) → marks (take n (drop i xs)) ≡ false → marks (take n (drop i (take m xs))) ≡ false
+unfolding marks
+within xs m zero n e = shorter xs m n e
+within xs zero (suc i) n e = rw take-nil
+within [] (suc m) (suc i) n e = rw take-nil
+within (b ∷ xs) (suc m) (suc i) n e = within xs m i n e
+
+-- a run of the table is one of the template that starts at s, so far as that goes
+pub run-of : (t : List ℕ) (s i n : ℕ) → t ≡ take (length t) (drop s (flat table)) → marks (take n (drop (s + i) (flat table))) ≡ false → marks (take n (drop i t)) ≡ false
+run-of t s i n f e =
+    let k : marks (take n (drop i (drop s (flat table)))) ≡ false = ap (λ y. marks (take n y)) (drop-drop i s (flat table)) ∙ e in
+    ap (λ y. marks (take n (drop i y))) f ∙ within (drop s (flat table)) (length t) i n k
+
 -- as many bytes of a run as there is room for
-pub plain-run : {b c : List ℕ} (s : List ℕ) → s ≡ flat table → (from most k n at : ℕ) → n ≤ k → n ≤ most → n ≤ length b - at → marks (take k (drop from (flat table))) ≡ false → c ≡ sets b at (take n (drop from s)) → Plain s from most n b c at
-plain-run s f from most k n at h l r e w =
-    let t = drop from (flat table) in
+pub plain-run : {b c : List ℕ} (s : List ℕ) (from most k n at : ℕ) → n ≤ k → n ≤ most → n ≤ length b - at → marks (take k (drop from s)) ≡ false → c ≡ sets b at (take n (drop from s)) → Plain s from most n b c at
+plain-run s from most k n at h l r e w =
+    let t = drop from s in
     record {
       few = l;
       room = r;
       now = w;
-      self = λ bytes ends d. rw f (rw (take-take n k t h) at (unmarked (take k t) e n bytes ends d));
+      self = λ bytes ends d. rw (take-take n k t h) at (unmarked (take k t) e n bytes ends d);
     }
 
--- what was written by the i-th byte of the table, from s on
-abbrev pub sofar : List ℕ → List ℕ → Diag → ℕ → ℕ → List ℕ
-sofar bytes ends d s i = render bytes ends d (take (i - s) (drop s (flat table)))
+-- ---- a template, byte by byte
 
-pub at-start : (bytes ends : List ℕ) (d : Diag) {b : List ℕ} {at : ℕ} (s : ℕ) → Wrote (sofar bytes ends d s s) b b at at
+-- what was written by its i-th byte
+abbrev pub sofar : List ℕ → List ℕ → Diag → List ℕ → ℕ → List ℕ
+sofar bytes ends d t i = render bytes ends d (take i t)
+
+pub at-start : (bytes ends : List ℕ) (d : Diag) (t : List ℕ) {b : List ℕ} {at : ℕ} → Wrote (sofar bytes ends d t 0) b b at at
 unfolding render
-at-start bytes ends d s =
-    let z : 0 ≡ s - s = omega arith in
-    same (ap (λ k. render bytes ends d (take k (drop s (flat table)))) z) nothing
+at-start bytes ends d t = nothing
 
-pub one-more : (bytes ends : List ℕ) (d : Diag) {a b c : List ℕ} {i j k : ℕ} (s n x : ℕ) → s ≤ n → n < 1325 → x ≡ getD (flat table) n 0 → Wrote (sofar bytes ends d s n) a b i j → Wrote (piece bytes ends d x) b c j k → Wrote (sofar bytes ends d s (n + 1)) a c i k
-one-more bytes ends d s n x h l e p q =
-    let t = drop s (flat table) in
-    let m : n + 1 - s ≡ suc (n - s) = omega arith in
-    let back : s + (n - s) ≡ n = omega arith in
-    let g : getD t (n - s) 0 ≡ x = getD-drop s (flat table) (n - s) 0 ∙ ap (λ y. getD (flat table) y 0) back ∙ sym e in
-    let short : n - s < length t = simp length-drop (omega (arith, long)) in
-    let grown : take (n + 1 - s) t ≡ take (n - s) t ++ (x ∷ []) = ap (λ y. take y t) m ∙ take-suc t (n - s) 0 short ∙ ap (λ y. take (n - s) t ++ (y ∷ [])) g in
-    same (sym (ap (render bytes ends d) grown ∙ render-append bytes ends d (take (n - s) t) (x ∷ []) ∙ ap (λ y. render bytes ends d (take (n - s) t) ++ y) (render-one bytes ends d x))) (then p q)
+pub one-more : (bytes ends : List ℕ) (d : Diag) {a b c : List ℕ} {i j k : ℕ} (t : List ℕ) (n x : ℕ) → n < length t → x ≡ getD t n 0 → Wrote (sofar bytes ends d t n) a b i j → Wrote (piece bytes ends d x) b c j k → Wrote (sofar bytes ends d t (n + 1)) a c i k
+one-more bytes ends d t n x l e p q =
+    let grown : take (n + 1) t ≡ take n t ++ (x ∷ []) = ap (λ y. take y t) (add-one n) ∙ take-suc t n 0 l ∙ ap (λ y. take n t ++ (y ∷ [])) (sym e) in
+    same (sym (ap (render bytes ends d) grown ∙ render-append bytes ends d (take n t) (x ∷ []) ∙ ap (λ y. render bytes ends d (take n t) ++ y) (render-one bytes ends d x))) (then p q)
 
 -- bytes that stand for themselves
-pub plain-more : (bytes ends : List ℕ) (d : Diag) {a b c : List ℕ} {i j : ℕ} (t : List ℕ) → t ≡ flat table → (s n most k : ℕ) → s ≤ n → n + k ≤ 1325 → Wrote (sofar bytes ends d s n) a b i j → Plain t n most k b c j → Wrote (sofar bytes ends d s (n + k)) a c i (j + k)
-plain-more bytes ends d {b = b} {c = c} {j = j} texts f s n most k h l p q₀ =
-    let q : Plain (flat table) n most k b c j = rw f at q₀ in
-    let t = drop s (flat table) in
-    let m : n + k - s ≡ (n - s) + k = omega arith in
-    let back : s + (n - s) ≡ n = omega arith in
-    let u = take k (drop n (flat table)) in
-    let e : drop (n - s) t ≡ drop n (flat table) = drop-drop (n - s) s (flat table) ∙ ap (λ y. drop y (flat table)) back in
-    let short : length u ≡ k = length-take-le k (drop n (flat table)) (simp length-drop (omega (arith, long))) in
-    let grown : take (n + k - s) t ≡ take (n - s) t ++ u = ap (λ y. take y t) m ∙ take-add (n - s) k t ∙ ap (λ y. take (n - s) t ++ take k y) e in
-    let whole : render bytes ends d (take (n + k - s) t) ≡ render bytes ends d (take (n - s) t) ++ u = ap (render bytes ends d) grown ∙ render-append bytes ends d (take (n - s) t) u ∙ ap (λ y. render bytes ends d (take (n - s) t) ++ y) (q .self bytes ends d) in
+pub plain-more : (bytes ends : List ℕ) (d : Diag) {a b c : List ℕ} {i j : ℕ} (t : List ℕ) (n most k : ℕ) → n + k ≤ length t → Wrote (sofar bytes ends d t n) a b i j → Plain t n most k b c j → Wrote (sofar bytes ends d t (n + k)) a c i (j + k)
+plain-more bytes ends d {j = j} t n most k l p q =
+    let u = take k (drop n t) in
+    let short : length u ≡ k = length-take-le k (drop n t) (simp length-drop (omega arith)) in
+    let whole : render bytes ends d (take (n + k) t) ≡ render bytes ends d (take n t) ++ u = ap (render bytes ends d) (take-add n k t) ∙ render-append bytes ends d (take n t) u ∙ ap (λ y. render bytes ends d (take n t) ++ y) (q .self bytes ends d) in
     same (sym whole) (then p (fits u (q .now) (ap (λ y. j + y) (sym short))))
 
-pub at-end : (bytes ends : List ℕ) (d : Diag) (s i e : ℕ) → s ≡ length (flat (take (d .code) table)) → e ≡ length (flat (take (d .code + 1) table)) → i ≡ e → sofar bytes ends d s i ≡ render bytes ends d (getD table (d .code) [])
-at-end bytes ends d s i e p q r =
-    let one : i ≡ length (flat (take (suc (d .code)) table)) = r ∙ q ∙ ap (λ y. length (flat (take y table))) (add-one (d .code)) in
-    ap (render bytes ends d) (rw (one, p) (row table (d .code)))
+pub at-end : (bytes ends : List ℕ) (d : Diag) (t : List ℕ) (i : ℕ) → length t ≤ i → sofar bytes ends d t i ≡ render bytes ends d t
+at-end bytes ends d t i l = ap (render bytes ends d) (take-all i t l)
+
+-- no template goes past the table's end
+pub in-table : (t : List ℕ) (s : ℕ) → t ≡ take (length t) (drop s (flat table)) → length t ≤ 1325 - s
+in-table t s f =
+    let e : length t ≡ min (length t) (length (drop s (flat table))) = ap length f ∙ length-take (length t) (drop s (flat table)) in
+    let k : length (drop s (flat table)) ≡ 1325 - s = length-drop s (flat table) ∙ ap (λ y. y - s) long in
+    omega (arith, e, k)
+
+-- ---- the table's starts
 
 -- starts rise
 flat-rise : (ts : List (List ℕ)) (c : ℕ) → length (flat (take c ts)) ≤ length (flat (take (suc c) ts))
@@ -176,6 +198,38 @@ pub bounds : (c s e : ℕ) → s ≡ length (flat (take c table)) → e ≡ leng
 bounds c s e p q =
     let r : e ≡ length (flat (take (suc c) table)) = q ∙ ap (λ y. length (flat (take y table))) (add-one c) in
     (omega (arith, flat-rise table c), omega (arith, flat-all table (c + 1), long))
+
+-- A code's row: so much of the text as there is from its start to the next is its template.
+pub row-long : (c s e : ℕ) → s ≡ length (flat (take c table)) → e ≡ length (flat (take (c + 1) table)) → take (e - s) (drop s (flat table)) ≡ getD table c []
+row-long c s e p q =
+    let r : e ≡ length (flat (take (suc c) table)) = q ∙ ap (λ y. length (flat (take y table))) (add-one c) in
+    rw (r, p) (row table c)
+
+pub row-length : (c s e : ℕ) → s ≡ length (flat (take c table)) → e ≡ length (flat (take (c + 1) table)) → e - s ≡ length (getD table c [])
+row-length c s e p q =
+    let l : e - s ≤ length (drop s (flat table)) = simp length-drop (omega (arith, bounds c s e p q .1, long)) in
+    sym (length-take-le (e - s) (drop s (flat table)) l) ∙ ap length (row-long c s e p q)
+
+pub row-text : (c s e : ℕ) (t : List ℕ) → s ≡ length (flat (take c table)) → e ≡ length (flat (take (c + 1) table)) → take (length (getD table c [])) t ≡ getD table c [] → take (e - s) t ≡ getD table c []
+row-text c s e t p q h = ap (λ y. take y t) (row-length c s e p q) ∙ h
+
+pub row-flat : (c s e : ℕ) (t : List ℕ) → s ≡ length (flat (take c table)) → e ≡ length (flat (take (c + 1) table)) → take (length (getD table c [])) t ≡ getD table c [] → take (e - s) t ≡ take (length (take (e - s) t)) (drop s (flat table))
+row-flat c s e t p q h =
+    let k : e - s ≡ length (take (e - s) t) = row-length c s e p q ∙ sym (ap length (row-text c s e t p q h)) in
+    row-text c s e t p q h ∙ sym (row-long c s e p q) ∙ ap (λ y. take y (drop s (flat table))) k
+
+pub row-fits : (c s e : ℕ) (t : List ℕ) → s ≡ length (flat (take c table)) → e ≡ length (flat (take (c + 1) table)) → take (length (getD table c [])) t ≡ getD table c [] → e - s ≤ length t
+row-fits c s e t p q h =
+    let n = length (getD table c []) in
+    let k : n ≡ min n (length t) = sym (ap length h) ∙ length-take n t in
+    omega (arith, k, row-length c s e p q)
+
+-- past the last code there is no template
+pub no-text : (c : ℕ) (t : List ℕ) → Beyond 29 c → take (length (getD table c [])) t ≡ getD table c []
+no-text c t h =
+    let l : 29 ≤ c = beyond 29 c h in
+    let e : getD table c [] ≡ [] = List·getD-eq-default table [] (omega (arith, many)) in
+    rw e
 
 -- ---- names and pieces
 

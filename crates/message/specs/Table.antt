@@ -1,4 +1,4 @@
--- The templates as the program holds them: one run of bytes, a note on a line of its own. These are definitions.
+-- The templates as the program writes them, a note on a line of its own; `flat` is all of them one after the other, as runs without a mark are listed. These are definitions.
 use Prim.Native.Nat.{ℕ}
 use mathlib.Core.List.{List, [], _∷_, _++_, map}
 use Rattle.text.specs.Text.{ascii}

@@ -26,45 +26,80 @@ pub struct Diag {
     pub note: u32,
 }
 
-// The templates of codes 1 to 28, one after the other.
-const TEXTS: [u8; 1325] = *b"\
-duplicate line number #\
-duplicate label '@'\
-TYPE '@' is already defined\nN previous definition is on line ^\
-TYPE '@' must be defined at module level\
-field '@' is declared twice in TYPE '&'\
-TYPE '@' cannot contain itself\
-field '@' uses undefined TYPE '&'\
-OPTION BASE may appear only once\
-OPTION BASE must come before any DIM\
-'@' is already defined\
-Overflow: CONST '@' does not fit its type\
-CONST '@' must have a constant value\
-$ belongs inside a SUB or FUNCTION\
-DIM SHARED belongs at module level; inside a procedure, use SHARED\
-'@' is declared AS a different type than its name's suffix\
-undefined TYPE '@'\
-'@' is already declared\
-array '@' needs at least one dimension\
-array '@' is already declared\
-REDIM PRESERVE of '@' must keep its # dimension%; only the last one's upper bound may change\
-REDIM of '@' must keep its # dimension%\
-parameter '@' of '&' is declared AS STRING * #, but a parameter must be a variable-length string\nN declare it @ AS STRING\
-the result of '@' is declared AS STRING * #, but a FUNCTION's result must be a variable-length string\nN declare it AS STRING\
-'@' cannot be defined inside another procedure\
-'@' is already defined\nN previous definition is on line ^\
-parameter '@' uses undefined TYPE '&'\
-'@' is declared both as an array and as a !\nN the ! is on line ^\
-'@' is the name of a built-in function and cannot also be an array";
+// The templates by their codes, each with blanks behind it; there is no code 0. A row of 128 bytes is moved in eight wide steps.
+const TEXTS: [[u8; 128]; 29] = [
+    [b' '; 128],
+    *b"duplicate line number #                                                                                                         ",
+    *b"duplicate label '@'                                                                                                             ",
+    *b"TYPE '@' is already defined\nN previous definition is on line ^                                                                  ",
+    *b"TYPE '@' must be defined at module level                                                                                        ",
+    *b"field '@' is declared twice in TYPE '&'                                                                                         ",
+    *b"TYPE '@' cannot contain itself                                                                                                  ",
+    *b"field '@' uses undefined TYPE '&'                                                                                               ",
+    *b"OPTION BASE may appear only once                                                                                                ",
+    *b"OPTION BASE must come before any DIM                                                                                            ",
+    *b"'@' is already defined                                                                                                          ",
+    *b"Overflow: CONST '@' does not fit its type                                                                                       ",
+    *b"CONST '@' must have a constant value                                                                                            ",
+    *b"$ belongs inside a SUB or FUNCTION                                                                                              ",
+    *b"DIM SHARED belongs at module level; inside a procedure, use SHARED                                                              ",
+    *b"'@' is declared AS a different type than its name's suffix                                                                      ",
+    *b"undefined TYPE '@'                                                                                                              ",
+    *b"'@' is already declared                                                                                                         ",
+    *b"array '@' needs at least one dimension                                                                                          ",
+    *b"array '@' is already declared                                                                                                   ",
+    *b"REDIM PRESERVE of '@' must keep its # dimension%; only the last one's upper bound may change                                    ",
+    *b"REDIM of '@' must keep its # dimension%                                                                                         ",
+    *b"parameter '@' of '&' is declared AS STRING * #, but a parameter must be a variable-length string\nN declare it @ AS STRING       ",
+    *b"the result of '@' is declared AS STRING * #, but a FUNCTION's result must be a variable-length string\nN declare it AS STRING    ",
+    *b"'@' cannot be defined inside another procedure                                                                                  ",
+    *b"'@' is already defined\nN previous definition is on line ^                                                                       ",
+    *b"parameter '@' uses undefined TYPE '&'                                                                                           ",
+    *b"'@' is declared both as an array and as a !\nN the ! is on line ^                                                                ",
+    *b"'@' is the name of a built-in function and cannot also be an array                                                              ",
+];
 
-// They are made once for many messages: a constant is stored anew wherever it is used.
-pub fn templates() -> [u8; 1325]
-    ensures { λ r. ⌜ r ≡ flat table ⌝ }
+// The row of a code. The table is read at literal places only: so the compiler stores the one row, where a table that is read
+// at a computed place is stored whole.
+fn text_of(code: usize) -> [u8; 128]
+    ensures { λ r. ⌜ take (length (getD table code [])) r ≡ getD table code [] ⌝ }
 {
-    TEXTS
+    let t = TEXTS;
+    match code {
+        0 => t[0],
+        1 => t[1],
+        2 => t[2],
+        3 => t[3],
+        4 => t[4],
+        5 => t[5],
+        6 => t[6],
+        7 => t[7],
+        8 => t[8],
+        9 => t[9],
+        10 => t[10],
+        11 => t[11],
+        12 => t[12],
+        13 => t[13],
+        14 => t[14],
+        15 => t[15],
+        16 => t[16],
+        17 => t[17],
+        18 => t[18],
+        19 => t[19],
+        20 => t[20],
+        21 => t[21],
+        22 => t[22],
+        23 => t[23],
+        24 => t[24],
+        25 => t[25],
+        26 => t[26],
+        27 => t[27],
+        28 => t[28],
+        _ => t[0],
+    }
 }
 
-// Where a code's template starts.
+// Where a code's template starts, if they stand one after the other.
 fn start_of(code: usize) -> usize
     ensures { λ r. ⌜ r ≡ length (flat (take code table)) ⌝ }
 {
@@ -278,16 +313,15 @@ fn copy_run(out: &mut [u8], at: usize, s: &[u8], from: usize, n: usize)
     }
 }
 
-// Bytes without a mark up to `to`, so long as there is room: a listed run is copied without a look at its bytes.
-fn put_plain(out: &mut [u8], at: usize, s: &[u8], from: usize, to: usize) -> usize
-    requires { ⌜ (from ≤ to) × (to ≤ length (now s)) × (now s ≡ flat table) ⌝ }
-    ensures { λ r. ⌜ Plain (now (s .entry)) from (to - from) r (now (out .entry)) (now (out .exit)) at ⌝ }
+// Bytes without a mark, so long as there is room: a run that is known is copied without a look at its bytes.
+fn put_plain(out: &mut [u8], at: usize, s: &[u8], from: usize, run: usize) -> usize
+    requires { ⌜ (from ≤ length (now s)) × (marks (take run (drop from (now s))) ≡ false) ⌝ }
+    ensures { λ r. ⌜ Plain (now (s .entry)) from (length (now (s .entry)) - from) r (now (out .entry)) (now (out .exit)) at ⌝ }
 {
     if out.len() <= at {
         return 0;
     }
-    let n = less(to - from, out.len() - at);
-    let run = run_at(from);
+    let n = less(s.len() - from, out.len() - at);
     if run == 0 {
         return copy_plain(out, at, s, from, n);
     }
@@ -296,51 +330,52 @@ fn put_plain(out: &mut [u8], at: usize, s: &[u8], from: usize, to: usize) -> usi
     most
 }
 
-// What the template's bytes stand for, one after the other.
-fn put_message(
+// What the bytes of the template that starts at `start` stand for, one after the other.
+fn put_template(
     out: &mut [u8],
     at: usize,
-    texts: &[u8],
+    text: &[u8],
+    start: usize,
     bytes: &[u8],
     ends: &[u32],
     d: Diag,
 ) -> usize
-    requires { ⌜ now texts ≡ flat table ⌝ }
-    ensures { λ r. ⌜ Wrote (render (now (bytes .entry)) (now (ends .entry)) d (getD table (d .code) [])) (now (out .entry)) (now (out .exit)) at r ⌝ }
+    requires { ⌜ now text ≡ take (length (now text)) (drop start (flat table)) ⌝ }
+    ensures { λ r. ⌜ Wrote (render (now (bytes .entry)) (now (ends .entry)) d (now (text .entry))) (now (out .entry)) (now (out .exit)) at r ⌝ }
 {
-    let code = d.code as usize;
-    let mut i = start_of(code);
-    let end = start_of(code + 1);
+    let mut i = 0;
     let mut next = at;
-    while i < end {
-        let n = put_plain(out, next, texts, i, end);
+    while i < text.len() {
+        let n = put_plain(out, next, text, i, run_at(start + i));
         i += n;
         next += n;
-        if end <= i {
+        if text.len() <= i {
             return next;
         }
-        next = put_piece(out, next, bytes, ends, d, texts[i]);
+        next = put_piece(out, next, bytes, ends, d, text[i]);
         i += 1;
     }
     next
 }
 
+fn put_message(out: &mut [u8], at: usize, bytes: &[u8], ends: &[u32], d: Diag) -> usize
+    ensures { λ r. ⌜ Wrote (render (now (bytes .entry)) (now (ends .entry)) d (getD table (d .code) [])) (now (out .entry)) (now (out .exit)) at r ⌝ }
+{
+    let code = d.code as usize;
+    let start = start_of(code);
+    let end = start_of(code + 1);
+    let text = text_of(code);
+    put_template(out, at, &text[..end - start], start, bytes, ends, d)
+}
+
 // A diagnostic's `D` line, and its `N` line where its code has one.
-pub fn put_diag(
-    out: &mut [u8],
-    at: usize,
-    texts: &[u8],
-    bytes: &[u8],
-    ends: &[u32],
-    d: Diag,
-) -> usize
-    requires { ⌜ now texts ≡ flat table ⌝ }
+pub fn put_diag(out: &mut [u8], at: usize, bytes: &[u8], ends: &[u32], d: Diag) -> usize
     ensures { λ r. ⌜ Wrote (lines (now (bytes .entry)) (now (ends .entry)) d) (now (out .entry)) (now (out .exit)) at r ⌝ }
 {
     let mut next = put_byte(out, at, b'D');
     next = put_byte(out, next, b' ');
     next = put_decimal(out, next, d.line);
     next = put_byte(out, next, b' ');
-    next = put_message(out, next, texts, bytes, ends, d);
+    next = put_message(out, next, bytes, ends, d);
     put_byte(out, next, b'\n')
 }

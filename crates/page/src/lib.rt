@@ -1,7 +1,6 @@
 // The text of an answer: the diagnostics' lines, T lines, the R line; or the line of a refusal.
 use message::Diag;
 use message::put_diag;
-use message::templates;
 use table::NOTE_WIDTH;
 use table::WIDTH;
 use text::hex_pairs;
@@ -106,14 +105,10 @@ fn put_notes(
     requires { ⌜ n * noteWidth ≤ length (now notes) ⌝ }
     ensures { λ r. ⌜ Wrote (flatMap (λ d. lines (now (bytes .entry)) (now (ends .entry)) (diagOf d)) (chunks noteWidth n (now (notes .entry)))) (now (out .entry)) (now (out .exit)) at r ⌝ }
 {
-    if n == 0 {
-        return at;
-    }
-    let texts = templates();
     let mut next = at;
     let mut i = 0;
     while i < n {
-        next = put_diag(out, next, &texts, bytes, ends, diag_at(notes, i));
+        next = put_diag(out, next, bytes, ends, diag_at(notes, i));
         i += 1;
     }
     next

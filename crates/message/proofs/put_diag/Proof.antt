@@ -29,7 +29,7 @@ same-length c = search needs
 
 returns : tie.Need-returns
 unfolding ascii
-returns c = same (all-said (c .before .before .before .before .before .before .before .before .before .before .before .before .before .before .before .before .before .before .before .before .before .before .before .before .before .before .before .before .args .bytes .now) (c .before .before .before .before .before .before .before .before .before .before .before .before .before .before .before .before .before .before .before .before .before .before .before .before .before .before .before .before .args .ends .now) (c .before .before .before .before .before .before .before .before .before .before .before .before .before .before .before .before .before .before .before .before .before .before .before .before .before .before .before .before .args .d)) (then (c .before .before .before .before .before .before .before .before .before .before .before .before .before .before .before .before .before .before .before .before .before .before .put-byte .ensures) (then (c .before .before .before .before .before .before .before .before .before .before .before .before .before .before .before .before .before .before .put-byte2 .ensures) (then (c .before .before .before .before .before .before .before .before .before .before .before .before .before .before .put-decimal .ensures) (then (c .before .before .before .before .before .before .before .before .before .before .put-byte3 .ensures) (then (c .before .before .before .before .before .before .put-message .ensures) (c .before .before .put-byte4 .ensures))))))
+returns c = same (all-said (c .before .before .before .before .before .before .before .before .before .before .before .before .before .before .before .before .before .before .before .before .before .before .before .before .before .before .before .args .bytes .now) (c .before .before .before .before .before .before .before .before .before .before .before .before .before .before .before .before .before .before .before .before .before .before .before .before .before .before .before .args .ends .now) (c .before .before .before .before .before .before .before .before .before .before .before .before .before .before .before .before .before .before .before .before .before .before .before .before .before .before .before .args .d)) (then (c .before .before .before .before .before .before .before .before .before .before .before .before .before .before .before .before .before .before .before .before .before .before .put-byte .ensures) (then (c .before .before .before .before .before .before .before .before .before .before .before .before .before .before .before .before .before .before .put-byte2 .ensures) (then (c .before .before .before .before .before .before .before .before .before .before .before .before .before .before .put-decimal .ensures) (then (c .before .before .before .before .before .before .before .before .before .before .put-byte3 .ensures) (then (c .before .before .before .before .before .before .put-message .ensures) (c .before .before .put-byte4 .ensures))))))
 
 pub put-diag-spec : {M : Type 1} → statement M
 put-diag-spec =

@@ -17,9 +17,6 @@ sub-less-2 c = search needs
 less-requires : tie.Need-less-requires
 less-requires c κs = search needs
 
-run-at-requires : tie.Need-run-at-requires
-run-at-requires c κs = search needs
-
 copy-plain-requires : tie.Need-copy-plain-requires
 copy-plain-requires c κs = search needs
 
@@ -39,7 +36,7 @@ same-length-2 : tie.Need-same-length-2
 same-length-2 c = search needs
 
 returns-3 : tie.Need-returns-3
-returns-3 c = plain-run (c .before .before .before .before .before .before .before .before .before .before .before .args .s .now) (c .before .before .before .before .before .before .before .before .before .before .before .pre .2) (c .before .before .before .before .before .before .before .before .before .before .before .args .from) _ (c .before .before .before .before .before .before .run-at .result) (c .before .before .before .before .less2 .result) (c .before .before .before .before .before .before .before .before .before .before .before .args .at) (omega (arith, c .before .before .before .before .less2 .ensures)) (omega (arith, c .before .before .before .before .before .before .before .less .ensures, c .before .before .before .before .less2 .ensures)) (omega (arith, c .before .before .before .before .before .before .before .less .ensures, c .before .before .before .before .less2 .ensures)) (c .before .before .before .before .before .before .run-at .ensures) (c .before .before .copy-run .ensures)
+returns-3 c = plain-run (c .before .before .before .before .before .before .before .before .before .before .args .s .now) (c .before .before .before .before .before .before .before .before .before .before .args .from) _ (c .before .before .before .before .before .before .before .before .before .before .args .run) (c .before .before .before .before .less2 .result) (c .before .before .before .before .before .before .before .before .before .before .args .at) (omega (arith, c .before .before .before .before .less2 .ensures)) (omega (arith, c .before .before .before .before .before .before .less .ensures, c .before .before .before .before .less2 .ensures)) (omega (arith, c .before .before .before .before .before .before .less .ensures, c .before .before .before .before .less2 .ensures)) (c .before .before .before .before .before .before .before .before .before .before .pre .1) (c .before .before .copy-run .ensures)
 
 pub put-plain-spec : {M : Type 1} → statement M
 put-plain-spec =
@@ -49,7 +46,6 @@ put-plain-spec =
     sub-less
     sub-less-2
     less-requires
-    run-at-requires
     copy-plain-requires
     same-length
     returns-2

@@ -1,4 +1,4 @@
--- put_notes: nothing for none; else after i turns the lines of the first i diagnostics are written.
+-- put_notes: after i turns the lines of the first i diagnostics are written.
 use borrow.Author.Needs.{needs}
 use mathlib.Core.Path.{_≡_, refl, ap, _∙_}
 use mathlib.Core.List.{flatMap}
@@ -16,28 +16,19 @@ use Rattle.page.proofs.put_notes.Statement.{statement}
 use Rattle.page.proofs.put_notes.Tie as tie
 
 abbrev Inv-loop : tie.InvT-loop
-Inv-loop out₀ at bytes ends notes n texts next₀ i₀ out next i = (i ≤ n) × (length out ≡ length out₀) × Wrote (flatMap (λ d. lines bytes ends (diagOf d)) (chunks noteWidth i notes)) out₀ out at next
+Inv-loop out₀ at bytes ends notes n next₀ i₀ out next i = (i ≤ n) × (length out ≡ length out₀) × Wrote (flatMap (λ d. lines bytes ends (diagOf d)) (chunks noteWidth i notes)) out₀ out at next
 
 abbrev μ-loop : tie.MeasureT-loop
-μ-loop out₀ at bytes ends notes n texts next₀ i₀ out next i = n - i
-
-returns : tie.Need-returns Inv-loop μ-loop
-returns c = rw (c .if1 .taken) (rows-none (λ d. lines (c .before .before .before .before .before .args .bytes .now) (c .before .before .before .before .before .args .ends .now) (diagOf d)) noteWidth (c .before .before .before .before .before .args .notes .now))
-
-templates-requires : tie.Need-templates-requires Inv-loop μ-loop
-templates-requires c κs = search needs
+μ-loop out₀ at bytes ends notes n next₀ i₀ out next i = n - i
 
 loop-holds : tie.Need-loop-holds Inv-loop μ-loop
-loop-holds c = (omega arith, refl, rows-none (λ d. lines (c .before .before .before .before .before .before .args .bytes .now) (c .before .before .before .before .before .before .args .ends .now) (diagOf d)) noteWidth (c .before .before .before .before .before .before .args .notes .now))
-
-slice-aggregate-put-diag : tie.Need-slice-aggregate-put-diag Inv-loop μ-loop
-slice-aggregate-put-diag c = search needs
+loop-holds c = (omega arith, refl, rows-none (λ d. lines (c .before .before .before .before .args .bytes .now) (c .before .before .before .before .args .ends .now) (diagOf d)) noteWidth (c .before .before .before .before .args .notes .now))
 
 diag-at-requires : tie.Need-diag-at-requires Inv-loop μ-loop
 diag-at-requires c κs = omega arith
 
 put-diag-requires : tie.Need-put-diag-requires Inv-loop μ-loop
-put-diag-requires c κs = c .before .before .before .before .before .templates .ensures
+put-diag-requires c κs = search needs
 
 add-i : tie.Need-add-i Inv-loop μ-loop
 add-i c = omega arith
@@ -46,13 +37,13 @@ loop-less : tie.Need-loop-less Inv-loop μ-loop
 loop-less c = omega arith
 
 loop-again : tie.Need-loop-again Inv-loop μ-loop
-loop-again c = (omega arith, c .before .before .put-diag .kept .0 ∙ c .before .before .before .before .before .before .before .loop .inv .1, rows-more (λ d. lines (c .before .before .before .before .before .before .before .before .before .before .before .before .before .before .args .bytes .now) (c .before .before .before .before .before .before .before .before .before .before .before .before .before .before .args .ends .now) (diagOf d)) noteWidth (c .before .before .before .before .before .before .before .loop .i) (c .before .before .before .before .before .before .before .before .before .before .before .before .before .before .args .notes .now) (c .before .before .before .before .before .before .before .loop .inv .2) (same (ap (lines (c .before .before .before .before .before .before .before .before .before .before .before .before .before .before .args .bytes .now) (c .before .before .before .before .before .before .before .before .before .before .before .before .before .before .args .ends .now)) (c .before .before .before .diag-at .ensures)) (c .before .before .put-diag .ensures)))
+loop-again c = (omega arith, c .before .before .put-diag .kept .0 ∙ c .before .before .before .before .before .before .loop .inv .1, rows-more (λ d. lines (c .before .before .before .before .before .before .before .before .before .before .before .args .bytes .now) (c .before .before .before .before .before .before .before .before .before .before .before .args .ends .now) (diagOf d)) noteWidth (c .before .before .before .before .before .before .loop .i) (c .before .before .before .before .before .before .before .before .before .before .before .args .notes .now) (c .before .before .before .before .before .before .loop .inv .2) (same (ap (lines (c .before .before .before .before .before .before .before .before .before .before .before .args .bytes .now) (c .before .before .before .before .before .before .before .before .before .before .before .args .ends .now)) (c .before .before .before .diag-at .ensures)) (c .before .before .put-diag .ensures)))
 
 same-length : tie.Need-same-length Inv-loop μ-loop
 same-length c = c .before .loop .inv .1
 
-returns-2 : tie.Need-returns-2 Inv-loop μ-loop
-returns-2 c = let e : c .before .loop .i ≡ (c .before .before .before .before .before .before .before .before .args .n) = omega arith in rw e at (c .before .loop .inv .2)
+returns : tie.Need-returns Inv-loop μ-loop
+returns c = let e : c .before .loop .i ≡ (c .before .before .before .before .before .before .args .n) = omega arith in rw e at (c .before .loop .inv .2)
 
 pub put-notes-spec : {M : Type 1} → statement M
 put-notes-spec =
@@ -60,14 +51,11 @@ put-notes-spec =
     (tie.spec
     Inv-loop
     μ-loop
-    returns
-    templates-requires
     loop-holds
-    slice-aggregate-put-diag
     diag-at-requires
     put-diag-requires
     add-i
     loop-less
     loop-again
     same-length
-    returns-2)
+    returns)

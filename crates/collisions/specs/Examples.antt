@@ -4,12 +4,13 @@ use mathlib.Core.Bool.{true, false}
 use mathlib.Core.List.{List, [], _∷_, _++_}
 use Prim.Native.Nat.{ℕ}
 use lib.ListN.{replicate}
+use Rattle.words.specs.Word.{flatten}
 use Rattle.words.specs.Told.{stops, gives, after}
 use Rattle.words.specs.Refusals.{refused}
 use Rattle.text.specs.Text.{ascii}
 use Rattle.strings.specs.Name.{between, inner, suffix, rest, isName}
 use Rattle.strings.specs.Table.{startOf, stringAt, marksBelow, namesOf}
-use Rattle.table.specs.Rows.{Row, key, find, flatten, image, rowsOf}
+use Rattle.table.specs.Rows.{Row, key, find, image, rowsOf}
 use Rattle.entries.specs.Entries.{arrayRow, procRow}
 use Rattle.lookup.specs.Builtins.{takes, builtins, same, entryOf, builtin, isBuiltin}
 use Rattle.lent.specs.Rules.{scopeOk, typeOk, constOk, wordOk, wordsOk, kindOk, rowOk}

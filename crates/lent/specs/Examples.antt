@@ -4,8 +4,8 @@ use mathlib.Core.Path.{_≡_, refl}
 use mathlib.Core.Bool.{Bool, true, false, not}
 use mathlib.Core.List.{List, [], _∷_, _++_}
 use Prim.Native.Nat.{ℕ, _+_, _*_}
-use Rattle.words.specs.Word.{pick}
-use Rattle.table.specs.Rows.{Row, width, key, flatten, zeros}
+use Rattle.words.specs.Word.{pick, flatten}
+use Rattle.table.specs.Rows.{Row, width, key, zeros}
 use Rattle.entries.specs.Entries.{row, lineRow, labelRow, typeRow, fieldRow, constRow, arrayRow, typedVarRow, procRow, paramRow, dimSharedRow, sharedRow, staticRow, staticProcRow, defFnRow, unrankedRow, optionBaseRow}
 use Rattle.fold.specs.Value.{constRule}
 use Rattle.lent.specs.Rules.{scopeOk, typeOk, constOk, wordOk, wordsOk, kindOk, rowOk}

@@ -11,10 +11,10 @@ use lib.Dec.{leb, eqb}
 use lib.ListN.{length, drop, getD, replicate, List·getD-append, drop-of-length-le}
 use lib.Seq.{drop-cons, getD-append-add}
 use borrow.Author.Tests.{leb-true, eq-eqb, ne-eqb, eqb-true}
-use Rattle.words.specs.Word.{pick}
+use Rattle.words.specs.Word.{pick, flatten}
 use Rattle.table.specs.Laws.{pick-true, pick-false}
 use Rattle.text.specs.Text.{ascii}
-use Rattle.lookup.specs.Builtins.{Builtin, takes, builtins, same, entryOf, builtin, cellsOf, cells, flat, nameAt, lengthFits, mayBe}
+use Rattle.lookup.specs.Builtins.{Builtin, takes, builtins, same, entryOf, builtin, cellsOf, cells, nameAt, lengthFits, mayBe}
 
 -- ---- the entries
 
@@ -107,31 +107,31 @@ cells-count : length cells ≡ 55
 unfolding cells builtins
 cells-count = refl
 
-flat-at : (l : List (List ℕ)) → tens l ≡ true → (i j : ℕ) → i < length l → j < 10 → getD (flat l) (i * 10 + j) 0 ≡ getD (getD l i []) j 0
-unfolding tens flat
+flat-at : (l : List (List ℕ)) → tens l ≡ true → (i j : ℕ) → i < length l → j < 10 → getD (flatten l) (i * 10 + j) 0 ≡ getD (getD l i []) j 0
+unfolding tens flatten
 flat-at [] e i j h k = absurd (not-suc-le-zero h)
 flat-at (r ∷ rs) e i j h k = go (eqb (length r) 10) refl e i h (flat-at rs)
   where
     go : (t : Bool) → eqb (length r) 10 ≡ t → (t && tens rs) ≡ true → (i : ℕ) → i < suc (length rs)
-        → (tens rs ≡ true → (i j : ℕ) → i < length rs → j < 10 → getD (flat rs) (i * 10 + j) 0 ≡ getD (getD rs i []) j 0)
-        → getD (r ++ flat rs) (i * 10 + j) 0 ≡ getD (getD (r ∷ rs) i []) j 0
+        → (tens rs ≡ true → (i j : ℕ) → i < length rs → j < 10 → getD (flatten rs) (i * 10 + j) 0 ≡ getD (getD rs i []) j 0)
+        → getD (r ++ flatten rs) (i * 10 + j) 0 ≡ getD (getD (r ∷ rs) i []) j 0
     go true q p zero h ih =
         let n : length r ≡ 10 = eqb-true (length r) 10 q in
         let z : 0 * 10 + j ≡ j = omega arith in
-        ap (λ (m : ℕ). getD (r ++ flat rs) m 0) z ∙ List·getD-append r (flat rs) 0 j (omega (arith, n))
+        ap (λ (m : ℕ). getD (r ++ flatten rs) m 0) z ∙ List·getD-append r (flatten rs) 0 j (omega (arith, n))
     go true q p (suc i) h ih =
         let n : length r ≡ 10 = eqb-true (length r) 10 q in
         let z : suc i * 10 + j ≡ length r + (i * 10 + j) = omega (arith, n) in
-        ap (λ (m : ℕ). getD (r ++ flat rs) m 0) z ∙ getD-append-add r (flat rs) (i * 10 + j) 0 ∙ ih p i j (le-of-suc-le-suc h) k
+        ap (λ (m : ℕ). getD (r ++ flatten rs) m 0) z ∙ getD-append-add r (flatten rs) (i * 10 + j) 0 ∙ ih p i j (le-of-suc-le-suc h) k
     go false q p i h ih =
         let z : _≡_ {A = ℕ} 0 1 = cc in
         absurd (omega arith)
 
-pub flat-length : length (flat cells) ≡ 550
-unfolding flat cells builtins takes ascii cellsOf
+pub flat-length : length (flatten cells) ≡ 550
+unfolding flatten cells builtins takes ascii cellsOf
 flat-length = refl
 
-pub cell-at : (i j : ℕ) → i < 55 → j < 10 → getD (flat cells) (i * 10 + j) 0 ≡ getD (getD cells i []) j 0
+pub cell-at : (i j : ℕ) → i < 55 → j < 10 → getD (flatten cells) (i * 10 + j) 0 ≡ getD (getD cells i []) j 0
 cell-at i j h k = flat-at cells all-tens i j (omega (arith, cells-count)) k
 
 -- ---- two names

@@ -113,11 +113,6 @@ unfoldable pub cells : List (List ℕ)
 unfolding builtins cellsOf
 cells = map cellsOf builtins
 
--- its rows one after the other
-unfoldable pub flat : List (List ℕ) → List ℕ
-flat [] = []
-flat (r ∷ rs) = r ++ flat rs
-
 -- the name of builtin i (`nameAt` of expr/specs/Reader.antt reads a name's number)
 unfoldable pub nameAt : ℕ → List ℕ
 unfolding builtins

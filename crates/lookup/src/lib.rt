@@ -8,11 +8,12 @@ ghost use mathlib.Core.List.{List, []};
 ghost use Prim.Native.Nat.{_*_, _+_, _≤_, _<_};
 ghost use lib.ListN.{length, getD};
 ghost use lib.Dec.{eqb};
+ghost use Rattle.words.specs.Word.{flatten};
 ghost use Rattle.table.specs.Rows.{Row, width, find, Holds};
 ghost use Rattle.table.specs.Answers.{Within};
 ghost use Rattle.entries.specs.Entries.{entryKey, has as hasOf, rowWord};
 ghost use Rattle.lookup.specs.Lookup.{contains as containsOf, shares as sharesOf, isStatic, recordWords, typeWords, typeOf, arrayOf, visible as visibleOf, typedVar, typedVarIn, lookupArray, fromSuffix, fromTypeRef, declaredType};
-ghost use Rattle.lookup.specs.Builtins.{cells, flat, nameAt, same, lengthFits, mayBe, builtin as builtinOf};
+ghost use Rattle.lookup.specs.Builtins.{cells, nameAt, same, lengthFits, mayBe, builtin as builtinOf};
 ghost use Rattle.lookup.specs.Answers.{rowAt, typed, array as arrayOf′, class, argumentsOf};
 
 // The row of an entry.
@@ -300,7 +301,7 @@ const BUILTINS: [u8; 550] = *b"\
 \x03\x01\x01VAL\0\0\0\0";
 
 fn cell(table: &[u8], i: usize, j: usize) -> u8
-    requires { ⌜ (now table ≡ flat cells) × (i < 55) × (j < 10) ⌝ }
+    requires { ⌜ (now table ≡ flatten cells) × (i < 55) × (j < 10) ⌝ }
     ensures { λ r. ⌜ r ≡ getD (getD cells i []) j 0 ⌝ }
 {
     table[i * 10 + j]
@@ -308,7 +309,7 @@ fn cell(table: &[u8], i: usize, j: usize) -> u8
 
 // Whether it is the name of entry i.
 fn is_named(name: &[u8], table: &[u8], i: usize) -> bool
-    requires { ⌜ (now table ≡ flat cells) × (i < 55) ⌝ }
+    requires { ⌜ (now table ≡ flatten cells) × (i < 55) ⌝ }
     ensures { λ r. ⌜ r ≡ same (now (name .entry)) (nameAt i) ⌝ }
 {
     let n = cell(table, i, 0) as usize;
@@ -333,7 +334,7 @@ pub enum Arguments {
 
 // The entry of that name.
 fn search(name: &[u8], table: &[u8]) -> Arguments
-    requires { ⌜ now table ≡ flat cells ⌝ }
+    requires { ⌜ now table ≡ flatten cells ⌝ }
     ensures { λ r. ⌜ r ≡ argumentsOf (builtinOf (now (name .entry))) ⌝ }
 {
     let mut i = 0;

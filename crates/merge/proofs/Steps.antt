@@ -9,7 +9,8 @@ use native.Mathlib.Numerals.{add-one}
 use native.Mathlib.Nat.{le-of-suc-le-suc, not-suc-le-zero, le-of-eq, le-refl}
 use lib.ListN.{length, take, drop, getD, length-append, length-drop, take-append-drop}
 use lib.Seq.{slice, take-all, take-suc, drop-cons, take-at, drop-at, take-take, take-append-le, length-take-le, length-slice}
-use Rattle.table.specs.Rows.{width, Row, keyOf, key, Table, rank, find, insert, insertAll, flatten, zeros, image, Wide, Holds}
+use Rattle.words.specs.Word.{flatten}
+use Rattle.table.specs.Rows.{width, Row, keyOf, key, Table, rank, find, insert, insertAll, zeros, image, Wide, Holds}
 use Rattle.table.specs.Laws.{order, order₃, rank-lt, rank-ge, find-ne, ne-lt, table-down, insert-lt, insert-eq, insert-gt, insert-table}
 use Rattle.table.specs.Each.{Each, each-insert, each-at, wide-each}
 use Rattle.table.specs.Images.{flatten-append, flatten-split, table-wide, length-flatten, length-flatten-take, image-append, take-rows, drop-rows, drop-tail, key-of-row}

@@ -4,7 +4,8 @@ use mathlib.Core.List.{List, [], _∷_, _++_}
 use mathlib.Core.Option.{none}
 use Prim.Native.Nat.{ℕ, _+_, _-_, _*_, _≤_}
 use lib.ListN.{length, take, drop}
-use Rattle.table.specs.Rows.{Row, width, key, Table, find, insertAll, flatten, zeros}
+use Rattle.words.specs.Word.{flatten}
+use Rattle.table.specs.Rows.{Row, width, key, Table, find, insertAll, zeros}
 
 -- no row of the first has the key of one of the second
 unfoldable pub Apart : List Row → List Row → Type 0

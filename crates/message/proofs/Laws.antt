@@ -10,16 +10,17 @@ use borrow.Author.Tests.{ne-eqb}
 use lib.Dec.{eqb}
 use lib.ListN.{length, take, drop, getD, set, length-append, length-take, length-drop, List·getD-eq-default}
 use lib.Seq.{sets, take-suc, take-add, getD-drop, take-all, take-take, take-nil, drop-nil, drop-drop, drop-append-add, take-append-seam, length-take-le}
+use Rattle.words.specs.Word.{flatten}
 use Rattle.text.specs.Text.{ascii, decimal}
 use Rattle.text.specs.Wrote.{Wrote}
 use Rattle.text.specs.Laws.{nothing, then, same, fits, copied-more}
 use Rattle.message.specs.declared.Diag.{Diag}
 use Rattle.message.specs.Message.{Template, error, error-with-note, templates, name, piece, render, messageLine, noteLine, said, lines}
-use Rattle.message.specs.Table.{run, table, flat}
+use Rattle.message.specs.Table.{run, table}
 use Rattle.message.specs.Plain.{Itself, Plain, marks}
 
-pub long : length (flat table) ≡ 1325
-unfolding table run templates ascii flat
+pub long : length (flatten table) ≡ 1325
+unfolding table run templates ascii flatten
 long = refl
 
 pub many : length table ≡ 29
@@ -39,23 +40,23 @@ beyond (suc n) c h =
     let k : c ≡ n → ⊥ = h .1 in
     omega arith
 
-pub start-past : (c : ℕ) → Beyond 29 c → 1325 ≡ length (flat (take c table))
+pub start-past : (c : ℕ) → Beyond 29 c → 1325 ≡ length (flatten (take c table))
 start-past c h =
     let l : 29 ≤ c = beyond 29 c h in
-    sym long ∙ ap (λ x. length (flat x)) (sym (take-all c table (omega (arith, many))))
+    sym long ∙ ap (λ x. length (flatten x)) (sym (take-all c table (omega (arith, many))))
 
 -- the run from one start to the next is the template
-row : (ts : List (List ℕ)) (c : ℕ) → take (length (flat (take (suc c) ts)) - length (flat (take c ts))) (drop (length (flat (take c ts))) (flat ts)) ≡ getD ts c []
-unfolding flat
+row : (ts : List (List ℕ)) (c : ℕ) → take (length (flatten (take (suc c) ts)) - length (flatten (take c ts))) (drop (length (flatten (take c ts))) (flatten ts)) ≡ getD ts c []
+unfolding flatten
 row [] c = rw (drop-nil, take-nil)
 row (t ∷ ts) zero =
     let e : length (t ++ []) - 0 ≡ length t = simp length-append (omega arith) in
-    rw e (take-append-seam t (flat ts))
+    rw e (take-append-seam t (flatten ts))
 row (t ∷ ts) (suc c) =
-    let a = length (flat (take c ts)) in
-    let b = length (flat (take (suc c) ts)) in
-    let e : length (t ++ flat (take (suc c) ts)) - length (t ++ flat (take c ts)) ≡ b - a = simp length-append (omega arith) in
-    rw (e, length-append t (flat (take c ts)), drop-append-add t (flat ts) a) (row ts c)
+    let a = length (flatten (take c ts)) in
+    let b = length (flatten (take (suc c) ts)) in
+    let e : length (t ++ flatten (take (suc c) ts)) - length (t ++ flatten (take c ts)) ≡ b - a = simp length-append (omega arith) in
+    rw (e, length-append t (flatten (take c ts)), drop-append-add t (flatten ts) a) (row ts c)
 
 -- rendering goes from left to right
 render-append : (bytes ends : List ℕ) (d : Diag) (xs ys : List ℕ) → render bytes ends d (xs ++ ys) ≡ render bytes ends d xs ++ render bytes ends d ys
@@ -129,10 +130,10 @@ within [] (suc m) (suc i) n e = rw take-nil
 within (b ∷ xs) (suc m) (suc i) n e = within xs m i n e
 
 -- a run of the table is one of the template that starts at s, so far as that goes
-pub run-of : (t : List ℕ) (s i n : ℕ) → t ≡ take (length t) (drop s (flat table)) → marks (take n (drop (s + i) (flat table))) ≡ false → marks (take n (drop i t)) ≡ false
+pub run-of : (t : List ℕ) (s i n : ℕ) → t ≡ take (length t) (drop s (flatten table)) → marks (take n (drop (s + i) (flatten table))) ≡ false → marks (take n (drop i t)) ≡ false
 run-of t s i n f e =
-    let k : marks (take n (drop i (drop s (flat table)))) ≡ false = ap (λ y. marks (take n y)) (drop-drop i s (flat table)) ∙ e in
-    ap (λ y. marks (take n (drop i y))) f ∙ within (drop s (flat table)) (length t) i n k
+    let k : marks (take n (drop i (drop s (flatten table)))) ≡ false = ap (λ y. marks (take n y)) (drop-drop i s (flatten table)) ∙ e in
+    ap (λ y. marks (take n (drop i y))) f ∙ within (drop s (flatten table)) (length t) i n k
 
 -- as many bytes of a run as there is room for
 pub plain-run : {b c : List ℕ} (s : List ℕ) (from most k n at : ℕ) → n ≤ k → n ≤ most → n ≤ length b - at → marks (take k (drop from s)) ≡ false → c ≡ sets b at (take n (drop from s)) → Plain s from most n b c at
@@ -172,53 +173,53 @@ pub at-end : (bytes ends : List ℕ) (d : Diag) (t : List ℕ) (i : ℕ) → len
 at-end bytes ends d t i l = ap (render bytes ends d) (take-all i t l)
 
 -- no template goes past the table's end
-pub in-table : (t : List ℕ) (s : ℕ) → t ≡ take (length t) (drop s (flat table)) → length t ≤ 1325 - s
+pub in-table : (t : List ℕ) (s : ℕ) → t ≡ take (length t) (drop s (flatten table)) → length t ≤ 1325 - s
 in-table t s f =
-    let e : length t ≡ min (length t) (length (drop s (flat table))) = ap length f ∙ length-take (length t) (drop s (flat table)) in
-    let k : length (drop s (flat table)) ≡ 1325 - s = length-drop s (flat table) ∙ ap (λ y. y - s) long in
+    let e : length t ≡ min (length t) (length (drop s (flatten table))) = ap length f ∙ length-take (length t) (drop s (flatten table)) in
+    let k : length (drop s (flatten table)) ≡ 1325 - s = length-drop s (flatten table) ∙ ap (λ y. y - s) long in
     omega (arith, e, k)
 
 -- ---- the table's starts
 
 -- starts rise
-flat-rise : (ts : List (List ℕ)) (c : ℕ) → length (flat (take c ts)) ≤ length (flat (take (suc c) ts))
-unfolding flat
+flat-rise : (ts : List (List ℕ)) (c : ℕ) → length (flatten (take c ts)) ≤ length (flatten (take (suc c) ts))
+unfolding flatten
 flat-rise [] zero = omega arith
 flat-rise [] (suc c) = omega arith
 flat-rise (t ∷ ts) zero = omega arith
 flat-rise (t ∷ ts) (suc c) = simp length-append (omega (arith, flat-rise ts c))
 
-flat-all : (ts : List (List ℕ)) (c : ℕ) → length (flat (take c ts)) ≤ length (flat ts)
-unfolding flat
+flat-all : (ts : List (List ℕ)) (c : ℕ) → length (flatten (take c ts)) ≤ length (flatten ts)
+unfolding flatten
 flat-all ts zero = omega arith
 flat-all [] (suc c) = omega arith
 flat-all (t ∷ ts) (suc c) = simp length-append (omega (arith, flat-all ts c))
 
-pub bounds : (c s e : ℕ) → s ≡ length (flat (take c table)) → e ≡ length (flat (take (c + 1) table)) → (s ≤ e) × (e ≤ 1325)
+pub bounds : (c s e : ℕ) → s ≡ length (flatten (take c table)) → e ≡ length (flatten (take (c + 1) table)) → (s ≤ e) × (e ≤ 1325)
 bounds c s e p q =
-    let r : e ≡ length (flat (take (suc c) table)) = q ∙ ap (λ y. length (flat (take y table))) (add-one c) in
+    let r : e ≡ length (flatten (take (suc c) table)) = q ∙ ap (λ y. length (flatten (take y table))) (add-one c) in
     (omega (arith, flat-rise table c), omega (arith, flat-all table (c + 1), long))
 
 -- A code's row: so much of the text as there is from its start to the next is its template.
-pub row-long : (c s e : ℕ) → s ≡ length (flat (take c table)) → e ≡ length (flat (take (c + 1) table)) → take (e - s) (drop s (flat table)) ≡ getD table c []
+pub row-long : (c s e : ℕ) → s ≡ length (flatten (take c table)) → e ≡ length (flatten (take (c + 1) table)) → take (e - s) (drop s (flatten table)) ≡ getD table c []
 row-long c s e p q =
-    let r : e ≡ length (flat (take (suc c) table)) = q ∙ ap (λ y. length (flat (take y table))) (add-one c) in
+    let r : e ≡ length (flatten (take (suc c) table)) = q ∙ ap (λ y. length (flatten (take y table))) (add-one c) in
     rw (r, p) (row table c)
 
-pub row-length : (c s e : ℕ) → s ≡ length (flat (take c table)) → e ≡ length (flat (take (c + 1) table)) → e - s ≡ length (getD table c [])
+pub row-length : (c s e : ℕ) → s ≡ length (flatten (take c table)) → e ≡ length (flatten (take (c + 1) table)) → e - s ≡ length (getD table c [])
 row-length c s e p q =
-    let l : e - s ≤ length (drop s (flat table)) = simp length-drop (omega (arith, bounds c s e p q .1, long)) in
-    sym (length-take-le (e - s) (drop s (flat table)) l) ∙ ap length (row-long c s e p q)
+    let l : e - s ≤ length (drop s (flatten table)) = simp length-drop (omega (arith, bounds c s e p q .1, long)) in
+    sym (length-take-le (e - s) (drop s (flatten table)) l) ∙ ap length (row-long c s e p q)
 
-pub row-text : (c s e : ℕ) (t : List ℕ) → s ≡ length (flat (take c table)) → e ≡ length (flat (take (c + 1) table)) → take (length (getD table c [])) t ≡ getD table c [] → take (e - s) t ≡ getD table c []
+pub row-text : (c s e : ℕ) (t : List ℕ) → s ≡ length (flatten (take c table)) → e ≡ length (flatten (take (c + 1) table)) → take (length (getD table c [])) t ≡ getD table c [] → take (e - s) t ≡ getD table c []
 row-text c s e t p q h = ap (λ y. take y t) (row-length c s e p q) ∙ h
 
-pub row-flat : (c s e : ℕ) (t : List ℕ) → s ≡ length (flat (take c table)) → e ≡ length (flat (take (c + 1) table)) → take (length (getD table c [])) t ≡ getD table c [] → take (e - s) t ≡ take (length (take (e - s) t)) (drop s (flat table))
+pub row-flat : (c s e : ℕ) (t : List ℕ) → s ≡ length (flatten (take c table)) → e ≡ length (flatten (take (c + 1) table)) → take (length (getD table c [])) t ≡ getD table c [] → take (e - s) t ≡ take (length (take (e - s) t)) (drop s (flatten table))
 row-flat c s e t p q h =
     let k : e - s ≡ length (take (e - s) t) = row-length c s e p q ∙ sym (ap length (row-text c s e t p q h)) in
-    row-text c s e t p q h ∙ sym (row-long c s e p q) ∙ ap (λ y. take y (drop s (flat table))) k
+    row-text c s e t p q h ∙ sym (row-long c s e p q) ∙ ap (λ y. take y (drop s (flatten table))) k
 
-pub row-fits : (c s e : ℕ) (t : List ℕ) → s ≡ length (flat (take c table)) → e ≡ length (flat (take (c + 1) table)) → take (length (getD table c [])) t ≡ getD table c [] → e - s ≤ length t
+pub row-fits : (c s e : ℕ) (t : List ℕ) → s ≡ length (flatten (take c table)) → e ≡ length (flatten (take (c + 1) table)) → take (length (getD table c [])) t ≡ getD table c [] → e - s ≤ length t
 row-fits c s e t p q h =
     let n = length (getD table c []) in
     let k : n ≡ min n (length t) = sym (ap length h) ∙ length-take n t in

@@ -1,4 +1,4 @@
--- The templates as the program writes them, a note on a line of its own; `flat` is all of them one after the other, as runs without a mark are listed. These are definitions.
+-- The templates as the program writes them, a note on a line of its own; `flatten table` is all of them one after the other, as runs without a mark are listed. These are definitions.
 use Prim.Native.Nat.{ℕ}
 use mathlib.Core.List.{List, [], _∷_, _++_, map}
 use Rattle.text.specs.Text.{ascii}
@@ -10,7 +10,3 @@ run (error-with-note m n) = ascii m ++ (ascii "\nN " ++ ascii n)
 
 unfoldable pub table : List (List ℕ)
 table = map run templates
-
-unfoldable pub flat : List (List ℕ) → List ℕ
-flat [] = []
-flat (t ∷ ts) = t ++ flat ts

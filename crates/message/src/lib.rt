@@ -10,10 +10,10 @@ ghost use Prim.Native.Nat.{_+_, _-_, _≤_, min};
 ghost use lib.ListN.{length, getD, take, drop};
 ghost use lib.Seq.{sets};
 ghost use lib.Dec.{eqb};
-ghost use Rattle.words.specs.Word.{pick};
+ghost use Rattle.words.specs.Word.{pick, flatten};
 ghost use Rattle.text.specs.Wrote.{Wrote};
 ghost use Rattle.message.specs.Message.{name, piece, render, lines};
-ghost use Rattle.message.specs.Table.{table, flat};
+ghost use Rattle.message.specs.Table.{table};
 ghost use Rattle.message.specs.Plain.{Itself, Plain, marks};
 
 // Document 01's six words; a name is its string's number plus 1.
@@ -101,7 +101,7 @@ fn text_of(code: usize) -> [u8; 128]
 
 // Where a code's template starts, if they stand one after the other.
 fn start_of(code: usize) -> usize
-    ensures { λ r. ⌜ r ≡ length (flat (take code table)) ⌝ }
+    ensures { λ r. ⌜ r ≡ length (flatten (take code table)) ⌝ }
 {
     match code {
         0 => 0,
@@ -228,7 +228,7 @@ fn less(a: usize, b: usize) -> usize
 
 // The length of the run without a mark that starts at byte i: at a template's start or after a mark. A run of one byte isn't listed.
 fn early_run(i: usize) -> usize
-    ensures { λ r. ⌜ marks (take r (drop i (flat table))) ≡ false ⌝ }
+    ensures { λ r. ⌜ marks (take r (drop i (flatten table))) ≡ false ⌝ }
 {
     match i {
         0 => 22,
@@ -261,7 +261,7 @@ fn early_run(i: usize) -> usize
 }
 
 fn late_run(i: usize) -> usize
-    ensures { λ r. ⌜ marks (take r (drop i (flat table))) ≡ false ⌝ }
+    ensures { λ r. ⌜ marks (take r (drop i (flatten table))) ≡ false ⌝ }
 {
     match i {
         620 => 30,
@@ -296,7 +296,7 @@ fn late_run(i: usize) -> usize
 
 // 0 where no run is listed.
 fn run_at(i: usize) -> usize
-    ensures { λ r. ⌜ marks (take r (drop i (flat table))) ≡ false ⌝ }
+    ensures { λ r. ⌜ marks (take r (drop i (flatten table))) ≡ false ⌝ }
 {
     if i < 620 { early_run(i) } else { late_run(i) }
 }
@@ -340,7 +340,7 @@ fn put_template(
     ends: &[u32],
     d: Diag,
 ) -> usize
-    requires { ⌜ now text ≡ take (length (now text)) (drop start (flat table)) ⌝ }
+    requires { ⌜ now text ≡ take (length (now text)) (drop start (flatten table)) ⌝ }
     ensures { λ r. ⌜ Wrote (render (now (bytes .entry)) (now (ends .entry)) d (now (text .entry))) (now (out .entry)) (now (out .exit)) at r ⌝ }
 {
     let mut i = 0;

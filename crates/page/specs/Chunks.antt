@@ -6,7 +6,8 @@ use mathlib.Core.Path.{_≡_, refl, ap, _∙_}
 use mathlib.Core.List.{List, [], _∷_, _++_, append-assoc}
 use lib.ListN.{length, take, drop}
 use lib.Seq.{take-at, drop-at, drop-drop}
-use Rattle.table.specs.Rows.{Row, Wide, flatten, image, Filled}
+use Rattle.words.specs.Word.{flatten}
+use Rattle.table.specs.Rows.{Row, Wide, image, Filled}
 
 -- the first n rows of w words
 unfoldable pub chunks : ℕ → ℕ → List ℕ → List Row

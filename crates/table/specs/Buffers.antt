@@ -9,8 +9,8 @@ use native.Mathlib.Nat.{le-of-eq, le-refl, zero-mul}
 use lib.ListN.{length, take, drop, getD, length-append, take-append-drop, length-drop, replicate-append-replicate}
 use lib.Seq.{slice, take-all, take-at, drop-at, drop-drop, take-append-le, take-take, length-take-le, length-slice, drop-length}
 use borrow.Author.Tests.{le-leb, lt-leb, leb-true}
-use Rattle.words.specs.Word.{pick}
-use Rattle.table.specs.Rows.{width, noteWidth, Row, keyOf, key, Table, rank, find, insert, remove, flatten, zeros, image, Filled, Holds}
+use Rattle.words.specs.Word.{pick, flatten}
+use Rattle.table.specs.Rows.{width, noteWidth, Row, keyOf, key, Table, rank, find, insert, remove, zeros, image, Filled, Holds}
 use Rattle.table.specs.Laws.{pick-true, pick-false, rank-le, insert-old, insert-new, remove-splice, rank-mono, insert-table, remove-table, remove-len, find-some}
 use Rattle.table.specs.Images.{holds-fits, take-rows, drop-rows, slice-rows, drop-tail, key-of-row, wide-snoc, filled-image, holds-image, image-append, image-splice, image-none}
 use Rattle.table.specs.Answers.{foundAt, Room, Inserted, Removed, More, Pushed}

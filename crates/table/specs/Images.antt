@@ -6,7 +6,8 @@ use native.Mathlib.Omega.{arith}
 use native.Mathlib.Nat.{le-of-suc-le-suc, not-suc-le-zero, le-of-eq, le-refl, suc-mul, zero-mul, mul-le-mul-right}
 use lib.ListN.{length, take, drop, getD, length-append, take-append-drop, List·getD-append, drop-of-length-le, length-replicate}
 use lib.Seq.{slice, take-all, take-at, drop-at, getD-append-add, drop-drop, length-take-le}
-use Rattle.table.specs.Rows.{width, Row, keyOf, key, Table, flatten, zeros, image, Wide, Filled, Holds}
+use Rattle.words.specs.Word.{flatten}
+use Rattle.table.specs.Rows.{width, Row, keyOf, key, Table, zeros, image, Wide, Filled, Holds}
 
 -- ---- the words of rows
 

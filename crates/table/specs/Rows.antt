@@ -6,7 +6,7 @@ use mathlib.Core.Option.{Option, none, some}
 use Prim.Native.Nat.{ℕ, zero, suc, _+_, _-_, _*_, _≤_}
 use lib.Dec.{leb, ltb, eqb}
 use lib.ListN.{length, take, drop, getD, replicate}
-use Rattle.words.specs.Word.{pick}
+use Rattle.words.specs.Word.{pick, flatten}
 
 -- the words of a row: the one place where the width is said
 abbrev pub width : ℕ
@@ -67,11 +67,6 @@ unfoldable pub replace : ℕ → ℕ → List Row → List Row → List Row
 replace lo hi new rows = insertAll new (remove lo hi rows)
 
 -- ---- rows in a buffer: for the other entries' contracts, contracts inside and proofs. The listing needs `zeros` alone
-
--- the words of the rows, one row after the other
-unfoldable pub flatten : List Row → List ℕ
-flatten [] = []
-flatten (r ∷ rs) = r ++ flatten rs
 
 -- n zeros (`zeros` of image/specs/Image.antt tests for them)
 abbrev pub zeros : ℕ → List ℕ

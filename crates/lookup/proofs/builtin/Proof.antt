@@ -1,8 +1,9 @@
 -- `builtin`: a name that fails the quick test is none, and the code's table is the definition's, by computation. Assumes nothing.
 use mathlib.Core.Path.{refl, sym, ap, _∙_}
 use borrow.Author.Tests.{not-true}
+use Rattle.words.specs.Word.{flatten}
 use Rattle.text.specs.Text.{ascii}
-use Rattle.lookup.specs.Builtins.{flat, cells, builtins, takes, cellsOf}
+use Rattle.lookup.specs.Builtins.{cells, builtins, takes, cellsOf}
 use Rattle.lookup.specs.Answers.{argumentsOf}
 use Rattle.lookup.proofs.Names.{no-builtin}
 use borrow.Author.Needs.{needs}
@@ -19,7 +20,7 @@ slice-aggregate-search : tie.Need-slice-aggregate-search
 slice-aggregate-search c = search needs
 
 search-requires : tie.Need-search-requires
-unfolding flat cells builtins takes ascii cellsOf
+unfolding flatten cells builtins takes ascii cellsOf
 search-requires c κs = refl
 
 returns-2 : tie.Need-returns-2

@@ -1,114 +1,115 @@
 -- late_run: no byte of a run is a mark, by computation; elsewhere the run is empty.
 use mathlib.Core.Path.{refl}
+use Rattle.words.specs.Word.{flatten}
 use Rattle.message.specs.Message.{templates}
-use Rattle.message.specs.Table.{run, table, flat}
+use Rattle.message.specs.Table.{run, table}
 use Rattle.message.specs.Plain.{marks}
 use Rattle.text.specs.Text.{ascii}
 use Rattle.message.proofs.late_run.Statement.{statement}
 use Rattle.message.proofs.late_run.Tie as tie
 
 returns : tie.Need-returns
-unfolding marks table run templates ascii flat
+unfolding marks table run templates ascii flatten
 returns c = rw (c .match .keys1) refl
 
 returns-2 : tie.Need-returns-2
-unfolding marks table run templates ascii flat
+unfolding marks table run templates ascii flatten
 returns-2 c = rw (c .match .keys2) refl
 
 returns-3 : tie.Need-returns-3
-unfolding marks table run templates ascii flat
+unfolding marks table run templates ascii flatten
 returns-3 c = rw (c .match .keys3) refl
 
 returns-4 : tie.Need-returns-4
-unfolding marks table run templates ascii flat
+unfolding marks table run templates ascii flatten
 returns-4 c = rw (c .match .keys4) refl
 
 returns-5 : tie.Need-returns-5
-unfolding marks table run templates ascii flat
+unfolding marks table run templates ascii flatten
 returns-5 c = rw (c .match .keys5) refl
 
 returns-6 : tie.Need-returns-6
-unfolding marks table run templates ascii flat
+unfolding marks table run templates ascii flatten
 returns-6 c = rw (c .match .keys6) refl
 
 returns-7 : tie.Need-returns-7
-unfolding marks table run templates ascii flat
+unfolding marks table run templates ascii flatten
 returns-7 c = rw (c .match .keys7) refl
 
 returns-8 : tie.Need-returns-8
-unfolding marks table run templates ascii flat
+unfolding marks table run templates ascii flatten
 returns-8 c = rw (c .match .keys8) refl
 
 returns-9 : tie.Need-returns-9
-unfolding marks table run templates ascii flat
+unfolding marks table run templates ascii flatten
 returns-9 c = rw (c .match .keys9) refl
 
 returns-10 : tie.Need-returns-10
-unfolding marks table run templates ascii flat
+unfolding marks table run templates ascii flatten
 returns-10 c = rw (c .match .keys10) refl
 
 returns-11 : tie.Need-returns-11
-unfolding marks table run templates ascii flat
+unfolding marks table run templates ascii flatten
 returns-11 c = rw (c .match .keys11) refl
 
 returns-12 : tie.Need-returns-12
-unfolding marks table run templates ascii flat
+unfolding marks table run templates ascii flatten
 returns-12 c = rw (c .match .keys12) refl
 
 returns-13 : tie.Need-returns-13
-unfolding marks table run templates ascii flat
+unfolding marks table run templates ascii flatten
 returns-13 c = rw (c .match .keys13) refl
 
 returns-14 : tie.Need-returns-14
-unfolding marks table run templates ascii flat
+unfolding marks table run templates ascii flatten
 returns-14 c = rw (c .match .keys14) refl
 
 returns-15 : tie.Need-returns-15
-unfolding marks table run templates ascii flat
+unfolding marks table run templates ascii flatten
 returns-15 c = rw (c .match .keys15) refl
 
 returns-16 : tie.Need-returns-16
-unfolding marks table run templates ascii flat
+unfolding marks table run templates ascii flatten
 returns-16 c = rw (c .match .keys16) refl
 
 returns-17 : tie.Need-returns-17
-unfolding marks table run templates ascii flat
+unfolding marks table run templates ascii flatten
 returns-17 c = rw (c .match .keys17) refl
 
 returns-18 : tie.Need-returns-18
-unfolding marks table run templates ascii flat
+unfolding marks table run templates ascii flatten
 returns-18 c = rw (c .match .keys18) refl
 
 returns-19 : tie.Need-returns-19
-unfolding marks table run templates ascii flat
+unfolding marks table run templates ascii flatten
 returns-19 c = rw (c .match .keys19) refl
 
 returns-20 : tie.Need-returns-20
-unfolding marks table run templates ascii flat
+unfolding marks table run templates ascii flatten
 returns-20 c = rw (c .match .keys20) refl
 
 returns-21 : tie.Need-returns-21
-unfolding marks table run templates ascii flat
+unfolding marks table run templates ascii flatten
 returns-21 c = rw (c .match .keys21) refl
 
 returns-22 : tie.Need-returns-22
-unfolding marks table run templates ascii flat
+unfolding marks table run templates ascii flatten
 returns-22 c = rw (c .match .keys22) refl
 
 returns-23 : tie.Need-returns-23
-unfolding marks table run templates ascii flat
+unfolding marks table run templates ascii flatten
 returns-23 c = rw (c .match .keys23) refl
 
 returns-24 : tie.Need-returns-24
-unfolding marks table run templates ascii flat
+unfolding marks table run templates ascii flatten
 returns-24 c = rw (c .match .keys24) refl
 
 returns-25 : tie.Need-returns-25
-unfolding marks table run templates ascii flat
+unfolding marks table run templates ascii flatten
 returns-25 c = rw (c .match .keys25) refl
 
 returns-26 : tie.Need-returns-26
-unfolding marks table run templates ascii flat
+unfolding marks table run templates ascii flatten
 returns-26 c = rw (c .match .keys26) refl
 
 returns-27 : tie.Need-returns-27

@@ -7,14 +7,14 @@ use lib.Seq.{sets}
 use Rattle.words.specs.Sizes.{maxStrings, maxDepth}
 use Rattle.expr.specs.Expr.{Expr, words}
 use Rattle.tree.specs.Sorts.{stmt}
-use Rattle.tree.specs.Tree.{one, Tree, Stmt, wordsT, depthT}
+use Rattle.tree.specs.Tree.{one, Tree, Stmt, wordsT, depthT, Program}
 use Rattle.tree.specs.Stands.{Stands}
 use Rattle.plans.specs.Pieces.{Piece, exprPiece, stmtPiece}
 use Rattle.plans.specs.Items.{Item, StandsAll, writtenIs}
 use Rattle.table.specs.Rows.{Row, Holds}
 use Rattle.resolve.specs.Tables.{Tables, nowhere}
 use Rattle.resolve.specs.FromRows.{tablesOf}
-use Rattle.resolve.specs.Resolve.{Program, resolveExpr, resolveTree, resolveArrayAccesses}
+use Rattle.resolve.specs.Resolve.{resolveExpr, resolveTree, resolveArrayAccesses}
 use Rattle.resolver.specs.Post.{Room, Put}
 
 -- the words of each piece of what is still to come, resolved in the scope σ

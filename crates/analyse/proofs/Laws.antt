@@ -13,10 +13,10 @@ use Rattle.words.specs.declared.Refusal.{Refusal}
 use Rattle.words.specs.declared.Refusal.the-variants.{Size, Strings, Output}
 use Rattle.strings.specs.Table.{namesOf}
 use Rattle.strings.specs.Open.{Answers}
-use Rattle.tree.specs.Tree.{wordsT}
+use Rattle.tree.specs.Tree.{wordsT, Program}
 use Rattle.tree.specs.Stands.{Stands}
 use Rattle.reader.specs.Sized.{sizedProgram}
-use Rattle.reader.specs.Program.{Program, acceptedOf}
+use Rattle.reader.specs.Program.{acceptedOf}
 use Rattle.table.specs.Rows.{Holds}
 use Rattle.table.specs.Laws.{pick-true, pick-false}
 use Rattle.table.specs.Images.{holds-fits, holds-image}

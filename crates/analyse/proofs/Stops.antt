@@ -5,8 +5,8 @@ use mathlib.Core.Logic.{_⊎_, inl, inr}
 use mathlib.Core.Bool.{true}
 use mathlib.Core.List.{List}
 use mathlib.Core.Option.{some}
+use Rattle.tree.specs.Tree.{Program}
 use Rattle.strings.specs.Table.{stringAt}
-use Rattle.reader.specs.Program.{Program}
 use Rattle.steps.specs.State.{State, running, stopped}
 use Rattle.steps.specs.Refused.{zeroing}
 use Rattle.collect.specs.Collect.{given, analysed}

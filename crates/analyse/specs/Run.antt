@@ -5,9 +5,10 @@ use mathlib.Core.Path.{_≡_}
 use mathlib.Core.List.{List}
 use mathlib.Core.Option.{some}
 use lib.ListN.{length}
+use Rattle.tree.specs.Tree.{Program}
 use Rattle.words.specs.Told.{gives}
 use Rattle.strings.specs.Table.{namesOf}
-use Rattle.reader.specs.Program.{Program, acceptedOf}
+use Rattle.reader.specs.Program.{acceptedOf}
 use Rattle.table.specs.Rows.{width, noteWidth, Wide, Table}
 use Rattle.steps.specs.State.{State, running, stopped}
 use Rattle.steps.specs.Refused.{zeroing}

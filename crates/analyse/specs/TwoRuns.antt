@@ -9,11 +9,12 @@ use mathlib.Core.List.{List, []}
 use mathlib.Core.Option.{none, some}
 use lib.Dec.{leb}
 use lib.ListN.{length, take}
+use Rattle.tree.specs.Tree.{Program}
 use Rattle.words.specs.Told.{Told, stops, gives, after, unless}
 use Rattle.strings.specs.Table.{sound, namesOf}
 use Rattle.strings.specs.Open.{entryOf}
 use Rattle.reader.specs.Sized.{sizedProgram}
-use Rattle.reader.specs.Program.{Program, programOf, acceptedOf}
+use Rattle.reader.specs.Program.{programOf, acceptedOf}
 use Rattle.table.specs.Rows.{Row, width, noteWidth, image}
 use Rattle.collect.specs.Collect.{given, analysed}
 use Rattle.page.specs.Chunks.{chunks}

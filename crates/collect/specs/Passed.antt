@@ -3,10 +3,11 @@ use Prim.Native.Nat.{ℕ, _≤_}
 use mathlib.Core.Path.{_≡_}
 use mathlib.Core.List.{List}
 use lib.ListN.{length}
+use Rattle.tree.specs.Tree.{Program}
 use Rattle.words.specs.Sizes.{maxStrings}
 use Rattle.words.specs.Told.{gives}
 use Rattle.strings.specs.Table.{namesOf}
-use Rattle.reader.specs.Program.{Program, acceptedOf}
+use Rattle.reader.specs.Program.{acceptedOf}
 use Rattle.collect.specs.Code.{Named}
 
 -- the checks passed, and this is the program

@@ -6,6 +6,7 @@ use mathlib.Core.List.{List}
 use native.Mathlib.Omega.{arith}
 use lib.Dec.{eqb}
 use lib.ListN.{length, take}
+use Rattle.tree.specs.Tree.{Program}
 use Rattle.words.specs.Word.{pick}
 use Rattle.words.specs.Sizes.{maxStrings}
 use Rattle.words.specs.Told.{Told, stops, gives, after, unless}
@@ -15,7 +16,7 @@ use Rattle.strings.specs.Table.{sound, Names, namesOf}
 use Rattle.strings.proofs.Laws.{names-length}
 use Rattle.expr.specs.Got.{Got, got, wrong, deep}
 use Rattle.tree.specs.Reader.{programAt}
-use Rattle.reader.specs.Program.{Program, wholeOf, erasedFrom, programOf, acceptedOf, verdict, told as toldProgram}
+use Rattle.reader.specs.Program.{wholeOf, erasedFrom, programOf, acceptedOf, verdict, told as toldProgram}
 use Rattle.reader.specs.Whole.{Whole, accepted-whole}
 use Rattle.reader.specs.declared.Accepted.{Accepted}
 use Rattle.reader.specs.declared.Accepted.the-variants.{Fine, Refused}

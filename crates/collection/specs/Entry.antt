@@ -5,13 +5,14 @@ use mathlib.Core.Path.{_≡_}
 use mathlib.Core.List.{List}
 use mathlib.Core.Option.{some}
 use lib.ListN.{length}
+use Rattle.tree.specs.Tree.{Program}
 use Rattle.words.specs.Word.{pick}
 use Rattle.words.specs.Told.{Told, stops, gives, after}
 use Rattle.words.specs.Refusals.{refused}
 use Rattle.strings.specs.Table.{namesOf}
 use Rattle.strings.specs.Open.{Answers}
 use Rattle.reader.specs.Sized.{sizedProgram}
-use Rattle.reader.specs.Program.{Program, acceptedOf}
+use Rattle.reader.specs.Program.{acceptedOf}
 use Rattle.table.specs.Rows.{width, noteWidth, zeros, image}
 use Rattle.steps.specs.State.{State, running, stopped}
 use Rattle.steps.specs.Refused.{zeroing}

@@ -17,10 +17,10 @@ use Rattle.expr.specs.Got.{Got, got, wrong, deep, bind}
 use Rattle.expr.specs.Reader.{rawAt, testAt, leafAt, nameAt, headAt, floatAt, literalBody, literalAt, exprsAt, listAt, bodyAt, exprAt}
 use Rattle.tree.specs.Sorts.{sorts, kindAt, kinds, numberOf, call, function}
 use Rattle.tree.specs.Tree as Trees
-use Rattle.tree.specs.Tree.{Tree, one, row, word, value, Stmt, list, done, cons, none, more, wordsT}
+use Rattle.tree.specs.Tree.{Tree, one, row, word, value, Stmt, list, done, cons, none, more, wordsT, Program}
 use Rattle.tree.specs.Reader.{wordAt, neverAt, isAt, stmtHead, rowsAt, fieldAt, rowAt, restAt, stmtAt, programAt}
 use Rattle.reader.specs.Sized.{sizedStrings, sizedTree, sizedProgram}
-use Rattle.reader.specs.Program.{Program, wholeOf, erasedFrom, programOf, acceptedOf}
+use Rattle.reader.specs.Program.{wholeOf, erasedFrom, programOf, acceptedOf}
 use Rattle.views.specs.Build.{Statement, rowsIn, stmtRows, program, subscripts, declarator, param, item, typeless, letS, dimS, sharedS, subS, functionS}
 use Rattle.table.specs.Rows.{Row, key, find}
 use Rattle.lookup.specs.Lookup.{shares, visible, lookupArray}

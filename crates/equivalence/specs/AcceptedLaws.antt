@@ -9,6 +9,7 @@ use mathlib.Core.Option.{none, some}
 use native.Mathlib.Omega.{arith}
 use lib.Dec.{eqb}
 use lib.ListN.{length}
+use Rattle.tree.specs.Tree.{Program}
 use Rattle.words.specs.Word.{pick}
 use Rattle.words.specs.Told.{Told, stops, gives, after, unless}
 use Rattle.strings.specs.Table.{sound, stringAt, namesOf}
@@ -16,7 +17,7 @@ use Rattle.strings.specs.Open.{entryOf}
 use Rattle.expr.specs.Got.{Got, got, wrong, deep}
 use Rattle.tree.specs.Reader.{programAt}
 use Rattle.reader.specs.Sized.{sizedProgram}
-use Rattle.reader.specs.Program.{Program, wholeOf, erasedFrom, programOf, acceptedOf}
+use Rattle.reader.specs.Program.{wholeOf, erasedFrom, programOf, acceptedOf}
 use Rattle.steps.specs.State.{State, running, stopped}
 use Rattle.collect.specs.Collect.{given, analysed}
 use Rattle.equivalence.specs.Rooms.{Free, runs, nine, Full, seven, eight, Meets, full, longer}

@@ -7,9 +7,9 @@ use mathlib.Core.Option.{Option, none}
 use Rattle.words.specs.Told.{Told, stops, gives, after}
 use Rattle.strings.specs.Table.{namesOf}
 use Rattle.strings.specs.Open.{entryOf}
-use Rattle.tree.specs.Tree.{wordsT}
+use Rattle.tree.specs.Tree.{wordsT, Program}
 use Rattle.reader.specs.Sized.{sizedTree, sizedProgram}
-use Rattle.reader.specs.Program.{Program, programOf, acceptedOf}
+use Rattle.reader.specs.Program.{programOf, acceptedOf}
 use Rattle.table.specs.Rows.{Row}
 use Rattle.steps.specs.State.{State, running, stopped}
 use Rattle.collect.specs.Collect.{given, analysed}

@@ -13,10 +13,10 @@ use Rattle.words.specs.Told.{Told, stops, gives, after, unless}
 use Rattle.strings.specs.Table.{sound, namesOf}
 use Rattle.strings.specs.Open.{entryOf}
 use Rattle.expr.specs.Stands.{Wrote}
-use Rattle.tree.specs.Tree.{wordsT, depthT, Right}
+use Rattle.tree.specs.Tree.{wordsT, depthT, Right, Program}
 use Rattle.tree.proofs.Complete.{one-tree, clear, clearR, program-complete}
 use Rattle.reader.specs.Sized.{sizedProgram}
-use Rattle.reader.specs.Program.{Program, wholeOf, erasedFrom, programOf, acceptedOf}
+use Rattle.reader.specs.Program.{wholeOf, erasedFrom, programOf, acceptedOf}
 use Rattle.reader.specs.Whole.{program-whole, stops-gives}
 use Rattle.steps.specs.State.{State, running, stopped}
 use Rattle.collect.specs.Collect.{given, analysed}

@@ -15,10 +15,10 @@ use borrow.Author.Tests.{leb-true, le-leb}
 use Rattle.words.specs.Told.{gives, after, unless}
 use Rattle.strings.specs.Table.{namesOf}
 use Rattle.strings.specs.Open.{entryOf}
-use Rattle.tree.specs.Tree.{wordsT, depthT, Right}
+use Rattle.tree.specs.Tree.{wordsT, depthT, Right, Program}
 use Rattle.views.specs.Strip.{strip}
 use Rattle.reader.specs.Sized.{sizedStrings, sizedTree, sizedProgram}
-use Rattle.reader.specs.Program.{Program, programOf}
+use Rattle.reader.specs.Program.{programOf}
 use Rattle.table.specs.Rows.{Row}
 use Rattle.steps.specs.State.{running}
 use Rattle.collect.specs.Collect.{given, Given, analysed}

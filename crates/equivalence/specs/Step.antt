@@ -9,11 +9,11 @@ use mathlib.Core.Bool.{Bool, true, false}
 use mathlib.Core.List.{List}
 use Rattle.expr.specs.Expr.{Expr, Lit, Var, Elem, Unary, Binary, Call, Field, Paren, Exprs, none, more}
 use Rattle.tree.specs.Sorts.{Sort, expr, stmt, many, group, either, Sorts, nil, _&_, Kind, sorts}
-use Rattle.tree.specs.Tree.{Shape, one, row, rows, Tree, value, Stmt, list, part, this, that, cons, more as add}
+use Rattle.tree.specs.Tree.{Shape, one, row, rows, Tree, value, Stmt, list, part, this, that, cons, more as add, Program}
 use Rattle.table.specs.Rows.{Row}
 use Rattle.resolve.specs.Tables.{Tables, Places, nowhere, places, after, element}
 use Rattle.resolve.specs.FromRows.{tablesOf}
-use Rattle.resolve.specs.Resolve.{Program, first, inside, argued}
+use Rattle.resolve.specs.Resolve.{first, inside, argued}
 use Rattle.equivalence.specs.Chain.{Chain}
 
 mutual

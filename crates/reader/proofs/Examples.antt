@@ -7,10 +7,10 @@ use Rattle.expr.specs.Expr.{Expr, Lit, Elem, Paren, Integer, none as noExpr, mo
 use Rattle.expr.specs.Got.{Got, got, wrong, deep, bind}
 use Rattle.expr.specs.Reader.{rawAt, testAt, leafAt, nameAt, headAt, floatAt, literalBody, literalAt, exprsAt, listAt, bodyAt, exprAt}
 use Rattle.tree.specs.Sorts.{Sort, stmt, many, nil, _&_, sorts, kindAt, kinds, dim, let′}
-use Rattle.tree.specs.Tree.{Tree, one, word, value, Stmt, list, part, this, that, done, cons, none, more}
+use Rattle.tree.specs.Tree.{Tree, one, word, value, Stmt, list, part, this, that, done, cons, none, more, Program}
 use Rattle.tree.specs.Reader.{wordAt, neverAt, isAt, stmtHead, rowsAt, fieldAt, rowAt, restAt, stmtAt, programAt}
 use Rattle.reader.specs.Reading.{nodeOf, statementOf, expressionOf}
-use Rattle.reader.specs.Program.{Program, wholeOf, erasedFrom, programOf, acceptedOf, verdict}
+use Rattle.reader.specs.Program.{wholeOf, erasedFrom, programOf, acceptedOf, verdict}
 
 -- DIM A(5) on line 1, X = (A(2)) on line 2; both strings are names
 abbrev example : List ℕ

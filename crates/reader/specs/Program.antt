@@ -10,16 +10,12 @@ use Rattle.words.specs.Refusals.{refused}
 use Rattle.expr.specs.Expr.{Expr}
 use Rattle.expr.specs.Got.{Got, got, wrong, deep}
 use Rattle.tree.specs.Sorts.{stmt, many, nil, _&_}
-use Rattle.tree.specs.Tree.{one, Tree}
+use Rattle.tree.specs.Tree.{one, Tree, Program}
 use Rattle.tree.specs.Reader.{programAt}
 use Rattle.expr.specs.declared.Step.{Step}
 use Rattle.expr.specs.declared.Step.the-variants.{Read, Wrong, Deep}
 use Rattle.reader.specs.declared.Accepted.{Accepted}
 use Rattle.reader.specs.declared.Accepted.the-variants.{Fine, Refused}
-
--- a program's tree
-abbrev pub Program : Type 0
-Program = Tree Expr (one (many (stmt & nil)))
 
 -- all words are the tree's, else number 2 at the first word over (`wholeOf` of numbers/specs/Numbers.antt rounds a float)
 unfoldable pub wholeOf : {A : Type 0} → List ℕ → Got A → Told A

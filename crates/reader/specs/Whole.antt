@@ -10,11 +10,11 @@ use borrow.Author.Tests.{eqb-true}
 use Rattle.words.specs.Word.{pick}
 use Rattle.words.specs.Told.{Told, stops, gives, after, unless}
 use Rattle.expr.specs.Got.{Got, got, wrong, deep}
-use Rattle.tree.specs.Tree.{depthT}
+use Rattle.tree.specs.Tree.{depthT, Program}
 use Rattle.tree.specs.Stands.{Stands}
 use Rattle.tree.specs.Reader.{programAt}
 use Rattle.tree.proofs.Sound.{program-sound}
-use Rattle.reader.specs.Program.{Program, wholeOf, erasedFrom, programOf, acceptedOf}
+use Rattle.reader.specs.Program.{wholeOf, erasedFrom, programOf, acceptedOf}
 
 pub record Whole (ws ns : List ℕ) (n : ℕ) (p : Program) : Type 0 where
   pub stands : Stands ws ns n 0 p (length ws)

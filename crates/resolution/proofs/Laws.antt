@@ -24,7 +24,7 @@ use Rattle.expr.specs.declared.Step.{Step}
 use Rattle.expr.specs.declared.Step.the-variants.{Read as Passed-by, Wrong, Deep}
 use Rattle.expr.proofs.Parts.{wrote-first, pay-is}
 use Rattle.expr.proofs.Sound.{sound, list-sound}
-use Rattle.tree.specs.Tree.{strings, wordsT}
+use Rattle.tree.specs.Tree.{strings, wordsT, Program}
 use Rattle.tree.specs.Reader.{programAt}
 use Rattle.tree.proofs.Sound.{program-sound}
 use Rattle.reader.specs.Program.{wholeOf, programOf}
@@ -37,7 +37,7 @@ use Rattle.lent.specs.declared.Checked.the-variants.{Bad, Rows}
 use Rattle.lent.specs.RuleLaws.{name-below, scope-below}
 use Rattle.resolve.specs.Tables.{Tables, places}
 use Rattle.resolve.specs.FromRows.{tablesOf}
-use Rattle.resolve.specs.Resolve.{Program, resolveExpr, resolveArgs, resolveArrayAccesses}
+use Rattle.resolve.specs.Resolve.{resolveExpr, resolveArgs, resolveArrayAccesses}
 use Rattle.resolver.specs.Post.{Room, Ready, ReadyAll, Resolved, ResolvedArgs}
 use Rattle.accesses.specs.Post.{ReadyProgram, ResolvedProgram}
 use Rattle.resolution.specs.Entries.{Written, takenOf, ruling, rewritten, resolveExprAt, resolveArgsAt, resolveAll, told, counted, written, Tells, Rewrites}

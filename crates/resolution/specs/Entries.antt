@@ -15,14 +15,14 @@ use Rattle.strings.specs.Open.{Place, entryOf}
 use Rattle.expr.specs.Expr.{Strings, Expr, Exprs, many, words, wordsAll}
 use Rattle.expr.specs.Got.{Got, got, wrong, deep}
 use Rattle.expr.specs.Reader.{exprAt, listAt}
-use Rattle.tree.specs.Tree.{strings, wordsT}
+use Rattle.tree.specs.Tree.{strings, wordsT, Program}
 use Rattle.reader.specs.Program.{programOf}
 use Rattle.table.specs.Rows.{Row}
 use Rattle.lent.specs.Rules.{isMarked, scopeOk}
 use Rattle.lent.specs.Lent.{lentRows}
 use Rattle.resolve.specs.Tables.{Tables, places}
 use Rattle.resolve.specs.FromRows.{tablesOf}
-use Rattle.resolve.specs.Resolve.{Program, resolveExpr, resolveArgs, resolveArrayAccesses}
+use Rattle.resolve.specs.Resolve.{resolveExpr, resolveArgs, resolveArrayAccesses}
 use Rattle.resolution.specs.declared.Reached.{Reached}
 use Rattle.resolution.specs.declared.Resolution.{Resolution}
 use Rattle.resolution.specs.declared.Resolution.the-variants.{Wrote, Refused}

@@ -8,12 +8,12 @@ use lib.ListN.{length}
 use Rattle.words.specs.Word.{wordOf}
 use Rattle.expr.specs.Expr.{Expr, Lit, Var, Elem, Unary, Binary, Call, Field, Paren, Integer, Exprs, none, more}
 use Rattle.tree.specs.Sorts.{sorts, numberOf, let′, call, sub, if}
-use Rattle.tree.specs.Tree.{Tree, one, word, value, Stmt, list, part, this, that, done, cons, none as nothing, more as add}
+use Rattle.tree.specs.Tree.{Tree, one, word, value, Stmt, list, part, this, that, done, cons, none as nothing, more as add, Program}
 use Rattle.table.specs.Rows.{Row, key, find}
 use Rattle.lookup.specs.Lookup.{shares, visible, lookupArray}
 use Rattle.resolve.specs.Tables.{Tables, nowhere, places, after, element}
 use Rattle.resolve.specs.FromRows.{tablesOf}
-use Rattle.resolve.specs.Resolve.{Program, passed, called, resolveExpr, resolveArgs, first, inside, argued, resolveTree, resolveArrayAccesses}
+use Rattle.resolve.specs.Resolve.{passed, called, resolveExpr, resolveArgs, first, inside, argued, resolveTree, resolveArrayAccesses}
 
 -- Names: 0 A, 1 B, 2 F, 3 P, 4 Q, 5 R, 6 X. The module has the arrays A, B and F; P has an array X of its own and shares A as an array, B
 -- as a variable. FUNCTION F(X, BYVAL X, X(), X AS R, X AS LONG), no TYPE being named R; SUB P without parameters; of Q only a parameter's row.

@@ -8,9 +8,9 @@ use mathlib.Core.List.{List, _++_}
 use lib.ListN.{length, length-append}
 use Rattle.expr.specs.Expr.{Strings, Named, Expr, Lit, Var, Elem, Unary, Binary, Call, Field, Paren, Exprs, none, more, many, words, wordsAll, depth, depths, Valid, Valids}
 use Rattle.tree.specs.Sorts.{Sort, expr, stmt, Sorts, Kind, sorts}
-use Rattle.tree.specs.Tree.{strings, Shape, one, row, rows, Tree, word, value, Stmt, list, part, this, that, done, cons, none as nothing, more as add, count, wordsT, depthT, Right}
+use Rattle.tree.specs.Tree.{strings, Shape, one, row, rows, Tree, word, value, Stmt, list, part, this, that, done, cons, none as nothing, more as add, count, wordsT, depthT, Right, Program}
 use Rattle.resolve.specs.Tables.{Tables, Places, nowhere, places, after, element}
-use Rattle.resolve.specs.Resolve.{called, resolveExpr, resolveArgs, first, inside, argued, resolveTree, Program}
+use Rattle.resolve.specs.Resolve.{called, resolveExpr, resolveArgs, first, inside, argued, resolveTree}
 use Rattle.resolve.specs.Flags.{keep, resE, resL, res, resE-plain, resL-is, res-is}
 
 -- ---- counts

@@ -5,7 +5,7 @@ use lib.Dec.{eqb}
 use Rattle.words.specs.Word.{pick}
 use Rattle.expr.specs.Expr.{Expr, Lit, Var, Elem, Unary, Binary, Call, Field, Paren, Exprs, none, more}
 use Rattle.tree.specs.Sorts.{Sort, expr, stmt, many, Sorts, nil, _&_, Kind, sorts, numberOf}
-use Rattle.tree.specs.Tree.{Shape, one, row, rows, Tree, word, value, Stmt, list, part, this, that, done, cons, none as nothing, more as add}
+use Rattle.tree.specs.Tree.{Shape, one, row, rows, Tree, word, value, Stmt, list, part, this, that, done, cons, none as nothing, more as add, Program}
 use Rattle.resolve.specs.Tables.{Tables, Places, nowhere, places, after, element}
 
 -- The argument e, resolved to r: by reference, one that stands in parentheses keeps one pair.
@@ -76,10 +76,6 @@ resolveTree T σ m done = done
 resolveTree T σ m (cons v r) = cons (resolveTree T σ m v) (resolveTree T σ m r)
 resolveTree T σ m nothing = nothing
 resolveTree T σ m (add r rs) = add (resolveTree T σ m r) (resolveTree T σ (after m) rs)
-
--- the same as in reader/specs/Program.antt
-abbrev pub Program : Type 0
-Program = Tree Expr (one (many (stmt & nil)))
 
 -- A list of statements in the scope σ; a program's is 0.
 unfoldable pub resolveArrayAccesses : Tables → ℕ → Program → Program

@@ -109,3 +109,7 @@ over g done = done
 over g (cons v r) = cons (over g v) (over g r)
 over g none = none
 over g (more r rs) = more (over g r) (over g rs)
+
+-- a program's tree
+abbrev pub Program : Type 0
+Program = Tree Expr (one (many (stmt & nil)))

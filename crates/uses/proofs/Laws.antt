@@ -18,12 +18,12 @@ use Rattle.expr.specs.declared.Cursor.{Cursor}
 use Rattle.expr.specs.declared.Step.{Step}
 use Rattle.expr.specs.declared.Step.the-variants.{Read, Wrong, Deep}
 use Rattle.tree.specs.Sorts.{body}
-use Rattle.tree.specs.Tree.{one, Tree}
+use Rattle.tree.specs.Tree.{one, Tree, Program}
 use Rattle.tree.specs.Stands.{Stands, SomeTree}
 use Rattle.tree.specs.Reader.{programAt}
 use Rattle.tree.proofs.Sound.{program-sound}
 use Rattle.reader.specs.Answered.{answer-read, answer-wrong, answer-deep}
-use Rattle.reader.specs.Program.{Program, programOf, wholeOf}
+use Rattle.reader.specs.Program.{programOf, wholeOf}
 use Rattle.lent.specs.Rules.{isMarked}
 use Rattle.subscripts.specs.Subscripts.{inExpr, subscriptCount}
 use Rattle.subscripts.specs.Code.{useOf}

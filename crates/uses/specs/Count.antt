@@ -4,12 +4,13 @@ use mathlib.Core.Path.{_≡_}
 use mathlib.Core.List.{List}
 use mathlib.Core.Option.{Option, none as nothing, some}
 use lib.ListN.{length}
+use Rattle.tree.specs.Tree.{Program}
 use Rattle.words.specs.Told.{Told, gives, after, unless}
 use Rattle.words.specs.Refusals.{refused}
 use Rattle.expr.specs.Expr.{Expr}
 use Rattle.expr.specs.Got.{got}
 use Rattle.tree.specs.Reader.{programAt}
-use Rattle.reader.specs.Program.{Program, programOf}
+use Rattle.reader.specs.Program.{programOf}
 use Rattle.lent.specs.Rules.{isMarked}
 use Rattle.subscripts.specs.Subscripts.{inExpr, subscriptCount}
 use Rattle.uses.specs.declared.Answer.{Answer}

@@ -4,13 +4,10 @@ use mathlib.Core.List.{List, [], _∷_}
 use mathlib.Core.Option.{Option, none as absent, some}
 use Rattle.expr.specs.Expr.{Expr}
 use Rattle.tree.specs.Sorts.{Sorts, nil, _&_, stmt, expr, many, opt, exprs, body, TypeRef, LValue, Declarator, Param, ScopeItem, FieldDecl, sorts, label, labelName, let′, dim, redim, shared, static, sub, function, const, optionBase, typeDef}
-use Rattle.tree.specs.Tree.{Tree, one, row, rows, word, value, Stmt, list, part, this, that, done, cons, none, more}
+use Rattle.tree.specs.Tree.{Tree, one, row, rows, word, value, Stmt, list, part, this, that, done, cons, none, more, Program}
 
 abbrev pub Statement : Type 0
 Statement = Tree Expr (one stmt)
-
-abbrev pub Program : Type 0
-Program = Tree Expr (one body)
 
 -- ---- lists and options
 

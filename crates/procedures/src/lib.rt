@@ -1,6 +1,7 @@
 // What collecting does for SUB and FUNCTION, but for their bodies.
 use steps::Counts;
 use subscripts::Use;
+use table::Found;
 ghost use mathlib.Core.Path.{_≡_};
 ghost use mathlib.Core.List.{List, [], _∷_};
 ghost use mathlib.Core.Option.{Option, some};
@@ -220,9 +221,11 @@ fn defined_before(b: &[u32], d: &mut [u32], s: Counts, line: u32, name: u32) -> 
     requires { ⌜ (name < 1024) × Fit s (length (now b)) (length (now d)) ⌝ }
     ensures { λ r. ⌜ Acts (λ x. name ≡ x) (λ x N D. definedBefore (plain N D) line x) s r (now (b .entry)) (now (d .entry)) (now (b .entry)) (now (d .exit)) ⌝ }
 {
-    let yes = lookup::has(b, s.rows, 135, name, 0);
-    let prev = lookup::word(b, s.rows, 135, name, 0, 3);
-    steps::push_if(d, s, yes, 25, line, name + 1, 0, 0, prev)
+    let Found::At(i) = lookup::find_entry(b, s.rows, 135, name, 0) else {
+        return s;
+    };
+    let prev = b[i * table::WIDTH + 3];
+    steps::push(d, s, 25, line, name + 1, 0, 0, prev)
 }
 
 // All that is said of it, in order.

@@ -1,28 +1,88 @@
--- `defined_before`: what the rows say, asked before the diagnostic. Assumes nothing.
+-- `defined_before`: what the rows say, asked before the diagnostic; without a row nothing is said. Assumes nothing.
+use mathlib.Core.Path.{_≡_, refl, sym, ap, _∙_, subst}
+use mathlib.Core.Bool.{true, false}
+use mathlib.Core.List.{List, [], _∷_}
+use mathlib.Core.Option.{none, some}
+use Prim.Native.Nat.{ℕ, _+_, _*_, _<_}
+use native.Mathlib.Omega.{arith}
+use lib.ListN.{getD}
+use Rattle.table.specs.Rows.{Row, width, find, Holds}
+use Rattle.table.specs.Answers.{Within}
+use Rattle.table.specs.Images.{word-at}
+use Rattle.table.specs.declared.Found.{Found}
+use Rattle.entries.specs.Entries.{entryKey, hasRow, rowWord}
+use Rattle.lookup.specs.Answers.{rowAt}
+use Rattle.steps.specs.Laws.{no-note, noting-is}
 use Rattle.procedures.proofs.Does.{defined-acts}
 use borrow.Author.Needs.{needs}
 use Rattle.procedures.proofs.defined_before.Statement.{statement}
 use Rattle.procedures.proofs.defined_before.Tie as tie
 
-has-requires : tie.Need-has-requires
-has-requires c κs = search needs
+-- the row that was found is one of the table's
+in-table : (c : tie.After-i) → c .i .given .0 .0 < (c .before .before .before .before .before .args .s) .rows
+in-table c = subst (λ (f : Found). Within ((c .before .before .before .before .before .args .s) .rows) f) (c .i .given .1) (c .before .before .find-entry .ensures .0)
 
-word-requires : tie.Need-word-requires
-word-requires c κs = search needs
+find-entry-requires : tie.Need-find-entry-requires
+find-entry-requires c κs = search needs
 
-add-push-if : tie.Need-add-push-if
-add-push-if c = search needs
+enum-known-i : tie.Need-enum-known-i
+enum-known-i c = search needs
 
-push-if-requires : tie.Need-push-if-requires
-push-if-requires c κs = search needs
+enum-told : tie.Need-enum-told
+enum-told c = search needs
+
+returns : tie.Need-returns
+returns c =
+    let a = c .before .before .before .before .before .args in
+    let k = c .before .before .before .before .before .pre .1 in
+    let is : (rows : List Row) → Holds rows (a .s .rows) (a .b .now) → none ≡ find (entryKey 135 (a .name) 0) rows =
+    λ rows H. ap (rowAt rows) (sym (c .enum-told .given .1)) ∙ c .before .before .find-entry .ensures .1 rows H in
+    defined-acts (a .line) (a .name) 0 false (k .0) (λ rows H. ap hasRow (is rows H)) (λ rows H. ap (rowWord 3) (is rows H)) (no-note (a .s) (a .d .now) _ (k .1) false refl)
+
+mul-prev : tie.Need-mul-prev
+mul-prev c = omega (arith, in-table (c .before), c .before .before .before .before .before .before .pre .1 .0)
+
+add-prev : tie.Need-add-prev
+add-prev c = omega (arith, in-table (c .before), c .before .before .before .before .before .before .pre .1 .0)
+
+mul-prev-2 : tie.Need-mul-prev-2
+mul-prev-2 c = omega (arith, in-table (c .before), c .before .before .before .before .before .before .pre .1 .0)
+
+shared-slice-read-prev : tie.Need-shared-slice-read-prev
+shared-slice-read-prev c = omega (arith, in-table (c .before .before), c .before .before .before .before .before .before .before .pre .1 .0)
+
+add-push : tie.Need-add-push
+add-push c = search needs
+
+push-requires : tie.Need-push-requires
+push-requires c κs = search needs
 
 same-length : tie.Need-same-length
 same-length c = search needs
 
-returns : tie.Need-returns
-returns c = defined-acts (c .before .before .before .before .before .before .before .before .args .line) (c .before .before .before .before .before .before .before .before .args .name) _ _ (c .before .before .before .before .before .before .before .before .pre .1 .0) (c .before .before .before .before .before .has .ensures) (c .before .before .before .before .word .ensures) (c .before .before .push-if .ensures)
+returns-2 : tie.Need-returns-2
+returns-2 c =
+    let a = c .before .before .before .before .before .before .before .before .before .before .before .args in
+    let f = c .before .before .before .before .before .before in
+    let i : ℕ = f .i .given .0 .0 in
+    let is : (rows : List Row) → Holds rows (a .s .rows) (a .b .now) → some (getD rows i []) ≡ find (entryKey 135 (a .name) 0) rows =
+    λ rows H. ap (rowAt rows) (sym (f .i .given .1)) ∙ f .before .before .find-entry .ensures .1 rows H in
+    let prev : ℕ = getD (a .b .now) (i * width + 3) 0 in
+    defined-acts (a .line) (a .name) prev true (c .before .before .before .before .before .before .before .before .before .before .before .pre .1 .0) (λ rows H. ap hasRow (is rows H)) (λ rows H. word-at (H .filled) i 3 (in-table f) (omega arith) ∙ ap (rowWord 3) (is rows H)) (noting-is (25 ∷ a .line ∷ (a .name + 1) ∷ 0 ∷ 0 ∷ prev ∷ []) true refl (c .before .before .push .ensures))
 
 pub defined-before-spec : {M : Type 1} → statement M
 defined-before-spec =
     tie.close
-    (tie.spec has-requires word-requires add-push-if push-if-requires same-length returns)
+    (tie.spec
+    find-entry-requires
+    enum-known-i
+    enum-told
+    returns
+    mul-prev
+    add-prev
+    mul-prev-2
+    shared-slice-read-prev
+    add-push
+    push-requires
+    same-length
+    returns-2)

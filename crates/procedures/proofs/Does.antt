@@ -284,18 +284,18 @@ module _ (scope line : ℕ) {p : ParamAt} {s : Counts} {b : List ℕ} where
       enters-nothing k (λ q o N D st.
       ap (λ (y : Bool). when y (ranked (plain N D) scope line (q .name) (subscriptCount (λ name (e : Seen). e .use-of name) (q .name) t)) st) (sym e ∙ o .array))
 
-  pub array-yes : (u : Use) {ws : List ℕ} {body : ℕ} {r : Counts} {b′ : List ℕ} → p .array ≡ true
-      → ((ns : List ℕ) (n : ℕ) (v : Tree Expr (one bodySort)) (end : ℕ) → Stands ws ns n body v end → useOf u ≡ subscriptCount (λ name (e : Expr). inExpr name e) (p .name) v)
+  pub array-yes : (u : Use) {ws : List ℕ} {body past : ℕ} {r : Counts} {b′ : List ℕ} → p .array ≡ true
+      → ((ns : List ℕ) (n : ℕ) (v : Tree Expr (one bodySort)) → Stands ws ns n body v past → useOf u ≡ subscriptCount (λ name (e : Expr). inExpr name e) (p .name) v)
       → Enters (λ o. useOf u ≡ o) (λ o N D. ranked (plain N D) scope line (p .name) o) s r b b′
-      → (t : Tree Seen (one bodySort)) → BodyAt ws body t → Enters (ParamOf p) (λ q N D. arrayParam (plain N D) scope line t q) s r b b′
+      → (t : Tree Seen (one bodySort)) → BodyAt ws body past t → Enters (ParamOf p) (λ q N D. arrayParam (plain N D) scope line t q) s r b b′
   unfolding arrayParam
-  array-yes u {ws} {body} {r} {b′} e told F t B = record { kept = F .kept; fit = F .fit; does = by }
+  array-yes u {ws} {body} {past} {r} {b′} e told F t B = record { kept = F .kept; fit = F .fit; does = by }
     where
       by : (q : Param) → ParamOf p q → (d : List ℕ) → s .notes * noteWidth ≤ length d → Does (λ N D. arrayParam (plain N D) scope line t q) s r b d b′ d
       by q o d k =
           let rank : Option ℕ = subscriptCount (λ name (e : Seen). e .use-of name) (q .name) t in
           let is : useOf u ≡ rank =
-          told (B .names) (B .strings) (B .tree) (B .end) (B .stands) ∙ sym (seen-count (p .name) (B .tree))
+          told (B .names) (B .strings) (B .tree) (B .stands) ∙ sym (seen-count (p .name) (B .tree))
           ∙ ap (λ (x : ℕ). subscriptCount (λ name (e : Seen). e .use-of name) x (over see (B .tree))) (o .name)
           ∙ ap (λ (v : Tree Seen (one bodySort)). subscriptCount (λ name (e : Seen). e .use-of name) (q .name) v) (B .is) in
           same (λ N D. arrayParam (plain N D) scope line t q)
@@ -387,7 +387,7 @@ pub procedure-acts : (bytes ends : List ℕ) (scope : ℕ) {ws : List ℕ} {p : 
     → Acts (ProcOf ws p) (λ f N D. beforeEntry (given (some N) (some D) bytes ends []) scope (p .line) f) s s1 b d b d1
     → Enters (ProcOf ws p) (λ f N D. withParams (plain N D) (p .line) f) s1 s2 b b1
     → Enters (ProcOf ws p) (λ f N D. withMarks (plain N D) f) s2 s3 b1 b2
-    → ((t : Tree Seen (one bodySort)) → BodyAt ws (p .body) t → Enters (ParamsAt ws (p .params) (p .count)) (λ ps N D. each (arrayParam (plain N D) (p .name + 1) (p .line) t) ps) s3 s4 b2 b3)
+    → ((t : Tree Seen (one bodySort)) → BodyAt ws (p .body) (p .past) t → Enters (ParamsAt ws (p .params) (p .count)) (λ ps N D. each (arrayParam (plain N D) (p .name + 1) (p .line) t) ps) s3 s4 b2 b3)
     → Acts (ParamsAt ws (p .params) (p .count)) (λ ps N D. each (typedParam (plain N D) (p .name + 1) (p .line)) ps) s4 r b3 d1 b′ d′
     → Acts (ProcOf ws p) (λ f N D. procedure (given (some N) (some D) bytes ends []) scope (p .line) f) s r b d b′ d′
 unfolding procedure arrayParam ranked typedParam paramType undefined

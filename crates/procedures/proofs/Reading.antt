@@ -24,7 +24,7 @@ use Rattle.parts.specs.declared.TypeAt.{TypeAt}
 use Rattle.collect.specs.Seen.{see}
 use Rattle.collect.specs.Collect.{Given, statement, procedure}
 use Rattle.collect.specs.Code.{StmtAt, Named}
-use Rattle.procedures.specs.Post.{StmtTo, ParamOf, ParamIs, ParamsAt, SomeParams, BodyAt, SomeProc, Shown, ProcIs}
+use Rattle.procedures.specs.Post.{StmtTo, ParamOf, ParamIs, ParamsAt, SomeParams, SomeBody, SomeProc, Shown, ProcIs}
 use Rattle.procedures.specs.declared.ProcAt.{ProcAt}
 
 -- ---- words at a place
@@ -87,10 +87,18 @@ module _ {ws : List ℕ} {at : ℕ} where
           let q = T .is ns n (p .clause) end (p .there) in
           (record { name = p .name; byval = e ∙ p .byval; array = d ∙ p .array; head = q .0 ∙ ap headOf (p .type-is); arg = q .1 ∙ ap argOf (p .type-is) }, q .2)
 
--- ---- a body
+-- ---- a body: a list, so that it has a word
 
-pub body-at : {ws : List ℕ} {at : ℕ} (S : SomeTree (one bodySort) ws at) → BodyAt ws at (over see (S .tree))
-body-at S = record { names = S .names; strings = S .strings; tree = S .tree; end = S .end; stands = S .stands; is = refl }
+body-word : {ws ns : List ℕ} {n at end : ℕ} (v : Tree Expr (one bodySort)) → Stands ws ns n at v end → (at < end) × (end ≤ length ws)
+unfolding wordsT
+body-word (list rs) s = (omega (arith, s .wrote .span), s .wrote .inside)
+
+module _ {ws : List ℕ} {at end : ℕ} (S : SomeBody ws at end) where
+  pub body-inside : (at < end) × (end ≤ length ws)
+  body-inside = body-word (S .there .tree) (S .there .stands)
+
+  pub body-tree : SomeTree (one bodySort) ws at
+  body-tree = let B = S .there in record { names = B .names; strings = B .strings; tree = B .tree; end = end; stands = B .stands }
 
 -- ---- what stands in a statement: its line, a name and a list, a part and the rest, a flag
 
@@ -211,6 +219,10 @@ in-sub line (cons (word x) (cons (list ps) (cons b (cons f done)))) s =
           (param-rows-over see ps) (set-over see f);
     }
 
+-- the same body, its places told otherwise
+ends-at : {ws ns : List ℕ} {n at at′ end end′ : ℕ} {v : Tree Expr (one bodySort)} → at ≡ at′ → end ≡ end′ → Stands ws ns n at v end → Stands ws ns n at′ v end′
+ends-at {ws} {ns} {n} {at} {at′} {end} {end′} {v} e f s = subst (λ (x : ℕ). Stands ws ns n at′ v x) f (subst (λ (x : ℕ). Stands ws ns n x v end) e s)
+
 -- what the code knows of the place past the parameters
 module _ {ws ns : List ℕ} {n : ℕ} (at : ℕ) {m : ℕ}
     (past-params : (ps : List Param) (T : ParamsAt ws (at + 3) (payOf (getD ws (at + 2) 0)) ps) → m ≡ T .end) where
@@ -234,11 +246,11 @@ module _ {ws ns : List ℕ} {n at end : ℕ} (S : StmtTo ns n sub ws at end) whe
   last-flag = (omega (arith, here .last, S .ends), omega (arith, here .last, here .flag-inside, S .ends))
 
   pub sub-is : {m : ℕ} → ((ps : List Param) (T : ParamsAt ws (at + 3) (payOf (getD ws (at + 2) 0)) ps) → m ≡ T .end) → (keeps : Bool) → keeps ≡ eqb (payOf (getD ws (end - 1) 0)) 1
-      → ProcIs ns n sub ws at (record { line = payOf (getD ws at 0); name = payOf (getD ws (at + 1) 0); params = at + 3; count = payOf (getD ws (at + 2) 0); head = 0; arg = 0; body = m; function = false; keeps = keeps; deffn = false })
+      → ProcIs ns n sub ws at (record { line = payOf (getD ws at 0); name = payOf (getD ws (at + 1) 0); params = at + 3; count = payOf (getD ws (at + 2) 0); head = 0; arg = 0; body = m; past = end - 1; function = false; keeps = keeps; deffn = false })
   sub-is {m} past-params keeps q = record { shows = by; named = subst (λ (x : ℕ). eqb (getD ns x 0) 1 ≡ true) (sym (here .name-is)) (here .named) }
     where
       by : (line : ℕ) (r : Tree Expr (row (sorts sub))) (end′ : ℕ) → Stands ws ns n at (Stmt sub line r) end′
-          → Shown ws sub (record { line = payOf (getD ws at 0); name = payOf (getD ws (at + 1) 0); params = at + 3; count = payOf (getD ws (at + 2) 0); head = 0; arg = 0; body = m; function = false; keeps = keeps; deffn = false }) line r
+          → Shown ws sub (record { line = payOf (getD ws at 0); name = payOf (getD ws (at + 1) 0); params = at + 3; count = payOf (getD ws (at + 2) 0); head = 0; arg = 0; body = m; past = end - 1; function = false; keeps = keeps; deffn = false }) line r
       by line r end′ s =
           let h = in-sub line r s in
           let p = params-end at past-params (h .counted) (h .params-there) in
@@ -251,7 +263,7 @@ module _ {ws ns : List ℕ} {n at end : ℕ} (S : StmtTo ns n sub ws at end) whe
               params = record { names = ns; strings = n; tree = h .params; end = h .mid; stands = h .params-there; counted = h .counted; are = refl };
               head = refl;
               arg = refl;
-              body = record { names = ns; strings = n; tree = h .body; end = h .past; stands = subst (λ (x : ℕ). Stands ws ns n x (h .body) (h .past)) (sym p) (h .body-there); is = refl };
+              body = record { names = ns; strings = n; tree = h .body; stands = ends-at (sym p) (sym e) (h .body-there); is = refl };
               function = refl;
               static = q ∙ ap (λ (x : ℕ). eqb (payOf (getD ws x 0)) 1) e ∙ h .flag-set;
               def-fn = refl;
@@ -349,11 +361,11 @@ module _ {ws ns : List ℕ} {n at end : ℕ} (S : StmtTo ns n function ws at end
     function-clause = record { names = ns; strings = n; tree = found .clause; end = found .next; stands = clause-at found }
 
     pub function-is : {t : TypeAt} → AsTypeIs ws m t → (keeps deffn : Bool) → keeps ≡ eqb (payOf (getD ws (end - 2) 0)) 1 → deffn ≡ eqb (payOf (getD ws (end - 1) 0)) 1
-        → ProcIs ns n function ws at (record { line = payOf (getD ws at 0); name = payOf (getD ws (at + 1) 0); params = at + 3; count = payOf (getD ws (at + 2) 0); head = t .head; arg = t .arg; body = t .next; function = true; keeps = keeps; deffn = deffn })
+        → ProcIs ns n function ws at (record { line = payOf (getD ws at 0); name = payOf (getD ws (at + 1) 0); params = at + 3; count = payOf (getD ws (at + 2) 0); head = t .head; arg = t .arg; body = t .next; past = end - 2; function = true; keeps = keeps; deffn = deffn })
     function-is {t} T keeps deffn q d = record { shows = by; named = subst (λ (x : ℕ). eqb (getD ns x 0) 1 ≡ true) (sym (found .name-is)) (found .named) }
       where
         by : (line : ℕ) (r : Tree Expr (row (sorts function))) (end′ : ℕ) → Stands ws ns n at (Stmt function line r) end′
-            → Shown ws function (record { line = payOf (getD ws at 0); name = payOf (getD ws (at + 1) 0); params = at + 3; count = payOf (getD ws (at + 2) 0); head = t .head; arg = t .arg; body = t .next; function = true; keeps = keeps; deffn = deffn }) line r
+            → Shown ws function (record { line = payOf (getD ws at 0); name = payOf (getD ws (at + 1) 0); params = at + 3; count = payOf (getD ws (at + 2) 0); head = t .head; arg = t .arg; body = t .next; past = end - 2; function = true; keeps = keeps; deffn = deffn }) line r
         by line r end′ s =
             let h = in-function line r s in
             let c = T .is ns n (h .clause) (h .next) (clause-at h) in
@@ -367,7 +379,7 @@ module _ {ws ns : List ℕ} {n at end : ℕ} (S : StmtTo ns n function ws at end
                 params = record { names = ns; strings = n; tree = h .params; end = h .mid; stands = h .params-there; counted = h .counted; are = refl };
                 head = c .0;
                 arg = c .1;
-                body = record { names = ns; strings = n; tree = h .body; end = h .past; stands = subst (λ (x : ℕ). Stands ws ns n x (h .body) (h .past)) (sym (c .2)) (h .body-there); is = refl };
+                body = record { names = ns; strings = n; tree = h .body; stands = ends-at (sym (c .2)) (sym e) (h .body-there); is = refl };
                 function = refl;
                 static = q ∙ ap (λ (x : ℕ). eqb (payOf (getD ws x 0)) 1) e ∙ h .keeps-set;
                 def-fn = d ∙ ap (λ (x : ℕ). eqb (payOf (getD ws x 0)) 1) f ∙ h .deffn-set;
@@ -386,8 +398,8 @@ pub some-proc : {ns : List ℕ} {n : ℕ} {k : Kind} {ws : List ℕ} {at : ℕ} 
 some-proc S I = let h = I .shows (S .line) (S .fields) (S .end) (S .stands) in record { proc = h .proc; of = h .of }
 
 module _ {ws : List ℕ} {r : ProcAt} (P : SomeProc ws r) where
-  pub proc-body : SomeTree (one bodySort) ws (r .body)
-  proc-body = let B = P .of .body in record { names = B .names; strings = B .strings; tree = B .tree; end = B .end; stands = B .stands }
+  pub proc-body : SomeBody ws (r .body) (r .past)
+  proc-body = record { body = P .proc .body; there = P .of .body }
 
   pub proc-params : SomeParams ws (r .params) (r .count)
   proc-params = record { params = P .proc .params; there = P .of .params }

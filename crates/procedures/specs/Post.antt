@@ -1,11 +1,12 @@
 -- What the code of SUB and FUNCTION asks and promises, piece by piece. Definitions only.
-use Prim.Native.Nat.{ℕ, _*_, _≤_, _<_}
+use Prim.Native.Nat.{ℕ, _+_, _*_, _≤_, _<_}
 use mathlib.Core.Path.{_≡_}
 use mathlib.Core.Bool.{true, not}
 use mathlib.Core.List.{List, [], _∷_}
 use mathlib.Core.Option.{some}
 use lib.Dec.{eqb}
 use lib.ListN.{length, getD}
+use Rattle.words.specs.Word.{kindOf}
 use Rattle.expr.specs.Expr.{Expr}
 use Rattle.tree.specs.Sorts.{Param as ParamRow, body as bodySort, Kind, sorts}
 use Rattle.tree.specs.Tree.{one, row, rows, Tree, Stmt, count, over}
@@ -62,14 +63,21 @@ pub record SomeParams (ws : List ℕ) (from k : ℕ) : Type 0 where
   pub params : List Param
   pub there : ParamsAt ws from k params
 
--- the body that stands at a place, as collecting sees it
-pub record BodyAt (ws : List ℕ) (at : ℕ) (b : Tree Seen (one bodySort)) : Type 0 where
+-- the body that stands from a place to another, as collecting sees it
+pub record BodyAt (ws : List ℕ) (at end : ℕ) (b : Tree Seen (one bodySort)) : Type 0 where
   pub names : List ℕ
   pub strings : ℕ
   pub tree : Tree Expr (one bodySort)
-  pub end : ℕ
   pub stands : Stands ws names strings at tree end
   pub is : over see tree ≡ b
+
+pub record SomeBody (ws : List ℕ) (at end : ℕ) : Type 0 where
+  pub body : Tree Seen (one bodySort)
+  pub there : BodyAt ws at end body
+
+-- between the two places no list stands right after the word w
+abbrev pub Quiet : List ℕ → (from to w : ℕ) → Type 0
+Quiet ws from to w = (i : ℕ) → from ≤ i → i + 1 < to → getD ws i 0 ≡ w → kindOf (getD ws (i + 1) 0) ≡ 1 → ⊥
 
 -- a procedure
 pub record ProcOf (ws : List ℕ) (r : ProcAt) (f : Proc) : Type 0 where
@@ -77,7 +85,7 @@ pub record ProcOf (ws : List ℕ) (r : ProcAt) (f : Proc) : Type 0 where
   pub params : ParamsAt ws (r .params) (r .count) (f .params)
   pub head : r .head ≡ headOf (f .ret-ty)
   pub arg : r .arg ≡ argOf (f .ret-ty)
-  pub body : BodyAt ws (r .body) (f .body)
+  pub body : BodyAt ws (r .body) (r .past) (f .body)
   pub function : r .function ≡ f .is-function
   pub static : r .keeps ≡ f .is-static
   pub def-fn : r .deffn ≡ f .def-fn

@@ -3,19 +3,22 @@ use steps::Counts;
 use subscripts::Use;
 use table::Found;
 ghost use mathlib.Core.Path.{_≡_};
+ghost use mathlib.Core.Bool.{false};
 ghost use mathlib.Core.List.{List, [], _∷_};
 ghost use mathlib.Core.Option.{Option, some};
-ghost use Prim.Native.Nat.{ℕ, _+_, _*_, _≤_, _<_};
+ghost use Prim.Native.Nat.{ℕ, _+_, _-_, _*_, _≤_, _<_};
 ghost use lib.Dec.{eqb};
-ghost use lib.ListN.{length};
-ghost use Rattle.words.specs.Word.{payOf};
+ghost use lib.ListN.{length, getD};
+ghost use Rattle.words.specs.Word.{kindOf, payOf};
+ghost use Rattle.expr.specs.Expr.{Expr};
 ghost use Rattle.tree.specs.Sorts.{Param as ParamRow, body as bodySort, sub as subKind, function as functionKind};
 ghost use Rattle.tree.specs.Tree.{one, row as rowShape, Tree};
-ghost use Rattle.tree.specs.Stands.{SomeTree};
+ghost use Rattle.tree.specs.Stands.{Stands, SomeTree};
 ghost use Rattle.views.specs.View.{TypeRef, Param, head as headIs, headOf, arg as argIs, argOf};
 ghost use Rattle.table.specs.Rows.{width, noteWidth};
 ghost use Rattle.steps.specs.State.{each, when, enter};
 ghost use Rattle.steps.specs.Held.{Fit};
+ghost use Rattle.subscripts.specs.Subscripts.{inExpr, subscriptCount};
 ghost use Rattle.subscripts.specs.Code.{useOf};
 ghost use Rattle.parts.specs.Parts.{NameAt};
 ghost use Rattle.collect.specs.Seen.{Seen};
@@ -23,7 +26,7 @@ ghost use Rattle.entries.specs.Entries.{row};
 ghost use Rattle.collect.specs.Diagnostics.{paramUndefined};
 ghost use Rattle.collect.specs.Collect.{given, paramRows, fixedLength, resultType, paramString, checkVariableLengthStrings, ranked as rankedStep, arrayParam, undefined as undefinedStep, typedParam, procedure as procedureStep};
 ghost use Rattle.collect.specs.Code.{Collects, Named};
-ghost use Rattle.procedures.specs.Post.{StmtTo, plain, ParamOf, ParamIs, ParamsAt, SomeParams, BodyAt, ProcOf, SomeProc, ProcIs, Says, Enters, Acts, definedBefore, beforeEntry, withParams, withMarks};
+ghost use Rattle.procedures.specs.Post.{StmtTo, plain, ParamOf, ParamIs, ParamsAt, SomeParams, BodyAt, SomeBody, Quiet, ProcOf, SomeProc, ProcIs, Says, Enters, Acts, definedBefore, beforeEntry, withParams, withMarks};
 
 // A parameter, as it was read: the head of its AS clause, 0 for none, and its argument; and the place past it.
 pub struct ParamAt {
@@ -35,7 +38,7 @@ pub struct ParamAt {
     pub next: usize,
 }
 
-// A procedure, as it was read: the places of its first parameter and of its body, its result's type as a parameter's, and whether it is a FUNCTION,
+// A procedure, as it was read: the places of its first parameter, of its body and past that, its result's type as a parameter's, and whether it is a FUNCTION,
 // is STATIC and so keeps its variables, and is a DEF FN.
 pub struct ProcAt {
     pub line: u32,
@@ -45,6 +48,7 @@ pub struct ProcAt {
     pub head: u32,
     pub arg: u32,
     pub body: usize,
+    pub past: usize,
     pub function: bool,
     pub keeps: bool,
     pub deffn: bool,
@@ -111,6 +115,7 @@ fn sub_at(words: &[u32], names: &[u8], n: u32, at: usize, end: usize) -> ProcAt
         head: 0,
         arg: 0,
         body: body,
+        past: end - 1,
         function: false,
         keeps: keeps,
         deffn: false,
@@ -137,6 +142,7 @@ fn function_at(words: &[u32], names: &[u8], n: u32, at: usize, end: usize) -> Pr
         head: t.head,
         arg: t.arg,
         body: t.next,
+        past: end - 2,
         function: true,
         keeps: keeps,
         deffn: deffn,
@@ -313,6 +319,46 @@ fn ranked(b: &mut [u32], s: Counts, scope: u32, line: u32, name: u32, u: Use) ->
     steps::enter(b, t, 142, name, scope, 0, 0, 0, 0)
 }
 
+// Whether a list stands there, right after the word w.
+fn follows(words: &[u32], i: usize, w: u32) -> bool
+    requires { ⌜ (0 < i) × (i < length (now words)) ⌝ }
+    ensures { λ r. ⌜ (r ≡ false → getD (now (words .entry)) (i - 1) 0 ≡ w → kindOf (getD (now (words .entry)) i 0) ≡ 1 → ⊥) ⌝ }
+{
+    if words[i - 1] != w {
+        return false;
+    }
+    words[i] / 16777216 == 1
+}
+
+// Whether one does so somewhere.
+fn listed(words: &[u32], from: usize, to: usize, w: u32) -> bool
+    requires { ⌜ (from < to) × (to ≤ length (now words)) ⌝ }
+    ensures { λ r. ⌜ (r ≡ false → Quiet (now (words .entry)) from to w) ⌝ }
+{
+    let mut i = from + 1;
+    while i < to {
+        if follows(words, i, w) {
+            return true;
+        }
+        i += 1;
+    }
+    false
+}
+
+// The first use of a name in a body. Where no list stands after the name there is none, and to see that is much less than to walk the body.
+fn used(words: &[u32], body: usize, past: usize, name: u32) -> Use
+    requires { ⌜ SomeBody (now words) body past × (name < 16777216) ⌝ }
+    ensures { λ r. ⌜ ((ns : List ℕ) (n : ℕ) (v : Tree Expr (one bodySort)) → Stands (now (words .entry)) ns n body v past → useOf r ≡ subscriptCount (λ name (e : Expr). inExpr name e) name v) ⌝ }
+{
+    if listed(words, body, past, 33554432 + name) {
+        return subscripts::subscript_count(words, body, name);
+    }
+    Use {
+        found: false,
+        count: 0,
+    }
+}
+
 // An array parameter has as many dimensions as the body subscripts it with: its declaration does not say.
 fn array_param(
     words: &[u32],
@@ -321,15 +367,16 @@ fn array_param(
     scope: u32,
     line: u32,
     body: usize,
+    past: usize,
     p: ParamAt,
 ) -> Counts
-    requires { ⌜ SomeTree (one bodySort) (now words) body × (p .name < 16777216) × (s .rows * width ≤ length (now b)) ⌝ }
-    ensures { λ r. ⌜ ((t : Tree Seen (one bodySort)) → BodyAt (now (words .entry)) body t → Enters (ParamOf p) (λ q N D. arrayParam (plain N D) scope line t q) s r (now (b .entry)) (now (b .exit))) ⌝ }
+    requires { ⌜ SomeBody (now words) body past × (p .name < 16777216) × (s .rows * width ≤ length (now b)) ⌝ }
+    ensures { λ r. ⌜ ((t : Tree Seen (one bodySort)) → BodyAt (now (words .entry)) body past t → Enters (ParamOf p) (λ q N D. arrayParam (plain N D) scope line t q) s r (now (b .entry)) (now (b .exit))) ⌝ }
 {
     if !p.array {
         return s;
     }
-    let u = subscripts::subscript_count(words, body, p.name);
+    let u = used(words, body, past, p.name);
     ranked(b, s, scope, line, p.name, u)
 }
 
@@ -341,18 +388,19 @@ fn array_params(
     scope: u32,
     line: u32,
     body: usize,
+    past: usize,
     from: usize,
     count: u32,
 ) -> Counts
-    requires { ⌜ SomeTree (one bodySort) (now words) body × SomeParams (now words) from count × (s .rows * width ≤ length (now b)) ⌝ }
-    ensures { λ r. ⌜ ((t : Tree Seen (one bodySort)) → BodyAt (now (words .entry)) body t → Enters (ParamsAt (now (words .entry)) from count) (λ ps N D. each (arrayParam (plain N D) scope line t) ps) s r (now (b .entry)) (now (b .exit))) ⌝ }
+    requires { ⌜ SomeBody (now words) body past × SomeParams (now words) from count × (s .rows * width ≤ length (now b)) ⌝ }
+    ensures { λ r. ⌜ ((t : Tree Seen (one bodySort)) → BodyAt (now (words .entry)) body past t → Enters (ParamsAt (now (words .entry)) from count) (λ ps N D. each (arrayParam (plain N D) scope line t) ps) s r (now (b .entry)) (now (b .exit))) ⌝ }
 {
     let mut c = s;
     let mut at = from;
     let mut i = 0;
     while i < count {
         let p = param(words, at);
-        c = array_param(words, b, c, scope, line, body, p);
+        c = array_param(words, b, c, scope, line, body, past, p);
         at = p.next;
         i += 1;
     }
@@ -440,7 +488,17 @@ fn procedure(
     let s2 = with_params(words, b, s1, p);
     let s3 = with_marks(b, s2, p);
     let inner = p.name + 1;
-    let s4 = array_params(words, b, s3, inner, p.line, p.body, p.params, p.count);
+    let s4 = array_params(
+        words,
+        b,
+        s3,
+        inner,
+        p.line,
+        p.body,
+        p.past,
+        p.params,
+        p.count,
+    );
     typed_params(words, b, d, s4, inner, p.line, p.params, p.count)
 }
 

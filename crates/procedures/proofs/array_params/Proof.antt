@@ -14,24 +14,23 @@ use Rattle.collect.specs.Seen.{Seen}
 use Rattle.collect.specs.Collect.{arrayParam}
 use Rattle.procedures.specs.Post.{plain, BodyAt}
 use Rattle.procedures.proofs.Walk.{Walked, walk-start, walk-place, walk-next, walk-end}
-use Rattle.procedures.proofs.Reading.{body-at}
 use Rattle.procedures.proofs.Does.{enters-next}
 use Rattle.procedures.proofs.array_params.Statement.{statement}
 use Rattle.procedures.proofs.array_params.Tie as tie
 
 abbrev Inv-loop : tie.InvT-loop
-Inv-loop words b₀ scope line body from count c₀ at₀ i₀ b c at i =
+Inv-loop words b₀ scope line body past from count c₀ at₀ i₀ b c at i =
     (length b ≡ length b₀) × (c .notes ≡ c₀ .notes) × (c .rows * width ≤ length b)
-    × ((t : Tree Seen (one bodySort)) → BodyAt words body t → Walked (λ ps. (d : List ℕ) → c₀ .notes * noteWidth ≤ length d → Does (λ N D. each (arrayParam (plain N D) scope line t) ps) c₀ c b₀ d b d) words from count at i)
+    × ((t : Tree Seen (one bodySort)) → BodyAt words body past t → Walked (λ ps. (d : List ℕ) → c₀ .notes * noteWidth ≤ length d → Does (λ N D. each (arrayParam (plain N D) scope line t) ps) c₀ c b₀ d b d) words from count at i)
 
 abbrev μ-loop : tie.MeasureT-loop
-μ-loop words b₀ scope line body from count c₀ at₀ i₀ b c at i = count - i
+μ-loop words b₀ scope line body past from count c₀ at₀ i₀ b c at i = count - i
 
 loop-holds : tie.Need-loop-holds Inv-loop μ-loop
 loop-holds c = (refl, refl, c .before .before .pre .2, λ t B. walk-start _ _ _ _ (λ d k. each-none (λ x N D. arrayParam (plain N D) (c .before .before .args .scope) (c .before .before .args .line) t x) (c .before .before .pre .2, k)))
 
 param-requires : tie.Need-param-requires Inv-loop μ-loop
-param-requires c κs = walk-place (c .before .loop .inv .3 _ (body-at (c .before .before .before .before .pre .0))) (c .loop-test .taken) (c .before .before .before .before .pre .1)
+param-requires c κs = walk-place (c .before .loop .inv .3 _ (c .before .before .before .before .pre .0 .there)) (c .loop-test .taken) (c .before .before .before .before .pre .1)
 
 array-param-requires : tie.Need-array-param-requires Inv-loop μ-loop
 array-param-requires c κs = (c .before .before .before .before .before .before .pre .0, c .before .param .ensures .name-small, c .before .before .before .loop .inv .2)
@@ -46,7 +45,7 @@ loop-again : tie.Need-loop-again Inv-loop μ-loop
 loop-again c =
     let v = c .before .before .before .before .before .before .loop .inv in
     let F = c .before .before .array-param .ensures in
-    let G = F _ (body-at (c .before .before .before .before .before .before .before .before .before .pre .0)) in
+    let G = F _ (c .before .before .before .before .before .before .before .before .before .pre .0 .there) in
     (c .before .before .array-param .kept .1 .0 ∙ v .0, G .kept ∙ v .1, G .fit, λ t B. walk-next (v .3 t B) _ (c .before .before .before .before .before .loop-test .taken) (c .before .before .before .before .param .ensures) (λ done p l o H. enters-next (λ x N D. arrayParam (plain N D) (c .before .before .before .before .before .before .before .before .before .args .scope) (c .before .before .before .before .before .before .before .before .before .args .line) t x) (v .1) (F t B) done p o H))
 
 same-length : tie.Need-same-length Inv-loop μ-loop

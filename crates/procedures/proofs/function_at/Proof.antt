@@ -65,6 +65,9 @@ flag-requires-2 c κs = search needs
 add-t16 : tie.Need-add-t16
 add-t16 c = search needs
 
+sub-t13 : tie.Need-sub-t13
+sub-t13 c = last-flags (c .before .before .before .before .before .before .before .before .before .before .before .pre) .0
+
 returns : tie.Need-returns
 returns c = function-is (c .before .before .before .before .before .before .before .before .before .before .before .pre) (c .before .before .before .before .before .past-params .ensures) (c .before .before .before .before .as-type .ensures) _ _ (c .before .before .flag .ensures) (c .flag2 .ensures)
 
@@ -92,4 +95,5 @@ function-at-spec =
     shared-slice-read-flag-2
     flag-requires-2
     add-t16
+    sub-t13
     returns)

@@ -1,7 +1,7 @@
 -- `procedure`: five steps in turn. Assumes nothing.
 use native.Mathlib.Omega.{arith}
 use mathlib.Core.Path.{_∙_}
-use Rattle.procedures.proofs.Reading.{body-at, proc-body, proc-params}
+use Rattle.procedures.proofs.Reading.{proc-body, proc-params}
 use Rattle.procedures.proofs.Does.{procedure-acts}
 use borrow.Author.Needs.{needs}
 use Rattle.procedures.proofs.procedure.Statement.{statement}
@@ -23,7 +23,7 @@ array-params-requires : tie.Need-array-params-requires
 array-params-requires c κs = (proc-body (c .before .before .before .before .before .before .before .before .before .before .before .before .before .before .before .before .before .before .before .before .pre .0), proc-params (c .before .before .before .before .before .before .before .before .before .before .before .before .before .before .before .before .before .before .before .before .pre .0), c .before .before .before .before .with-marks .ensures (c .before .before .before .before .before .before .before .before .before .before .before .before .before .before .before .before .before .before .before .before .args .words .now) .fit)
 
 typed-params-requires : tie.Need-typed-params-requires
-typed-params-requires c κs = (proc-params (c .before .before .before .before .before .before .before .before .before .before .before .before .before .before .before .before .before .before .before .before .before .before .before .before .before .pre .0), (c .before .before .before .before .array-params .ensures _ (body-at (proc-body (c .before .before .before .before .before .before .before .before .before .before .before .before .before .before .before .before .before .before .before .before .before .before .before .before .before .pre .0))) .fit, omega (arith, c .before .before .before .before .before .before .before .before .before .before .before .before .before .before .before .before .before .before-entry .ensures .fit .1, c .before .before .before .before .before .before .before .before .before .before .before .before .before .with-params .ensures .kept, c .before .before .before .before .before .before .before .before .before .with-marks .ensures (c .before .before .before .before .before .before .before .before .before .before .before .before .before .before .before .before .before .before .before .before .before .before .before .before .before .args .words .now) .kept, c .before .before .before .before .array-params .ensures _ (body-at (proc-body (c .before .before .before .before .before .before .before .before .before .before .before .before .before .before .before .before .before .before .before .before .before .before .before .before .before .pre .0))) .kept)))
+typed-params-requires c κs = (proc-params (c .before .before .before .before .before .before .before .before .before .before .before .before .before .before .before .before .before .before .before .before .before .before .before .before .before .pre .0), (c .before .before .before .before .array-params .ensures _ (proc-body (c .before .before .before .before .before .before .before .before .before .before .before .before .before .before .before .before .before .before .before .before .before .before .before .before .before .pre .0) .there) .fit, omega (arith, c .before .before .before .before .before .before .before .before .before .before .before .before .before .before .before .before .before .before-entry .ensures .fit .1, c .before .before .before .before .before .before .before .before .before .before .before .before .before .with-params .ensures .kept, c .before .before .before .before .before .before .before .before .before .with-marks .ensures (c .before .before .before .before .before .before .before .before .before .before .before .before .before .before .before .before .before .before .before .before .before .before .before .before .before .args .words .now) .kept, c .before .before .before .before .array-params .ensures _ (proc-body (c .before .before .before .before .before .before .before .before .before .before .before .before .before .before .before .before .before .before .before .before .before .before .before .before .before .pre .0) .there) .kept)))
 
 same-length : tie.Need-same-length
 same-length c = search needs

@@ -50,6 +50,9 @@ flag-requires c κs = search needs
 add-t14 : tie.Need-add-t14
 add-t14 c = search needs
 
+sub-t11 : tie.Need-sub-t11
+sub-t11 c = last-flag (c .before .before .before .before .before .before .before .before .pre) .0
+
 returns : tie.Need-returns
 returns c = sub-is (c .before .before .before .before .before .before .before .before .pre) (c .before .before .past-params .ensures) _ (c .flag .ensures)
 
@@ -72,4 +75,5 @@ sub-at-spec =
     shared-slice-read-flag
     flag-requires
     add-t14
+    sub-t11
     returns)

@@ -26,8 +26,18 @@ unfolding Past
 beyond zero k p = omega arith
 beyond (suc n) k p = past n k (beyond n k (p .0)) (p .1)
 
-pub no-row : (ls : List (List ℕ)) (r : ℕ) → Past (length ls) r → 0 ≡ pack (getD ls r [])
-no-row ls r p = sym (ap pack (List·getD-eq-default ls [] (beyond (length ls) r p)))
+-- the same, of its arms a to a + n - 1
+unfoldable pub PastFrom : ℕ → ℕ → ℕ → Type 0
+PastFrom a zero k = Unit
+PastFrom a (suc n) k = PastFrom a n k × (OneOf ((a + n) ∷ []) k → ⊥)
+
+beyond-from : (a n k : ℕ) → a ≤ k → PastFrom a n k → a + n ≤ k
+unfolding PastFrom
+beyond-from a zero k h p = omega arith
+beyond-from a (suc n) k h p = omega (arith, past (a + n) k (beyond-from a n k h (p .0)) (p .1))
+
+pub no-row : (ls : List (List ℕ)) (a n r : ℕ) → length ls ≡ a + n → a ≤ r → PastFrom a n r → 0 ≡ pack (getD ls r [])
+no-row ls a n r e h p = sym (ap pack (List·getD-eq-default ls [] (omega (arith, e, beyond-from a n r h p))))
 
 -- what the arm of row n answers
 pub arm : (ls : List (List ℕ)) (n : ℕ) {r x : ℕ} → r ≡ n → x ≡ pack (getD ls n []) → x ≡ pack (getD ls r [])

@@ -176,6 +176,17 @@ fn part(row: usize) -> u64
         17 => six(t[17]),
         18 => six(t[18]),
         19 => six(t[19]),
+        _ => later_part(row),
+    }
+}
+
+// the rows of `PARTS` from 20 on
+fn later_part(row: usize) -> u64
+    requires { ⌜ 20 ≤ row ⌝ }
+    ensures { λ r. ⌜ r ≡ pack (getD partCodes row []) ⌝ }
+{
+    let t = PARTS;
+    match row {
         20 => six(t[20]),
         21 => six(t[21]),
         22 => six(t[22]),
@@ -232,6 +243,17 @@ fn fields(kind: usize) -> u64
         24 => six(t[24]),
         25 => six(t[25]),
         26 => six(t[26]),
+        _ => later_fields(kind),
+    }
+}
+
+// the rows of `FIELDS` from 27 on
+fn later_fields(kind: usize) -> u64
+    requires { ⌜ 27 ≤ kind ⌝ }
+    ensures { λ r. ⌜ r ≡ pack (getD stmtCodes kind []) ⌝ }
+{
+    let t = FIELDS;
+    match kind {
         27 => six(t[27]),
         28 => six(t[28]),
         29 => six(t[29]),

@@ -1,6 +1,6 @@
--- `fields`: each arm's row is the definition's, by computation; past the last arm there is none. Assumes nothing.
+-- `fields`: each arm's row is the definition's, by computation; the others are `later_fields`'s. Assumes nothing.
 use Rattle.tree.specs.Codes.{stmtCodes}
-use Rattle.tree.proofs.Tables.{Past, no-row, arm}
+use Rattle.tree.proofs.Tables.{Past, beyond, arm}
 use borrow.Author.Needs.{needs}
 use Rattle.tree.proofs.fields.Statement.{statement}
 use Rattle.tree.proofs.fields.Tie as tie
@@ -167,168 +167,6 @@ array-copy-out-six-27 c = search needs
 six-requires-27 : tie.Need-six-requires-27
 six-requires-27 c κs = search needs
 
-array-copy-out-six-28 : tie.Need-array-copy-out-six-28
-array-copy-out-six-28 c = search needs
-
-six-requires-28 : tie.Need-six-requires-28
-six-requires-28 c κs = search needs
-
-array-copy-out-six-29 : tie.Need-array-copy-out-six-29
-array-copy-out-six-29 c = search needs
-
-six-requires-29 : tie.Need-six-requires-29
-six-requires-29 c κs = search needs
-
-array-copy-out-six-30 : tie.Need-array-copy-out-six-30
-array-copy-out-six-30 c = search needs
-
-six-requires-30 : tie.Need-six-requires-30
-six-requires-30 c κs = search needs
-
-array-copy-out-six-31 : tie.Need-array-copy-out-six-31
-array-copy-out-six-31 c = search needs
-
-six-requires-31 : tie.Need-six-requires-31
-six-requires-31 c κs = search needs
-
-array-copy-out-six-32 : tie.Need-array-copy-out-six-32
-array-copy-out-six-32 c = search needs
-
-six-requires-32 : tie.Need-six-requires-32
-six-requires-32 c κs = search needs
-
-array-copy-out-six-33 : tie.Need-array-copy-out-six-33
-array-copy-out-six-33 c = search needs
-
-six-requires-33 : tie.Need-six-requires-33
-six-requires-33 c κs = search needs
-
-array-copy-out-six-34 : tie.Need-array-copy-out-six-34
-array-copy-out-six-34 c = search needs
-
-six-requires-34 : tie.Need-six-requires-34
-six-requires-34 c κs = search needs
-
-array-copy-out-six-35 : tie.Need-array-copy-out-six-35
-array-copy-out-six-35 c = search needs
-
-six-requires-35 : tie.Need-six-requires-35
-six-requires-35 c κs = search needs
-
-array-copy-out-six-36 : tie.Need-array-copy-out-six-36
-array-copy-out-six-36 c = search needs
-
-six-requires-36 : tie.Need-six-requires-36
-six-requires-36 c κs = search needs
-
-array-copy-out-six-37 : tie.Need-array-copy-out-six-37
-array-copy-out-six-37 c = search needs
-
-six-requires-37 : tie.Need-six-requires-37
-six-requires-37 c κs = search needs
-
-array-copy-out-six-38 : tie.Need-array-copy-out-six-38
-array-copy-out-six-38 c = search needs
-
-six-requires-38 : tie.Need-six-requires-38
-six-requires-38 c κs = search needs
-
-array-copy-out-six-39 : tie.Need-array-copy-out-six-39
-array-copy-out-six-39 c = search needs
-
-six-requires-39 : tie.Need-six-requires-39
-six-requires-39 c κs = search needs
-
-array-copy-out-six-40 : tie.Need-array-copy-out-six-40
-array-copy-out-six-40 c = search needs
-
-six-requires-40 : tie.Need-six-requires-40
-six-requires-40 c κs = search needs
-
-array-copy-out-six-41 : tie.Need-array-copy-out-six-41
-array-copy-out-six-41 c = search needs
-
-six-requires-41 : tie.Need-six-requires-41
-six-requires-41 c κs = search needs
-
-array-copy-out-six-42 : tie.Need-array-copy-out-six-42
-array-copy-out-six-42 c = search needs
-
-six-requires-42 : tie.Need-six-requires-42
-six-requires-42 c κs = search needs
-
-array-copy-out-six-43 : tie.Need-array-copy-out-six-43
-array-copy-out-six-43 c = search needs
-
-six-requires-43 : tie.Need-six-requires-43
-six-requires-43 c κs = search needs
-
-array-copy-out-six-44 : tie.Need-array-copy-out-six-44
-array-copy-out-six-44 c = search needs
-
-six-requires-44 : tie.Need-six-requires-44
-six-requires-44 c κs = search needs
-
-array-copy-out-six-45 : tie.Need-array-copy-out-six-45
-array-copy-out-six-45 c = search needs
-
-six-requires-45 : tie.Need-six-requires-45
-six-requires-45 c κs = search needs
-
-array-copy-out-six-46 : tie.Need-array-copy-out-six-46
-array-copy-out-six-46 c = search needs
-
-six-requires-46 : tie.Need-six-requires-46
-six-requires-46 c κs = search needs
-
-array-copy-out-six-47 : tie.Need-array-copy-out-six-47
-array-copy-out-six-47 c = search needs
-
-six-requires-47 : tie.Need-six-requires-47
-six-requires-47 c κs = search needs
-
-array-copy-out-six-48 : tie.Need-array-copy-out-six-48
-array-copy-out-six-48 c = search needs
-
-six-requires-48 : tie.Need-six-requires-48
-six-requires-48 c κs = search needs
-
-array-copy-out-six-49 : tie.Need-array-copy-out-six-49
-array-copy-out-six-49 c = search needs
-
-six-requires-49 : tie.Need-six-requires-49
-six-requires-49 c κs = search needs
-
-array-copy-out-six-50 : tie.Need-array-copy-out-six-50
-array-copy-out-six-50 c = search needs
-
-six-requires-50 : tie.Need-six-requires-50
-six-requires-50 c κs = search needs
-
-array-copy-out-six-51 : tie.Need-array-copy-out-six-51
-array-copy-out-six-51 c = search needs
-
-six-requires-51 : tie.Need-six-requires-51
-six-requires-51 c κs = search needs
-
-array-copy-out-six-52 : tie.Need-array-copy-out-six-52
-array-copy-out-six-52 c = search needs
-
-six-requires-52 : tie.Need-six-requires-52
-six-requires-52 c κs = search needs
-
-array-copy-out-six-53 : tie.Need-array-copy-out-six-53
-array-copy-out-six-53 c = search needs
-
-six-requires-53 : tie.Need-six-requires-53
-six-requires-53 c κs = search needs
-
-array-copy-out-six-54 : tie.Need-array-copy-out-six-54
-array-copy-out-six-54 c = search needs
-
-six-requires-54 : tie.Need-six-requires-54
-six-requires-54 c κs = search needs
-
 returns : tie.Need-returns
 unfolding stmtCodes
 returns c = arm stmtCodes 0 (c .before .before .match .keys1) (c .six .ensures)
@@ -437,117 +275,12 @@ returns-27 : tie.Need-returns-27
 unfolding stmtCodes
 returns-27 c = arm stmtCodes 26 (c .before .before .match .keys27) (c .six27 .ensures)
 
+later-fields-requires : tie.Need-later-fields-requires
+unfolding Past
+later-fields-requires c κs = beyond 27 (c .before .args .kind) (c .match .rest)
+
 returns-28 : tie.Need-returns-28
-unfolding stmtCodes
-returns-28 c = arm stmtCodes 27 (c .before .before .match .keys28) (c .six28 .ensures)
-
-returns-29 : tie.Need-returns-29
-unfolding stmtCodes
-returns-29 c = arm stmtCodes 28 (c .before .before .match .keys29) (c .six29 .ensures)
-
-returns-30 : tie.Need-returns-30
-unfolding stmtCodes
-returns-30 c = arm stmtCodes 29 (c .before .before .match .keys30) (c .six30 .ensures)
-
-returns-31 : tie.Need-returns-31
-unfolding stmtCodes
-returns-31 c = arm stmtCodes 30 (c .before .before .match .keys31) (c .six31 .ensures)
-
-returns-32 : tie.Need-returns-32
-unfolding stmtCodes
-returns-32 c = arm stmtCodes 31 (c .before .before .match .keys32) (c .six32 .ensures)
-
-returns-33 : tie.Need-returns-33
-unfolding stmtCodes
-returns-33 c = arm stmtCodes 32 (c .before .before .match .keys33) (c .six33 .ensures)
-
-returns-34 : tie.Need-returns-34
-unfolding stmtCodes
-returns-34 c = arm stmtCodes 33 (c .before .before .match .keys34) (c .six34 .ensures)
-
-returns-35 : tie.Need-returns-35
-unfolding stmtCodes
-returns-35 c = arm stmtCodes 34 (c .before .before .match .keys35) (c .six35 .ensures)
-
-returns-36 : tie.Need-returns-36
-unfolding stmtCodes
-returns-36 c = arm stmtCodes 35 (c .before .before .match .keys36) (c .six36 .ensures)
-
-returns-37 : tie.Need-returns-37
-unfolding stmtCodes
-returns-37 c = arm stmtCodes 36 (c .before .before .match .keys37) (c .six37 .ensures)
-
-returns-38 : tie.Need-returns-38
-unfolding stmtCodes
-returns-38 c = arm stmtCodes 37 (c .before .before .match .keys38) (c .six38 .ensures)
-
-returns-39 : tie.Need-returns-39
-unfolding stmtCodes
-returns-39 c = arm stmtCodes 38 (c .before .before .match .keys39) (c .six39 .ensures)
-
-returns-40 : tie.Need-returns-40
-unfolding stmtCodes
-returns-40 c = arm stmtCodes 39 (c .before .before .match .keys40) (c .six40 .ensures)
-
-returns-41 : tie.Need-returns-41
-unfolding stmtCodes
-returns-41 c = arm stmtCodes 40 (c .before .before .match .keys41) (c .six41 .ensures)
-
-returns-42 : tie.Need-returns-42
-unfolding stmtCodes
-returns-42 c = arm stmtCodes 41 (c .before .before .match .keys42) (c .six42 .ensures)
-
-returns-43 : tie.Need-returns-43
-unfolding stmtCodes
-returns-43 c = arm stmtCodes 42 (c .before .before .match .keys43) (c .six43 .ensures)
-
-returns-44 : tie.Need-returns-44
-unfolding stmtCodes
-returns-44 c = arm stmtCodes 43 (c .before .before .match .keys44) (c .six44 .ensures)
-
-returns-45 : tie.Need-returns-45
-unfolding stmtCodes
-returns-45 c = arm stmtCodes 44 (c .before .before .match .keys45) (c .six45 .ensures)
-
-returns-46 : tie.Need-returns-46
-unfolding stmtCodes
-returns-46 c = arm stmtCodes 45 (c .before .before .match .keys46) (c .six46 .ensures)
-
-returns-47 : tie.Need-returns-47
-unfolding stmtCodes
-returns-47 c = arm stmtCodes 46 (c .before .before .match .keys47) (c .six47 .ensures)
-
-returns-48 : tie.Need-returns-48
-unfolding stmtCodes
-returns-48 c = arm stmtCodes 47 (c .before .before .match .keys48) (c .six48 .ensures)
-
-returns-49 : tie.Need-returns-49
-unfolding stmtCodes
-returns-49 c = arm stmtCodes 48 (c .before .before .match .keys49) (c .six49 .ensures)
-
-returns-50 : tie.Need-returns-50
-unfolding stmtCodes
-returns-50 c = arm stmtCodes 49 (c .before .before .match .keys50) (c .six50 .ensures)
-
-returns-51 : tie.Need-returns-51
-unfolding stmtCodes
-returns-51 c = arm stmtCodes 50 (c .before .before .match .keys51) (c .six51 .ensures)
-
-returns-52 : tie.Need-returns-52
-unfolding stmtCodes
-returns-52 c = arm stmtCodes 51 (c .before .before .match .keys52) (c .six52 .ensures)
-
-returns-53 : tie.Need-returns-53
-unfolding stmtCodes
-returns-53 c = arm stmtCodes 52 (c .before .before .match .keys53) (c .six53 .ensures)
-
-returns-54 : tie.Need-returns-54
-unfolding stmtCodes
-returns-54 c = arm stmtCodes 53 (c .before .before .match .keys54) (c .six54 .ensures)
-
-returns-55 : tie.Need-returns-55
-unfolding Past stmtCodes
-returns-55 c = no-row stmtCodes (c .before .args .kind) (c .match .rest)
+returns-28 c = c .later-fields .ensures
 
 pub fields-spec : {M : Type 1} → statement M
 fields-spec =
@@ -607,60 +340,7 @@ fields-spec =
     six-requires-26
     array-copy-out-six-27
     six-requires-27
-    array-copy-out-six-28
-    six-requires-28
-    array-copy-out-six-29
-    six-requires-29
-    array-copy-out-six-30
-    six-requires-30
-    array-copy-out-six-31
-    six-requires-31
-    array-copy-out-six-32
-    six-requires-32
-    array-copy-out-six-33
-    six-requires-33
-    array-copy-out-six-34
-    six-requires-34
-    array-copy-out-six-35
-    six-requires-35
-    array-copy-out-six-36
-    six-requires-36
-    array-copy-out-six-37
-    six-requires-37
-    array-copy-out-six-38
-    six-requires-38
-    array-copy-out-six-39
-    six-requires-39
-    array-copy-out-six-40
-    six-requires-40
-    array-copy-out-six-41
-    six-requires-41
-    array-copy-out-six-42
-    six-requires-42
-    array-copy-out-six-43
-    six-requires-43
-    array-copy-out-six-44
-    six-requires-44
-    array-copy-out-six-45
-    six-requires-45
-    array-copy-out-six-46
-    six-requires-46
-    array-copy-out-six-47
-    six-requires-47
-    array-copy-out-six-48
-    six-requires-48
-    array-copy-out-six-49
-    six-requires-49
-    array-copy-out-six-50
-    six-requires-50
-    array-copy-out-six-51
-    six-requires-51
-    array-copy-out-six-52
-    six-requires-52
-    array-copy-out-six-53
-    six-requires-53
-    array-copy-out-six-54
-    six-requires-54
+    later-fields-requires
     returns
     returns-2
     returns-3
@@ -688,31 +368,4 @@ fields-spec =
     returns-25
     returns-26
     returns-27
-    returns-28
-    returns-29
-    returns-30
-    returns-31
-    returns-32
-    returns-33
-    returns-34
-    returns-35
-    returns-36
-    returns-37
-    returns-38
-    returns-39
-    returns-40
-    returns-41
-    returns-42
-    returns-43
-    returns-44
-    returns-45
-    returns-46
-    returns-47
-    returns-48
-    returns-49
-    returns-50
-    returns-51
-    returns-52
-    returns-53
-    returns-54
-    returns-55)
+    returns-28)

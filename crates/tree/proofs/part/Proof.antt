@@ -1,6 +1,6 @@
--- `part`: each arm's row is the definition's, by computation; past the last arm there is none. Assumes nothing.
+-- `part`: each arm's row is the definition's, by computation; the others are `later_part`'s. Assumes nothing.
 use Rattle.tree.specs.Codes.{partCodes}
-use Rattle.tree.proofs.Tables.{Past, no-row, arm}
+use Rattle.tree.proofs.Tables.{Past, beyond, arm}
 use borrow.Author.Needs.{needs}
 use Rattle.tree.proofs.part.Statement.{statement}
 use Rattle.tree.proofs.part.Tie as tie
@@ -125,120 +125,6 @@ array-copy-out-six-20 c = search needs
 six-requires-20 : tie.Need-six-requires-20
 six-requires-20 c κs = search needs
 
-array-copy-out-six-21 : tie.Need-array-copy-out-six-21
-array-copy-out-six-21 c = search needs
-
-six-requires-21 : tie.Need-six-requires-21
-six-requires-21 c κs = search needs
-
-array-copy-out-six-22 : tie.Need-array-copy-out-six-22
-array-copy-out-six-22 c = search needs
-
-six-requires-22 : tie.Need-six-requires-22
-six-requires-22 c κs = search needs
-
-array-copy-out-six-23 : tie.Need-array-copy-out-six-23
-array-copy-out-six-23 c = search needs
-
-six-requires-23 : tie.Need-six-requires-23
-six-requires-23 c κs = search needs
-
-array-copy-out-six-24 : tie.Need-array-copy-out-six-24
-array-copy-out-six-24 c = search needs
-
-six-requires-24 : tie.Need-six-requires-24
-six-requires-24 c κs = search needs
-
-array-copy-out-six-25 : tie.Need-array-copy-out-six-25
-array-copy-out-six-25 c = search needs
-
-six-requires-25 : tie.Need-six-requires-25
-six-requires-25 c κs = search needs
-
-array-copy-out-six-26 : tie.Need-array-copy-out-six-26
-array-copy-out-six-26 c = search needs
-
-six-requires-26 : tie.Need-six-requires-26
-six-requires-26 c κs = search needs
-
-array-copy-out-six-27 : tie.Need-array-copy-out-six-27
-array-copy-out-six-27 c = search needs
-
-six-requires-27 : tie.Need-six-requires-27
-six-requires-27 c κs = search needs
-
-array-copy-out-six-28 : tie.Need-array-copy-out-six-28
-array-copy-out-six-28 c = search needs
-
-six-requires-28 : tie.Need-six-requires-28
-six-requires-28 c κs = search needs
-
-array-copy-out-six-29 : tie.Need-array-copy-out-six-29
-array-copy-out-six-29 c = search needs
-
-six-requires-29 : tie.Need-six-requires-29
-six-requires-29 c κs = search needs
-
-array-copy-out-six-30 : tie.Need-array-copy-out-six-30
-array-copy-out-six-30 c = search needs
-
-six-requires-30 : tie.Need-six-requires-30
-six-requires-30 c κs = search needs
-
-array-copy-out-six-31 : tie.Need-array-copy-out-six-31
-array-copy-out-six-31 c = search needs
-
-six-requires-31 : tie.Need-six-requires-31
-six-requires-31 c κs = search needs
-
-array-copy-out-six-32 : tie.Need-array-copy-out-six-32
-array-copy-out-six-32 c = search needs
-
-six-requires-32 : tie.Need-six-requires-32
-six-requires-32 c κs = search needs
-
-array-copy-out-six-33 : tie.Need-array-copy-out-six-33
-array-copy-out-six-33 c = search needs
-
-six-requires-33 : tie.Need-six-requires-33
-six-requires-33 c κs = search needs
-
-array-copy-out-six-34 : tie.Need-array-copy-out-six-34
-array-copy-out-six-34 c = search needs
-
-six-requires-34 : tie.Need-six-requires-34
-six-requires-34 c κs = search needs
-
-array-copy-out-six-35 : tie.Need-array-copy-out-six-35
-array-copy-out-six-35 c = search needs
-
-six-requires-35 : tie.Need-six-requires-35
-six-requires-35 c κs = search needs
-
-array-copy-out-six-36 : tie.Need-array-copy-out-six-36
-array-copy-out-six-36 c = search needs
-
-six-requires-36 : tie.Need-six-requires-36
-six-requires-36 c κs = search needs
-
-array-copy-out-six-37 : tie.Need-array-copy-out-six-37
-array-copy-out-six-37 c = search needs
-
-six-requires-37 : tie.Need-six-requires-37
-six-requires-37 c κs = search needs
-
-array-copy-out-six-38 : tie.Need-array-copy-out-six-38
-array-copy-out-six-38 c = search needs
-
-six-requires-38 : tie.Need-six-requires-38
-six-requires-38 c κs = search needs
-
-array-copy-out-six-39 : tie.Need-array-copy-out-six-39
-array-copy-out-six-39 c = search needs
-
-six-requires-39 : tie.Need-six-requires-39
-six-requires-39 c κs = search needs
-
 returns : tie.Need-returns
 unfolding partCodes
 returns c = arm partCodes 0 (c .before .before .match .keys1) (c .six .ensures)
@@ -319,85 +205,12 @@ returns-20 : tie.Need-returns-20
 unfolding partCodes
 returns-20 c = arm partCodes 19 (c .before .before .match .keys20) (c .six20 .ensures)
 
+later-part-requires : tie.Need-later-part-requires
+unfolding Past
+later-part-requires c κs = beyond 20 (c .before .args .row) (c .match .rest)
+
 returns-21 : tie.Need-returns-21
-unfolding partCodes
-returns-21 c = arm partCodes 20 (c .before .before .match .keys21) (c .six21 .ensures)
-
-returns-22 : tie.Need-returns-22
-unfolding partCodes
-returns-22 c = arm partCodes 21 (c .before .before .match .keys22) (c .six22 .ensures)
-
-returns-23 : tie.Need-returns-23
-unfolding partCodes
-returns-23 c = arm partCodes 22 (c .before .before .match .keys23) (c .six23 .ensures)
-
-returns-24 : tie.Need-returns-24
-unfolding partCodes
-returns-24 c = arm partCodes 23 (c .before .before .match .keys24) (c .six24 .ensures)
-
-returns-25 : tie.Need-returns-25
-unfolding partCodes
-returns-25 c = arm partCodes 24 (c .before .before .match .keys25) (c .six25 .ensures)
-
-returns-26 : tie.Need-returns-26
-unfolding partCodes
-returns-26 c = arm partCodes 25 (c .before .before .match .keys26) (c .six26 .ensures)
-
-returns-27 : tie.Need-returns-27
-unfolding partCodes
-returns-27 c = arm partCodes 26 (c .before .before .match .keys27) (c .six27 .ensures)
-
-returns-28 : tie.Need-returns-28
-unfolding partCodes
-returns-28 c = arm partCodes 27 (c .before .before .match .keys28) (c .six28 .ensures)
-
-returns-29 : tie.Need-returns-29
-unfolding partCodes
-returns-29 c = arm partCodes 28 (c .before .before .match .keys29) (c .six29 .ensures)
-
-returns-30 : tie.Need-returns-30
-unfolding partCodes
-returns-30 c = arm partCodes 29 (c .before .before .match .keys30) (c .six30 .ensures)
-
-returns-31 : tie.Need-returns-31
-unfolding partCodes
-returns-31 c = arm partCodes 30 (c .before .before .match .keys31) (c .six31 .ensures)
-
-returns-32 : tie.Need-returns-32
-unfolding partCodes
-returns-32 c = arm partCodes 31 (c .before .before .match .keys32) (c .six32 .ensures)
-
-returns-33 : tie.Need-returns-33
-unfolding partCodes
-returns-33 c = arm partCodes 32 (c .before .before .match .keys33) (c .six33 .ensures)
-
-returns-34 : tie.Need-returns-34
-unfolding partCodes
-returns-34 c = arm partCodes 33 (c .before .before .match .keys34) (c .six34 .ensures)
-
-returns-35 : tie.Need-returns-35
-unfolding partCodes
-returns-35 c = arm partCodes 34 (c .before .before .match .keys35) (c .six35 .ensures)
-
-returns-36 : tie.Need-returns-36
-unfolding partCodes
-returns-36 c = arm partCodes 35 (c .before .before .match .keys36) (c .six36 .ensures)
-
-returns-37 : tie.Need-returns-37
-unfolding partCodes
-returns-37 c = arm partCodes 36 (c .before .before .match .keys37) (c .six37 .ensures)
-
-returns-38 : tie.Need-returns-38
-unfolding partCodes
-returns-38 c = arm partCodes 37 (c .before .before .match .keys38) (c .six38 .ensures)
-
-returns-39 : tie.Need-returns-39
-unfolding partCodes
-returns-39 c = arm partCodes 38 (c .before .before .match .keys39) (c .six39 .ensures)
-
-returns-40 : tie.Need-returns-40
-unfolding Past partCodes
-returns-40 c = no-row partCodes (c .before .args .row) (c .match .rest)
+returns-21 c = c .later-part .ensures
 
 pub part-spec : {M : Type 1} → statement M
 part-spec =
@@ -443,44 +256,7 @@ part-spec =
     six-requires-19
     array-copy-out-six-20
     six-requires-20
-    array-copy-out-six-21
-    six-requires-21
-    array-copy-out-six-22
-    six-requires-22
-    array-copy-out-six-23
-    six-requires-23
-    array-copy-out-six-24
-    six-requires-24
-    array-copy-out-six-25
-    six-requires-25
-    array-copy-out-six-26
-    six-requires-26
-    array-copy-out-six-27
-    six-requires-27
-    array-copy-out-six-28
-    six-requires-28
-    array-copy-out-six-29
-    six-requires-29
-    array-copy-out-six-30
-    six-requires-30
-    array-copy-out-six-31
-    six-requires-31
-    array-copy-out-six-32
-    six-requires-32
-    array-copy-out-six-33
-    six-requires-33
-    array-copy-out-six-34
-    six-requires-34
-    array-copy-out-six-35
-    six-requires-35
-    array-copy-out-six-36
-    six-requires-36
-    array-copy-out-six-37
-    six-requires-37
-    array-copy-out-six-38
-    six-requires-38
-    array-copy-out-six-39
-    six-requires-39
+    later-part-requires
     returns
     returns-2
     returns-3
@@ -501,23 +277,4 @@ part-spec =
     returns-18
     returns-19
     returns-20
-    returns-21
-    returns-22
-    returns-23
-    returns-24
-    returns-25
-    returns-26
-    returns-27
-    returns-28
-    returns-29
-    returns-30
-    returns-31
-    returns-32
-    returns-33
-    returns-34
-    returns-35
-    returns-36
-    returns-37
-    returns-38
-    returns-39
-    returns-40)
+    returns-21)

@@ -12,17 +12,13 @@ use lib.Seq.{getD-set-same, getD-set-other}
 use lib.Dec.{ltb, eqb}
 use Rattle.words.specs.Word.{pick}
 use borrow.Author.Tests.{lt-ltb, ltb-true, ltb-false, eq-eqb, ne-eqb}
-use types.Run.{OneOf}
-use denote.Enum.Declared.{tagOf}
-use Rattle.expr.proofs.Step.{the-type}
 use Rattle.expr.specs.Answer.{stepOf, then}
 use Rattle.expr.specs.declared.Cursor.{Cursor}
 use Rattle.expr.specs.declared.Step.{Step}
 use Rattle.expr.specs.declared.Step.the-variants.{Read, Wrong, Deep}
-use Rattle.expr.proofs.Steps.{halt}
 use Rattle.tree.specs.Sorts.{Sort, never, group, opt, Sorts, nil, _&_}
 use Rattle.tree.specs.Codes.{codes, pack, rowOf, singles, sortAt, unpack, sortsOf}
-use Rattle.tree.specs.Frames.{failedOf, restOf, againOf, height, Opens, over, more, fieldStep, frameAt, Goes, past, into, refused, deep as low, Turned, goes, same}
+use Rattle.tree.specs.Frames.{failedOf, toldOf, restOf, againOf, height, Opens, over, more, fieldStep, frameAt, Goes, past, into, refused, deep as low, Turned, goes, same}
 use Rattle.tree.specs.declared.Frame.{Frame}
 use Rattle.tree.specs.declared.Turn.{Turn}
 use Rattle.tree.proofs.Steps.{then-read, sizeS, sizeR, size-none, size-pos, size-cons, size-many, size-group, size-opt, small-row, sort-opt, sort-many, sort-group}
@@ -139,13 +135,26 @@ into-less k (goes (refused e)) = absurd (omega arith)
 into-less k (goes (low e)) = absurd (omega arith)
 into-less {left = left} {at = at} {s = s} k (same {r} q e) = omega (arith, size-same s r left q)
 
-failed-is : {ws ns : List ℕ} {n left at : ℕ} {s : Sort} {t : Turn} → (t .kind ≡ 0 → ⊥) → (t .kind ≡ 1 → ⊥) → Turned ws ns n left at s t → fieldStep ws ns n left s at ≡ failedOf t
+pub failed-is : {ws ns : List ℕ} {n left at : ℕ} {s : Sort} {t : Turn} → (t .kind ≡ 0 → ⊥) → (t .kind ≡ 1 → ⊥) → Turned ws ns n left at s t → fieldStep ws ns n left s at ≡ failedOf t
 unfolding failedOf
 failed-is j k (goes (past e)) = absurd (j refl)
 failed-is j k (goes (into e a b c d)) = absurd (k refl)
 failed-is j k (goes (refused e)) = e
 failed-is j k (goes (low e)) = e
 failed-is j k (same r e) = absurd (k refl)
+
+-- what the turn that a call's answer is says of the answer
+pub told-past : (s : Step) {t : Turn} → t ≡ toldOf s → t .kind ≡ 0 → s ≡ Read (record { at = t .at })
+unfolding toldOf
+told-past (Read c) e k = ap (λ (u : Turn). Read (record { at = u .at })) (sym e)
+told-past (Wrong p) e k = absurd (omega (arith, ap (λ (u : Turn). u .kind) e))
+told-past (Deep p) e k = absurd (omega (arith, ap (λ (u : Turn). u .kind) e))
+
+pub told-failed : (s : Step) {t : Turn} → t ≡ toldOf s → (t .kind ≡ 0 → ⊥) → s ≡ failedOf t
+unfolding toldOf failedOf
+told-failed (Read c) e k = absurd (k (ap (λ (u : Turn). u .kind) e))
+told-failed (Wrong p) e k = ap failedOf (sym e)
+told-failed (Deep p) e k = ap failedOf (sym e)
 
 pub failed-2 : (t : Turn) → t .kind ≡ 2 → Wrong (t .at) ≡ failedOf t
 unfolding failedOf
@@ -255,12 +264,8 @@ module _ (ws ns : List ℕ) (n : ℕ) where
           less = omega (arith, size-next f z, field-after ws ns n (f .left) (sortAt (f .fields % 256)) at e);
         }
 
-    pub stops : {t : Turn} → (f .fields ≡ 0 → ⊥) → (t .kind ≡ 0 → ⊥) → (t .kind ≡ 1 → ⊥) → Turned ws ns n (f .left) at (sortAt (f .fields % 256)) t → whole g sp f at ≡ failedOf t
-    stops {t} z j k h = next-field z ∙ ap (λ (s : Step). then s (λ m. whole g sp (restOf f) m)) (failed-is j k h) ∙ then-failed t _
-
-    -- a frame that was read by a call
-    pub stops-inner : {s : Step} → (f .fields ≡ 0 → ⊥) → s ≡ fieldStep ws ns n (f .left) (sortAt (f .fields % 256)) at → OneOf (1 ∷ 2 ∷ []) (tagOf the-type s) → s ≡ whole g sp f at
-    stops-inner z e t = halt _ e t ∙ sym (next-field z)
+    pub stops : (t : Turn) → (f .fields ≡ 0 → ⊥) → fieldStep ws ns n (f .left) (sortAt (f .fields % 256)) at ≡ failedOf t → failedOf t ≡ whole g sp f at
+    stops t z e = sym (next-field z ∙ ap (λ (s : Step). then s (λ m. whole g sp (restOf f) m)) e ∙ then-failed t _)
 
     -- a frame is entered: what is left of the one in hand goes onto the stack, if that is anything
     pub goes-into : (g′ : ℕ → Frame) (r : Frame) (o m : ℕ) (f′ : Frame) → (f .fields ≡ 0 → ⊥) → fieldStep ws ns n (f .left) (sortAt (f .fields % 256)) at ≡ frameAt ws ns n f′ m → (length ws - m) * 1099511627776 + sizeF f′ ≤ (length ws - at) * 1099511627776 + sizeS (sortAt (f .fields % 256)) → r ≡ restOf f → Opens r o → ((i : ℕ) → i < sp → g′ i ≡ g i) → g′ sp ≡ r → Next g sp f at g′ (sp + o) f′ m

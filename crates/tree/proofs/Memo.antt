@@ -1,4 +1,4 @@
--- What a memo of ends recalls is right, and it stays right with one end more. Assumes nothing.
+-- What a memo of ends recalls is right, and it stays right with one end more; what is known of a field that was read. Assumes nothing.
 use Prim.Native.Nat.{ℕ, _+_, _*_, _<_, _≤_}
 use mathlib.Core.Path.{_≡_, refl, sym, ap, subst, _∙_}
 use mathlib.Core.List.{List}
@@ -17,10 +17,13 @@ use Rattle.tree.specs.Tree.{one, Tree, depthT}
 use Rattle.tree.specs.Stands.{Stands}
 use Rattle.tree.specs.Reader.{stmtAt, fieldAt}
 use Rattle.tree.specs.Codes.{sortAt}
-use Rattle.tree.specs.Frames.{fieldStep}
+use Rattle.tree.specs.Frames.{failedOf, toldOf, fieldStep, frameAt, Turned}
+use Rattle.tree.specs.declared.Frame.{Frame}
+use Rattle.tree.specs.declared.Turn.{Turn}
 use Rattle.tree.specs.Memo.{Remembers, EndsAt, Recalled, Remembered, Noted, Keeps, Past}
 use Rattle.tree.proofs.Steps.{is-10, stmt-arm}
 use Rattle.tree.proofs.Sound.{stmt-sound}
+use Rattle.tree.proofs.Machine.{past-is, into-is, failed-is, told-past, told-failed, copied}
 use Rattle.tree.proofs.Complete.{clear, completes, one-tree}
 
 pub recalled-none : {memo : List ℕ} {at : ℕ} → Recalled memo at 0
@@ -88,8 +91,10 @@ keeps-none = record { gives = λ R. R }
 pub keeps-noted : {ws ns : List ℕ} {n sort at end : ℕ} {first before inner after : List ℕ} → Keeps ws ns n first before → Keeps ws ns n before inner → Noted sort inner at end after → (sort ≡ 10 → EndsAt ws ns n at end) → Keeps ws ns n first after
 keeps-noted {ws} {ns} {n} p q m E = record { gives = λ R. m .gives ws ns n (q .gives (p .gives R)) E }
 
-pub keeps-then : {ws ns : List ℕ} {n : ℕ} {first before after : List ℕ} → Keeps ws ns n first before → Keeps ws ns n before after → Keeps ws ns n first after
-keeps-then p q = record { gives = λ R. q .gives (p .gives R) }
+-- noted where the turn is past the field, else as it was
+pub keeps-told : {ws ns : List ℕ} {n sort at : ℕ} {first before inner after : List ℕ} (t : Turn) → Keeps ws ns n first before → Keeps ws ns n before inner → (t .kind ≡ 0 → Noted sort inner at (t .at) after) × ((t .kind ≡ 0 → ⊥) → after ≡ inner) → (t .kind ≡ 0 → sort ≡ 10 → EndsAt ws ns n at (t .at)) → Keeps ws ns n first after
+keeps-told {ws} {ns} {n} {sort} {at} {first} {before} {inner} {after} t p q m E =
+    elim (native.Mathlib.Decide.ℕ-discrete (t .kind) 0) [ yes k ↦ keeps-noted p q (m .0 k) (E k) | no k ↦ record { gives = λ R. subst (λ (x : List ℕ). Remembers ws ns n x) (sym (m .1 k)) (q .gives (p .gives R)) } ]
 
 -- the memo in the loop: as long as at first, and right if it was
 pub record Memo (ws ns : List ℕ) (n : ℕ) (first memo : List ℕ) : Type 0 where
@@ -98,6 +103,29 @@ pub record Memo (ws ns : List ℕ) (n : ℕ) (first memo : List ℕ) : Type 0 wh
 
 pub memo-first : {ws ns : List ℕ} {n : ℕ} {memo : List ℕ} → Memo ws ns n memo memo
 memo-first = record { same = refl; keeps = keeps-none }
+
+-- ---- a field that was read, by its own words or by a call: what its turn says, and the memo
+
+pub record Settled (ws ns : List ℕ) (n left at sort : ℕ) (first memo : List ℕ) (t : Turn) : Type 0 where
+  pub reads : t .kind ≡ 0 → fieldStep ws ns n left (sortAt sort) at ≡ Read (record { at = t .at })
+  pub stops : (t .kind ≡ 0 → ⊥) → fieldStep ws ns n left (sortAt sort) at ≡ failedOf t
+  pub kept : Memo ws ns n first memo
+
+pub settled-same : {ws ns : List ℕ} {n left at sort : ℕ} {first memo memo′ : List ℕ} {t t′ : Turn} → memo′ ≡ memo → t′ ≡ t → Settled ws ns n left at sort first memo t → Settled ws ns n left at sort first memo′ t′
+settled-same {ws} {ns} {n} {left} {at} {sort} {first} {memo} {memo′} {t} {t′} p q h =
+    subst (λ (m : List ℕ). Settled ws ns n left at sort first m t′) (sym p) (subst (λ (u : Turn). Settled ws ns n left at sort first memo u) (sym q) h)
+
+pub settled-look : {ws ns : List ℕ} {n left at sort : ℕ} {first memo : List ℕ} {t : Turn} → (t .kind ≡ 1 → ⊥) → Turned ws ns n left at (sortAt sort) t → Memo ws ns n first memo → Settled ws ns n left at sort first memo t
+settled-look k x m = record { reads = λ h. past-is h x; stops = λ h. failed-is h k x; kept = m }
+
+pub settled-call : {ws ns : List ℕ} {n left at sort : ℕ} {first before inner after : List ℕ} {f : Frame} {s : Step} {u t : Turn} → u .kind ≡ 1 → Turned ws ns n left at (sortAt sort) u → s ≡ frameAt ws ns n f (u .at) → f ≡ u .frame → t ≡ toldOf s → Memo ws ns n first before → Keeps ws ns n before inner → length inner ≡ length before → (t .kind ≡ 0 → Noted sort inner at (t .at) after) × ((t .kind ≡ 0 → ⊥) → after ≡ inner) → length after ≡ length inner → Settled ws ns n left at sort first after t
+settled-call {ws} {ns} {n} {left} {at} {sort} {s = s} {u = u} {t = t} k x e q g m p l d r =
+    let z : fieldStep ws ns n left (sortAt sort) at ≡ s = into-is k x ∙ sym (copied ws ns n (u .at) e q) in
+    record {
+      reads = λ h. z ∙ told-past s g h;
+      stops = λ h. z ∙ told-failed s g h;
+      kept = record { same = r ∙ l ∙ m .same; keeps = keeps-told t (m .keeps) p d (λ h. field-ends ws ns n left at sort (z ∙ told-past s g h)) };
+    }
 
 -- ---- the end of a statement
 

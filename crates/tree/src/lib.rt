@@ -728,28 +728,23 @@ fn run(words: &[u32], names: &[u8], n: u32, f: Frame, from: usize, memo: &mut [u
             continue;
         }
         let sort = (cur.fields % 256) as u8;
-        let t = look(Cursor { at }, words, names, n, cur.left, sort);
+        let mut t = look(Cursor { at }, words, names, n, cur.left, sort);
         cur = rest(cur);
-        if t.kind == 0 {
-            at = t.at;
-            continue;
+        if t.kind == 1 {
+            if sp < room(sort, t.frame.row) {
+                stack[sp] = cur;
+                sp += remains(cur);
+                at = t.at;
+                cur = t.frame;
+                continue;
+            }
+            t = told(run(words, names, n, copy(t.frame), t.at, memo));
+            noted(memo, sort, at, t);
         }
-        if t.kind != 1 {
+        if t.kind != 0 {
             return failed(t);
         }
-        if sp < room(sort, t.frame.row) {
-            stack[sp] = cur;
-            sp += remains(cur);
-            at = t.at;
-            cur = t.frame;
-            continue;
-        }
-        let s = run(words, names, n, copy(t.frame), t.at, memo);
-        let Step::Read(d) = s else {
-            return s;
-        };
-        note(memo, sort, at, d.at);
-        at = d.at;
+        at = t.at;
     }
 }
 
@@ -846,6 +841,15 @@ fn note(memo: &mut [u32], sort: u8, at: usize, end: usize)
 {
     if sort == 10 {
         remember(memo, at, end);
+    }
+}
+
+// The same by a field's turn: the end is noted where that is past the whole field.
+fn noted(memo: &mut [u32], sort: u8, at: usize, t: Turn)
+    ensures { λ r. ⌜ (t .kind ≡ 0 → Noted sort (now (memo .entry)) at (t .at) (now (memo .exit))) × ((t .kind ≡ 0 → ⊥) → now (memo .exit) ≡ now (memo .entry)) ⌝ }
+{
+    if t.kind == 0 {
+        note(memo, sort, at, t.at);
     }
 }
 

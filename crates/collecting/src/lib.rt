@@ -2,14 +2,14 @@
 // every statement's head in that order.
 use steps::Counts;
 ghost use mathlib.Core.Path.{_≡_};
-ghost use Prim.Native.Nat.{ℕ};
+ghost use Prim.Native.Nat.{ℕ, _<_};
 ghost use mathlib.Core.List.{List};
 ghost use lib.ListN.{length, getD};
 ghost use Rattle.words.specs.Word.{kindOf};
 ghost use Rattle.tree.specs.Sorts.{stmt as stmtSort};
 ghost use Rattle.tree.specs.Tree.{one};
 ghost use Rattle.tree.specs.Memo.{Remembers};
-ghost use Rattle.collecting.specs.Walk.{Ready, Alone, ReadyProcedure, ReadyWhole, Scanning, Scanned, Stated, Collects};
+ghost use Rattle.collecting.specs.Walk.{Ready, Alone, ReadyProcedure, ReadyWhole, Scanning, Scanned, Stated, Collects, Takes, Doing, SomeItems, Passes};
 
 // The counts, and the place past what was walked.
 pub struct Moved {
@@ -69,6 +69,50 @@ fn procedure(
     procedures::function(words, names, bytes, ends, b, d, s, scope, at, end)
 }
 
+// The words of what stands there, a literal with its raw words; none of a statement that may do something.
+fn quiet(k: u32) -> usize
+    ensures { λ r. ⌜ Takes k r ⌝ }
+{
+    match k {
+        24 | 25 => 2,
+        26 | 27 => 3,
+        64 | 65 | 79 | 81..=85 | 89 | 92 | 93 => 0,
+        _ => 1,
+    }
+}
+
+// Past the leaves, which are most of the words.
+fn leaves(words: &[u32], from: usize, to: usize) -> usize
+    requires { ⌜ SomeItems (now words) from to ⌝ }
+    ensures { λ r. ⌜ Passes (now (words .entry)) from r to ⌝ }
+{
+    let mut at = from;
+    while at < to {
+        if 24 <= words[at] / 16777216 {
+            return at;
+        }
+        at += 1;
+    }
+    at
+}
+
+// The next statement that may do something, or `to`: no other word says anything.
+fn ahead(words: &[u32], from: usize, to: usize) -> usize
+    requires { ⌜ SomeItems (now words) from to ⌝ }
+    ensures passes { λ r. ⌜ Passes (now (words .entry)) from r to ⌝ }
+    ensures doing { λ r. ⌜ (r < to → Doing (kindOf (getD (now (words .entry)) r 0))) ⌝ }
+{
+    let mut at = leaves(words, from, to);
+    while at < to {
+        let n = quiet(words[at] / 16777216);
+        if n == 0 {
+            return at;
+        }
+        at = leaves(words, at + n, to);
+    }
+    at
+}
+
 // All statements of the words from one place to another, by one scan: a literal's raw words are passed over, and a procedure's body is scanned in its own scope.
 fn scan(
     words: &[u32],
@@ -88,11 +132,9 @@ fn scan(
     ensures { λ r. ⌜ Scanned (now (words .entry)) (now (names .entry)) (now (bytes .entry)) (now (ends .entry)) (now (erased .entry)) scope from to s r (now (b .entry)) (now (d .entry)) (now (b .exit)) (now (d .exit)) ⌝ }
 {
     let mut t = s;
-    let mut at = from;
+    let mut at = ahead(words, from, to);
     while at < to {
         match words[at] / 16777216 {
-            24 | 25 => at += 2,
-            26 | 27 => at += 3,
             84 | 85 => {
                 let e = tree::past(words, names, ends.len() as u32, memo, at);
                 let inner = plans::inside(words, at, scope);
@@ -111,13 +153,12 @@ fn scan(
                     e,
                     memo,
                 );
-                at = e;
+                at = ahead(words, e, to);
             }
-            64..=93 => {
+            _ => {
                 t = statement(words, names, bytes, ends, erased, b, d, t, scope, at);
-                at += 1;
+                at = ahead(words, at + 1, to);
             }
-            _ => at += 1,
         }
     }
     t

@@ -3,3 +3,4 @@ pub mod Heads
 pub mod Match
 pub mod Passing
 pub mod Walk
+pub mod Aside

@@ -14,7 +14,7 @@ use Rattle.tree.specs.Memo.{Remembers}
 use Rattle.tree.proofs.Complete.{clear, clearR, one-tree}
 use Rattle.views.specs.View.{view, inner, walk}
 use Rattle.consteval.specs.EvalLaws.{Words32}
-use Rattle.steps.specs.State.{State, Step, _⨾_, nothing, each}
+use Rattle.steps.specs.State.{_⨾_, nothing, each}
 use Rattle.steps.specs.Held.{Does}
 use Rattle.steps.specs.Compose.{nothing-does, same, then}
 use Rattle.steps.specs.declared.Counts.{Counts}
@@ -28,23 +28,11 @@ use Rattle.plans.proofs.Walk.{head-kind, fields, to-some}
 use Rattle.plans.proofs.Front.{StmtAt, at-stmt, at-end, items-tree, items-inside, quiet-body, quiet-kind}
 use Rattle.lawful.specs.Views.{stands-known, Scope, inner-scope, view-fine}
 use Rattle.lawful.specs.Lawful.{statement-good}
-use Rattle.collecting.specs.Walk.{Kept, Ready, Alone, ReadyProcedure, ReadyWhole, Scanning, Scanned, Doing, SomeItems, Passes, piece, Stated, Collects}
+use Rattle.collecting.specs.Walk.{Kept, Ready, Alone, ReadyProcedure, ReadyWhole, Scanning, Scanned, Left, SoFar, Doing, SomeItems, Passes, piece, Stated, Collects}
+use Rattle.collecting.specs.Aside.{Numbered}
 use Rattle.collecting.proofs.Passing.{opened, closed, alone}
 
 -- ---- how far the scan is
-
--- of the items xs some are left, which stand at `at`; what was done, and then these, make all of xs
-pub record Left (ws ns bytes ends erased : List ℕ) (scope at to : ℕ) (xs : List Item) (s t : Counts) (b d b′ d′ : List ℕ) : Type 0 where
-  pub items : List Item
-  pub there : StandsAll ws ns (length ends) 100 at items to
-  pub before : ℕ → ℕ → Step
-  pub does : Does before s t b d b′ d′
-  pub rest : (N D : ℕ) (st : State) → each (piece (given (some N) (some D) bytes ends erased) scope) (outerIs items) (before N D st) ≡ each (piece (given (some N) (some D) bytes ends erased) scope) (outerIs xs) st
-
-pub record SoFar (ws ns bytes ends erased : List ℕ) (scope from at to : ℕ) (s t : Counts) (b d b′ d′ : List ℕ) : Type 0 where
-  pub ahead : from ≤ at
-  pub left : (xs : List Item) → StandsAll ws ns (length ends) 100 from xs to → Left ws ns bytes ends erased scope at to xs s t b d b′ d′
-  pub kept : Kept ns (length ends) t b′ d′
 
 pub scan-start : {ws ns bytes ends erased : List ℕ} {scope from to : ℕ} {s : Counts} {b d : List ℕ} → Scanning ws ns bytes ends scope from to s b d → SoFar ws ns bytes ends erased scope from from to s s b d b d
 scan-start R = record { ahead = omega arith; left = λ xs h. record { items = xs; there = h; before = λ N D. nothing; does = nothing-does (R .kept .fit); rest = λ N D st. refl }; kept = R .kept }
@@ -135,6 +123,29 @@ module _ {ws ns bytes ends erased : List ℕ} {scope from at to : ℕ} {s t : Co
 
   pub scan-some : Scanning ws ns bytes ends scope from to s b d → SomeItems ws at to
   scan-some R = let L = w .left (R .items) (R .there) in record { names = ns; strings = length ends; items = L .items; there = L .there }
+
+  -- what is left to scan
+  scan-rest : Scanning ws ns bytes ends scope from to s b d → Scanning ws ns bytes ends scope at to t b′ d′
+  scan-rest R = let L = w .left (R .items) (R .there) in record { items = L .items; there = L .there; around = R .around; kept = w .kept }
+
+  -- on, by what others did
+  scan-then : {a : ℕ} {r : Counts} {b″ d″ : List ℕ} → SoFar ws ns bytes ends erased scope at a to t r b′ d′ b″ d″ → SoFar ws ns bytes ends erased scope from a to s r b d b″ d″
+  scan-then v = record {
+    ahead = omega (arith, w .ahead, v .ahead);
+    left = λ xs h.
+        let L = w .left xs h in
+        let M = v .left (L .items) (L .there) in
+        record { items = M .items; there = M .there; before = λ N D. L .before N D ⨾ M .before N D; does = then (L .does) (M .does); rest = λ N D st. M .rest N D (L .before N D st) ∙ L .rest N D st };
+    kept = v .kept;
+  }
+
+  -- line numbers that were merged in
+  module _ (R : Scanning ws ns bytes ends scope from to s b d) {a : ℕ} {r : Counts} {b″ : List ℕ} (n : Numbered ws scope at a to t r b′ b″) where
+    pub scan-numbers : SoFar ws ns bytes ends erased scope from a to s r b d b″ d′
+    scan-numbers = scan-then (n .all ns bytes ends erased d′ (scan-rest R))
+
+    pub numbers-ahead : at ≤ a
+    numbers-ahead = n .all ns bytes ends erased d′ (scan-rest R) .ahead
 
 module _ {ws ns bytes ends erased : List ℕ} {scope from at to : ℕ} {s t : Counts} {b d b′ d′ : List ℕ} (w : SoFar ws ns bytes ends erased scope from at to s t b d b′ d′) (z : at < to) where
   pub scan-stmt : {r : Counts} {b″ d″ : List ℕ} → Alone (kindOf (getD ws at 0)) → Stated ws ns (length ends) bytes ends erased scope at t r b′ d′ b″ d″ → Kept ns (length ends) r b″ d″ → SoFar ws ns bytes ends erased scope from (at + 1) to s r b d b″ d″

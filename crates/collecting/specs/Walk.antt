@@ -131,6 +131,20 @@ pub record Scanned (ws ns bytes ends erased : List ℕ) (scope at to : ℕ) (s r
   pub does : (xs : List Item) → StandsAll ws ns (length ends) 100 at xs to → Does (λ N D. each (piece (given (some N) (some D) bytes ends erased) scope) (outerIs xs)) s r b d b′ d′
   pub kept : Kept ns (length ends) r b′ d′
 
+-- of the items xs some are left, which stand at `at`; what was done, and then these, make all of xs
+pub record Left (ws ns bytes ends erased : List ℕ) (scope at to : ℕ) (xs : List Item) (s t : Counts) (b d b′ d′ : List ℕ) : Type 0 where
+  pub items : List Item
+  pub there : StandsAll ws ns (length ends) 100 at items to
+  pub before : ℕ → ℕ → Step
+  pub does : Does before s t b d b′ d′
+  pub rest : (N D : ℕ) (st : State) → each (piece (given (some N) (some D) bytes ends erased) scope) (outerIs items) (before N D st) ≡ each (piece (given (some N) (some D) bytes ends erased) scope) (outerIs xs) st
+
+-- the same of all items that stand from one place to another, where `at` was reached
+pub record SoFar (ws ns bytes ends erased : List ℕ) (scope from at to : ℕ) (s t : Counts) (b d b′ d′ : List ℕ) : Type 0 where
+  pub ahead : from ≤ at
+  pub left : (xs : List Item) → StandsAll ws ns (length ends) 100 from xs to → Left ws ns bytes ends erased scope at to xs s t b d b′ d′
+  pub kept : Kept ns (length ends) t b′ d′
+
 -- one statement, but for its bodies
 pub record Stated (ws ns : List ℕ) (n : ℕ) (bytes ends erased : List ℕ) (scope at : ℕ) (s r : Counts) (b d b′ d′ : List ℕ) : Type 0 where
   pub does : (k : Kind) (line : ℕ) (fields : Tree Expr (row (sorts k))) (end : ℕ) → Stands ws ns n at (Stmt k line fields) end

@@ -55,7 +55,7 @@ pub record Quiet (j : ℕ) : Type 0 where
   pub no-optionBase : j ≡ 28 → ⊥
   pub no-typeDef : j ≡ 29 → ⊥
 
-quiet : (G : Given) (scope line : ℕ) (k : Kind) (r : Tree Expr (row (sorts k))) → Quiet (numberOf k) → (st : State) → st ≡ statement G scope line (view k (over see r)) st
+pub quiet : (G : Given) (scope line : ℕ) (k : Kind) (r : Tree Expr (row (sorts k))) → Quiet (numberOf k) → (st : State) → st ≡ statement G scope line (view k (over see r)) st
 unfolding sorts view statement numberOf
 quiet G scope line label r q st = absurd (q .no-label refl)
 quiet G scope line labelName r q st = absurd (q .no-labelName refl)

@@ -73,6 +73,41 @@ pub record Scanning (ws ns bytes ends : List ℕ) (scope at to : ℕ) (s : Count
   pub around : Around bytes ends ns scope
   pub kept : Kept ns (length ends) s b d
 
+-- ---- words that say nothing
+
+-- a statement of this kind may do something
+pub record Doing (k : ℕ) : Type 0 where
+  pub from : 64 ≤ k
+  pub upto : k ≤ 93
+
+-- one of this kind does nothing
+pub record Idle (k : ℕ) : Type 0 where
+  pub no-label : k ≡ 64 → ⊥
+  pub no-labelName : k ≡ 65 → ⊥
+  pub no-dim : k ≡ 79 → ⊥
+  pub no-shared : k ≡ 81 → ⊥
+  pub no-static : k ≡ 82 → ⊥
+  pub no-redim : k ≡ 83 → ⊥
+  pub no-sub : k ≡ 84 → ⊥
+  pub no-function : k ≡ 85 → ⊥
+  pub no-const : k ≡ 89 → ⊥
+  pub no-optionBase : k ≡ 92 → ⊥
+  pub no-typeDef : k ≡ 93 → ⊥
+
+-- how many words a scan takes at once where the kind of the first is k: a literal with its raw words, any other word that says nothing, none of a statement that may do something
+pub data Takes (k r : ℕ) : Type 0 where
+  two : 24 ≤ k → k ≤ 25 → r ≡ 2 → Takes k r
+  three : 26 ≤ k → k ≤ 27 → r ≡ 3 → Takes k r
+  single : (24 ≤ k → k ≤ 27 → ⊥) → Idle k → r ≡ 1 → Takes k r
+  doing : Doing k → r ≡ 0 → Takes k r
+
+-- some items stand from a place to another
+pub record SomeItems (ws : List ℕ) (at to : ℕ) : Type 0 where
+  pub names : List ℕ
+  pub strings : ℕ
+  pub items : List Item
+  pub there : StandsAll ws names strings 100 at items to
+
 -- ---- what is promised
 
 -- `collect` of a statement and its bodies
@@ -80,10 +115,35 @@ unfoldable pub piece : Given → ℕ → Piece Expr → Step
 piece G scope (exprPiece e) = nothing
 piece G scope (stmtPiece k line r) = statement G scope line (view k (over see r)) ⨾ walk (statement G) (inner scope (view k (over see r))) (over see r)
 
+-- what stands at a place is collected like the items xs
+pub record Past (ws ns : List ℕ) (n at to : ℕ) (xs : List Item) : Type 0 where
+  pub items : List Item
+  pub there : StandsAll ws ns n 100 at items to
+  pub alike : (G : Given) (scope : ℕ) (st : State) → each (piece G scope) (outerIs items) st ≡ each (piece G scope) (outerIs xs) st
+
+-- nothing is said from a place up to another
+pub record Passes (ws : List ℕ) (from at to : ℕ) : Type 0 where
+  pub ahead : from ≤ at
+  pub past : (ns : List ℕ) (n : ℕ) (xs : List Item) → StandsAll ws ns n 100 from xs to → Past ws ns n at to xs
+
 -- the statements of whatever items stand there are collected, each with its bodies
 pub record Scanned (ws ns bytes ends erased : List ℕ) (scope at to : ℕ) (s r : Counts) (b d b′ d′ : List ℕ) : Type 0 where
   pub does : (xs : List Item) → StandsAll ws ns (length ends) 100 at xs to → Does (λ N D. each (piece (given (some N) (some D) bytes ends erased) scope) (outerIs xs)) s r b d b′ d′
   pub kept : Kept ns (length ends) r b′ d′
+
+-- of the items xs some are left, which stand at `at`; what was done, and then these, make all of xs
+pub record Left (ws ns bytes ends erased : List ℕ) (scope at to : ℕ) (xs : List Item) (s t : Counts) (b d b′ d′ : List ℕ) : Type 0 where
+  pub items : List Item
+  pub there : StandsAll ws ns (length ends) 100 at items to
+  pub before : ℕ → ℕ → Step
+  pub does : Does before s t b d b′ d′
+  pub rest : (N D : ℕ) (st : State) → each (piece (given (some N) (some D) bytes ends erased) scope) (outerIs items) (before N D st) ≡ each (piece (given (some N) (some D) bytes ends erased) scope) (outerIs xs) st
+
+-- the same of all items that stand from one place to another, where `at` was reached
+pub record SoFar (ws ns bytes ends erased : List ℕ) (scope from at to : ℕ) (s t : Counts) (b d b′ d′ : List ℕ) : Type 0 where
+  pub ahead : from ≤ at
+  pub left : (xs : List Item) → StandsAll ws ns (length ends) 100 from xs to → Left ws ns bytes ends erased scope at to xs s t b d b′ d′
+  pub kept : Kept ns (length ends) t b′ d′
 
 -- one statement, but for its bodies
 pub record Stated (ws ns : List ℕ) (n : ℕ) (bytes ends erased : List ℕ) (scope at : ℕ) (s r : Counts) (b d b′ d′ : List ℕ) : Type 0 where

@@ -2,19 +2,29 @@
 // every statement's head in that order.
 use steps::Counts;
 ghost use mathlib.Core.Path.{_≡_};
-ghost use Prim.Native.Nat.{ℕ};
+ghost use Prim.Native.Nat.{ℕ, _*_, _<_, _≤_};
+ghost use mathlib.Core.Bool.{true};
 ghost use mathlib.Core.List.{List};
-ghost use lib.ListN.{length, getD};
+ghost use lib.ListN.{length, getD, replicate};
 ghost use Rattle.words.specs.Word.{kindOf};
+ghost use Rattle.table.specs.Rows.{width};
+ghost use Rattle.entries.specs.Entries.{lineRow};
 ghost use Rattle.tree.specs.Sorts.{stmt as stmtSort};
 ghost use Rattle.tree.specs.Tree.{one};
 ghost use Rattle.tree.specs.Memo.{Remembers};
-ghost use Rattle.collecting.specs.Walk.{Ready, Alone, ReadyProcedure, ReadyWhole, Scanning, Scanned, Stated, Collects};
+ghost use Rattle.collecting.specs.Walk.{Ready, Alone, ReadyProcedure, ReadyWhole, Scanning, Scanned, Stated, Collects, Takes, Doing, SomeItems, Passes};
+ghost use Rattle.collecting.specs.Aside.{PutAside, SetAside, Numbered};
 
 // The counts, and the place past what was walked.
 pub struct Moved {
     pub counts: Counts,
     pub next: usize,
+}
+
+// How many rows were put aside, and the place past their statements.
+struct Late {
+    count: usize,
+    next: usize,
 }
 
 // One statement that is no procedure, but for its bodies.
@@ -69,6 +79,147 @@ fn procedure(
     procedures::function(words, names, bytes, ends, b, d, s, scope, at, end)
 }
 
+// The words of what stands there, a literal with its raw words; none of a statement that may do something.
+fn quiet(k: u32) -> usize
+    ensures { λ r. ⌜ Takes k r ⌝ }
+{
+    match k {
+        24 | 25 => 2,
+        26 | 27 => 3,
+        64 | 65 | 79 | 81..=85 | 89 | 92 | 93 => 0,
+        _ => 1,
+    }
+}
+
+// Past the leaves, which are most of the words.
+fn leaves(words: &[u32], from: usize, to: usize) -> usize
+    requires { ⌜ SomeItems (now words) from to ⌝ }
+    ensures { λ r. ⌜ Passes (now (words .entry)) from r to ⌝ }
+{
+    let mut at = from;
+    while at < to {
+        if 24 <= words[at] / 16777216 {
+            return at;
+        }
+        at += 1;
+    }
+    at
+}
+
+// The next statement that may do something, or `to`: no other word says anything.
+fn ahead(words: &[u32], from: usize, to: usize) -> usize
+    requires { ⌜ SomeItems (now words) from to ⌝ }
+    ensures passes { λ r. ⌜ Passes (now (words .entry)) from r to ⌝ }
+    ensures doing { λ r. ⌜ (r < to → Doing (kindOf (getD (now (words .entry)) r 0))) ⌝ }
+{
+    let mut at = leaves(words, from, to);
+    while at < to {
+        let n = quiet(words[at] / 16777216);
+        if n == 0 {
+            return at;
+        }
+        at = leaves(words, at + n, to);
+    }
+    at
+}
+
+// Whether the statement was a line number with many rows behind its own, all of which were moved.
+fn far(words: &[u32], b: &[u32], s: Counts, at: usize) -> bool
+    requires { ⌜ (at < length (now words)) × (s .rows * width ≤ length (now b)) ⌝ }
+    ensures { λ r. ⌜ (r ≡ true → s .stop ≡ 0) ⌝ }
+{
+    if s.rows < 128 {
+        return false;
+    }
+    if words[at] / 16777216 != 64 {
+        return false;
+    }
+    if s.stop != 0 {
+        return false;
+    }
+    if words.len() - at < 2 {
+        return false;
+    }
+    2147483648 + words[at + 1] % 16777216 < b[(s.rows - 128) * table::WIDTH]
+}
+
+// Puts a line number's row aside, in order, where there is room for it and its key is nowhere yet. Whether it did.
+fn put_aside(b: &[u32], count: usize, late: &mut [u32], m: usize, n: u32, scope: u32) -> bool
+    requires { ⌜ (count * width ≤ length (now b)) × (length (now late) ≡ 384) × (m ≤ 64) × (n < 16777216) ⌝ }
+    ensures { λ r. ⌜ PutAside r (lineRow n scope) count m (now (b .entry)) (now (late .entry)) (now (late .exit)) ⌝ }
+{
+    if 64 <= m {
+        return false;
+    }
+    if b.len() - count * table::WIDTH < (m + 1) * table::WIDTH {
+        return false;
+    }
+    if lookup::has(b, count, 128, n, 0) {
+        return false;
+    }
+    if lookup::has(late, m, 128, n, 0) {
+        return false;
+    }
+    entries::enter_line(late, m, n, scope);
+    true
+}
+
+// Puts line numbers from `from` on aside, up to the first other statement that may do something, or one that can't be put aside.
+fn set_aside(
+    words: &[u32],
+    b: &[u32],
+    s: Counts,
+    scope: u32,
+    from: usize,
+    to: usize,
+    late: &mut [u32],
+) -> Late
+    requires { ⌜ SomeItems (now words) from to × (s .rows * width ≤ length (now b)) × (s .stop ≡ 0) × (now late ≡ replicate 384 0) ⌝ }
+    ensures { λ r. ⌜ SetAside (now (words .entry)) scope from (r .next) to s (r .count) (now (b .entry)) (now (late .exit)) ⌝ }
+    ensures doing { λ r. ⌜ (r .next < to → Doing (kindOf (getD (now (words .entry)) (r .next) 0))) ⌝ }
+{
+    let mut m = 0;
+    let mut at = ahead(words, from, to);
+    while at < to {
+        if words[at] / 16777216 != 64 {
+            return Late { count: m, next: at };
+        }
+        let n = words[at + 1] % 16777216;
+        if !put_aside(b, s.rows, late, m, n, scope) {
+            return Late { count: m, next: at };
+        }
+        m += 1;
+        at = ahead(words, at + 1, to);
+    }
+    Late { count: m, next: at }
+}
+
+// Line numbers from `from` on, as many as can be put aside: all are merged in at once, so that the rows behind them move once.
+fn line_numbers(
+    words: &[u32],
+    b: &mut [u32],
+    s: Counts,
+    scope: u32,
+    from: usize,
+    to: usize,
+) -> Moved
+    requires { ⌜ SomeItems (now words) from to × (s .rows * width ≤ length (now b)) × (s .stop ≡ 0) ⌝ }
+    ensures { λ r. ⌜ Numbered (now (words .entry)) scope from (r .next) to s (r .counts) (now (b .entry)) (now (b .exit)) ⌝ }
+    ensures doing { λ r. ⌜ (r .next < to → Doing (kindOf (getD (now (words .entry)) (r .next) 0))) ⌝ }
+{
+    let mut late = [0u32; 384];
+    let a = set_aside(words, b, s, scope, from, to, &mut late);
+    merge::merge(b, s.rows, &late, a.count);
+    Moved {
+        counts: Counts {
+            stop: 0,
+            rows: s.rows + a.count,
+            notes: s.notes,
+        },
+        next: a.next,
+    }
+}
+
 // All statements of the words from one place to another, by one scan: a literal's raw words are passed over, and a procedure's body is scanned in its own scope.
 fn scan(
     words: &[u32],
@@ -88,11 +239,9 @@ fn scan(
     ensures { λ r. ⌜ Scanned (now (words .entry)) (now (names .entry)) (now (bytes .entry)) (now (ends .entry)) (now (erased .entry)) scope from to s r (now (b .entry)) (now (d .entry)) (now (b .exit)) (now (d .exit)) ⌝ }
 {
     let mut t = s;
-    let mut at = from;
+    let mut at = ahead(words, from, to);
     while at < to {
         match words[at] / 16777216 {
-            24 | 25 => at += 2,
-            26 | 27 => at += 3,
             84 | 85 => {
                 let e = tree::past(words, names, ends.len() as u32, memo, at);
                 let inner = plans::inside(words, at, scope);
@@ -111,13 +260,18 @@ fn scan(
                     e,
                     memo,
                 );
-                at = e;
+                at = ahead(words, e, to);
             }
-            64..=93 => {
+            _ => {
                 t = statement(words, names, bytes, ends, erased, b, d, t, scope, at);
-                at += 1;
+                if far(words, b, t, at) {
+                    let m = line_numbers(words, b, t, scope, at + 1, to);
+                    t = m.counts;
+                    at = m.next;
+                } else {
+                    at = ahead(words, at + 1, to);
+                }
             }
-            _ => at += 1,
         }
     }
     t

@@ -58,7 +58,7 @@ pub record Sees (ws : List ℕ) (at line : ℕ) (v : View Seen) (made : ℕ → 
   pub is : made payload ≡ v
 
 module _ {ws ns : List ℕ} {n at line end : ℕ} where
-  label-seen : (fields : Tree Expr (row (sorts labelKind))) → Stands ws ns n at (Stmt labelKind line fields) end → Sees ws at line (view labelKind (over see fields)) Label
+  pub label-seen : (fields : Tree Expr (row (sorts labelKind))) → Stands ws ns n at (Stmt labelKind line fields) end → Sees ws at line (view labelKind (over see fields)) Label
   unfolding sorts numberOf wordsT Right over view
   label-seen (cons (word x) done) S = record { payload = x; leads = leads 64 4 (S .wrote) (S .valid .0) (S .valid .1 .0 .1); is = refl }
 

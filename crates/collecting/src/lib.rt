@@ -123,7 +123,7 @@ fn ahead(words: &[u32], from: usize, to: usize) -> usize
     at
 }
 
-// Whether the statement was a line number with many rows behind its own, all of which were moved.
+// Whether the statement was a line number with many rows behind its own, all of which were moved, and no label comes next.
 fn far(words: &[u32], b: &[u32], s: Counts, at: usize) -> bool
     requires { ⌜ (at < length (now words)) × (s .rows * width ≤ length (now b)) ⌝ }
     ensures { λ r. ⌜ (r ≡ true → s .stop ≡ 0) ⌝ }
@@ -137,7 +137,10 @@ fn far(words: &[u32], b: &[u32], s: Counts, at: usize) -> bool
     if s.stop != 0 {
         return false;
     }
-    if words.len() - at < 2 {
+    if words.len() - at < 3 {
+        return false;
+    }
+    if words[at + 2] / 16777216 == 65 {
         return false;
     }
     2147483648 + words[at + 1] % 16777216 < b[(s.rows - 128) * table::WIDTH]

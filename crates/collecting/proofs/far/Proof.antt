@@ -26,6 +26,18 @@ sub-if4 c = search needs
 returns-4 : tie.Need-returns-4
 returns-4 c = λ e. absurd (false≢true e)
 
+add-if5 : tie.Need-add-if5
+add-if5 c = search needs
+
+mul-if5 : tie.Need-mul-if5
+mul-if5 c = search needs
+
+shared-slice-read-if5 : tie.Need-shared-slice-read-if5
+shared-slice-read-if5 c = omega (arith, c .before .before .before .before .before .before .before .before .pre .0, c .before .if4 .left)
+
+returns-5 : tie.Need-returns-5
+returns-5 c = λ e. absurd (false≢true e)
+
 add-result : tie.Need-add-result
 add-result c = search needs
 
@@ -33,7 +45,7 @@ mul-result : tie.Need-mul-result
 mul-result c = search needs
 
 shared-slice-read-result : tie.Need-shared-slice-read-result
-shared-slice-read-result c = omega (arith, c .before .before .before .before .before .before .before .before .pre .0, c .before .if4 .left)
+shared-slice-read-result c = omega (arith, c .before .before .before .before .before .before .before .before .before .before .pre .0, c .before .before .before .if4 .left)
 
 add-result-2 : tie.Need-add-result-2
 add-result-2 c = search needs
@@ -45,10 +57,10 @@ mul-result-3 : tie.Need-mul-result-3
 mul-result-3 c = search needs
 
 shared-slice-read-result-2 : tie.Need-shared-slice-read-result-2
-shared-slice-read-result-2 c = omega (arith, c .before .before .before .before .before .before .before .before .before .before .pre .1, c .before .before .before .before .before .before .before .before .if1 .left)
+shared-slice-read-result-2 c = omega (arith, c .before .before .before .before .before .before .before .before .before .before .before .before .pre .1, c .before .before .before .before .before .before .before .before .before .before .if1 .left)
 
-returns-5 : tie.Need-returns-5
-returns-5 c = λ e. c .before .before .before .before .if3 .left
+returns-6 : tie.Need-returns-6
+returns-6 c = λ e. c .before .before .before .before .before .before .if3 .left
 
 pub far-spec : {M : Type 1} → statement M
 far-spec =
@@ -61,6 +73,10 @@ far-spec =
     returns-3
     sub-if4
     returns-4
+    add-if5
+    mul-if5
+    shared-slice-read-if5
+    returns-5
     add-result
     mul-result
     shared-slice-read-result
@@ -68,4 +84,4 @@ far-spec =
     mul-result-2
     mul-result-3
     shared-slice-read-result-2
-    returns-5)
+    returns-6)

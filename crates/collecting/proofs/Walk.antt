@@ -125,11 +125,11 @@ module _ {ws ns bytes ends erased : List ℕ} {scope from at to : ℕ} {s t : Co
   scan-some R = let L = w .left (R .items) (R .there) in record { names = ns; strings = length ends; items = L .items; there = L .there }
 
   -- what is left to scan
-  scan-rest : Scanning ws ns bytes ends scope from to s b d → Scanning ws ns bytes ends scope at to t b′ d′
+  pub scan-rest : Scanning ws ns bytes ends scope from to s b d → Scanning ws ns bytes ends scope at to t b′ d′
   scan-rest R = let L = w .left (R .items) (R .there) in record { items = L .items; there = L .there; around = R .around; kept = w .kept }
 
   -- on, by what others did
-  scan-then : {a : ℕ} {r : Counts} {b″ d″ : List ℕ} → SoFar ws ns bytes ends erased scope at a to t r b′ d′ b″ d″ → SoFar ws ns bytes ends erased scope from a to s r b d b″ d″
+  pub scan-then : {a : ℕ} {r : Counts} {b″ d″ : List ℕ} → SoFar ws ns bytes ends erased scope at a to t r b′ d′ b″ d″ → SoFar ws ns bytes ends erased scope from a to s r b d b″ d″
   scan-then v = record {
     ahead = omega (arith, w .ahead, v .ahead);
     left = λ xs h.
@@ -217,6 +217,19 @@ module _ {ws ns bytes ends erased : List ℕ} {scope from at to : ℕ} {s t : Co
             around = record { named = R .around .named; counted = R .around .counted; few = R .around .few; scoped = subst (Scope ns (length ends)) (sym (within-seen I (M .whole))) x };
             kept = K;
           }
+
+-- ---- a statement that opens no scope, from where it stands
+
+module _ {ws ns bytes ends : List ℕ} {scope at to : ℕ} {s : Counts} {b d : List ℕ} (R : Scanning ws ns bytes ends scope at to s b d) (z : at < to) where
+  pub here-fits : (at < length ws) × (to ≤ length ws)
+  here-fits = scan-fits (scan-start {erased = []} R) z R
+
+  module _ (o : Alone (kindOf (getD ws at 0))) where
+    pub alone-ready : Ready (one stmt) ws ns bytes ends scope at s b d
+    alone-ready = stmt-ready (scan-start {erased = []} R) z R (o .from) (omega (arith, o .upto))
+
+    pub alone-done : Words32 ws → {erased : List ℕ} {r : Counts} {b′ d′ : List ℕ} → Stated ws ns (length ends) bytes ends erased scope at s r b d b′ d′ → SoFar ws ns bytes ends erased scope at (at + 1) to s r b d b′ d′
+    alone-done W32 S = scan-stmt (scan-start R) z o S (stated-kept (scan-start R) z R (o .from) (omega (arith, o .upto)) W32 S)
 
 -- ---- a whole list of statements
 

@@ -12,7 +12,7 @@ ghost use Rattle.entries.specs.Entries.{lineRow};
 ghost use Rattle.tree.specs.Sorts.{stmt as stmtSort};
 ghost use Rattle.tree.specs.Tree.{one};
 ghost use Rattle.tree.specs.Memo.{Remembers};
-ghost use Rattle.collecting.specs.Walk.{Ready, Alone, ReadyProcedure, ReadyWhole, Scanning, Scanned, Stated, Collects, Takes, Doing, SomeItems, Passes};
+ghost use Rattle.collecting.specs.Walk.{Ready, Alone, ReadyProcedure, ReadyWhole, Scanning, Scanned, SoFar, Stated, Collects, Takes, Doing, SomeItems, Passes};
 ghost use Rattle.collecting.specs.Aside.{PutAside, SetAside, Numbered};
 
 // The counts, and the place past what was walked.
@@ -223,6 +223,33 @@ fn line_numbers(
     }
 }
 
+// One statement that is no procedure, but for its bodies, and on to the next that may do something: past the line numbers behind it where its own row moved many.
+fn onward(
+    words: &[u32],
+    names: &[u8],
+    bytes: &[u8],
+    ends: &[u32],
+    erased: &[u32],
+    b: &mut [u32],
+    d: &mut [u32],
+    s: Counts,
+    scope: u32,
+    at: usize,
+    to: usize,
+) -> Moved
+    requires { ⌜ Scanning (now words) (now names) (now bytes) (now ends) scope at to s (now b) (now d) × (at < to) × Alone (kindOf (getD (now words) at 0)) ⌝ }
+    ensures { λ r. ⌜ SoFar (now (words .entry)) (now (names .entry)) (now (bytes .entry)) (now (ends .entry)) (now (erased .entry)) scope at (r .next) to s (r .counts) (now (b .entry)) (now (d .entry)) (now (b .exit)) (now (d .exit)) ⌝ }
+    ensures further { λ r. ⌜ (at < r .next) ⌝ }
+    ensures doing { λ r. ⌜ (r .next < to → Doing (kindOf (getD (now (words .entry)) (r .next) 0))) ⌝ }
+{
+    let t = statement(words, names, bytes, ends, erased, b, d, s, scope, at);
+    if far(words, b, t, at) {
+        return line_numbers(words, b, t, scope, at + 1, to);
+    }
+    let n = ahead(words, at + 1, to);
+    Moved { counts: t, next: n }
+}
+
 // All statements of the words from one place to another, by one scan: a literal's raw words are passed over, and a procedure's body is scanned in its own scope.
 fn scan(
     words: &[u32],
@@ -247,33 +274,16 @@ fn scan(
         match words[at] / 16777216 {
             84 | 85 => {
                 let e = tree::past(words, names, ends.len() as u32, memo, at);
-                let inner = plans::inside(words, at, scope);
+                let own = plans::inside(words, at, scope);
                 t = procedure(words, names, bytes, ends, b, d, t, scope, at, e);
-                t = scan(
-                    words,
-                    names,
-                    bytes,
-                    ends,
-                    erased,
-                    b,
-                    d,
-                    t,
-                    inner,
-                    at + 1,
-                    e,
-                    memo,
-                );
+                let m = at + 1;
+                t = scan(words, names, bytes, ends, erased, b, d, t, own, m, e, memo);
                 at = ahead(words, e, to);
             }
             _ => {
-                t = statement(words, names, bytes, ends, erased, b, d, t, scope, at);
-                if far(words, b, t, at) {
-                    let m = line_numbers(words, b, t, scope, at + 1, to);
-                    t = m.counts;
-                    at = m.next;
-                } else {
-                    at = ahead(words, at + 1, to);
-                }
+                let m = onward(words, names, bytes, ends, erased, b, d, t, scope, at, to);
+                t = m.counts;
+                at = m.next;
             }
         }
     }

@@ -238,6 +238,9 @@ pub fn sets() -> Vec<Set> {
         let name = |order| format!("line numbers, {} rows {order}", grouped(rows));
         sets.push(set(&name("rising"), one(line_numbers(0..rows))));
         sets.push(set(&name("falling"), one(line_numbers((0..rows).rev()))));
+        // An odd factor: every place once, for a count that is a power of two.
+        let mixed = (0..rows).map(|i| i * 1_031 % rows);
+        sets.push(set(&name("mixed"), one(line_numbers(mixed))));
     }
     // No more arrays than 1,024 names and 8,192 words allow.
     for rows in [64, 256, 1_000] {

@@ -29,7 +29,7 @@ use reader::Reading;
 use resolution::Resolution;
 use words::Refusal;
 ghost use mathlib.Core.Path.{_≡_};
-ghost use Prim.Native.Nat.{_+_, _*_, _≤_};
+ghost use Prim.Native.Nat.{_≤_};
 ghost use lib.ListN.{length};
 ghost use Rattle.io.specs.Counts.{Counts};
 
@@ -466,26 +466,13 @@ fn call(
 
 // ---- reading
 
-fn wide(b: u8) -> u32 {
-    b as u32
-}
-
-fn word_at(b: &[u8], at: usize) -> u32
-    requires { ⌜ at + 4 ≤ length (now b) ⌝ }
-{
-    let mut w = wide(b[at + 3]);
-    w = std::num::wrapping_add_u32(w << 8, wide(b[at + 2]));
-    w = std::num::wrapping_add_u32(w << 8, wide(b[at + 1]));
-    std::num::wrapping_add_u32(w << 8, wide(b[at]))
-}
-
 // The next word of the input, 0 where it ends.
 fn read_word() -> u32 {
     let mut space = [0u8; 4];
     if io::read_full(STDIN_FILENO, &mut space) < 4 {
         return 0;
     }
-    word_at(&space, 0)
+    image::word(&space, 0)
 }
 
 // A length, at most `most`.
@@ -499,19 +486,12 @@ fn read_length(most: usize) -> usize
     n
 }
 
-// So many bytes into the buffer's beginning.
-fn read_part(b: &mut [u8], n: usize) -> bool
-    requires { ⌜ n ≤ length (now b) ⌝ }
-{
-    io::read_full(STDIN_FILENO, &mut b[..n]) == n
-}
-
 // The next bytes of the input into the buffer's beginning: how many.
 fn read_bytes(b: &mut [u8]) -> usize
     ensures { λ r. ⌜ Counts r (now (b .exit)) ⌝ }
 {
     let n = read_length(b.len());
-    if read_part(b, n) {
+    if programs::read_part(b, n) {
         return n;
     }
     0

@@ -29,7 +29,8 @@ fn wide(b: u8) -> u32
     b as u32
 }
 
-fn word(image: &[u8], at: usize) -> u32
+// The little-endian word at a byte.
+pub fn word(image: &[u8], at: usize) -> u32
     requires { ⌜ at + 4 ≤ length (now image) ⌝ }
     ensures { λ r. ⌜ r ≡ wordAt (now (image .entry)) at ⌝ }
 {

@@ -7,13 +7,6 @@ ghost use Prim.Native.Nat.{_≤_};
 ghost use lib.ListN.{length, take};
 ghost use Rattle.listing.specs.Listing.{listing as listingOf};
 
-// Room for the longest listing: a function's result, of which the length alone is known, so that no proof counts a million bytes.
-fn room() -> [u8; 1048576]
-    ensures { λ r. ⌜ 1048576 ≡ length r ⌝ }
-{
-    [0; 1048576]
-}
-
 // No listing is longer than 722,946 bytes, so that it is never cut: as many bytes as are answered are the listing.
 fn put_whole(image: &[u8], out: &mut [u8]) -> usize
     requires { ⌜ 722946 ≤ length (now out) ⌝ }
@@ -25,7 +18,7 @@ fn put_whole(image: &[u8], out: &mut [u8]) -> usize
 fn main() {
     let mut image = io::large_buffer();
     let n = io::read_full(STDIN_FILENO, &mut image);
-    let mut out = room();
+    let mut out = programs::room();
     let k = put_whole(&image[..n], &mut out);
     io::write_all(STDOUT_FILENO, &out[..k]);
 }

@@ -1,4 +1,6 @@
 // The lines of a diagnostic.
+use text::copy;
+use text::less;
 use text::put_byte;
 use text::put_bytes;
 use text::put_decimal;
@@ -6,9 +8,8 @@ use text::put_part;
 ghost use mathlib.Core.Path.{_≡_};
 ghost use mathlib.Core.List.{[], _∷_};
 ghost use mathlib.Core.Bool.{false};
-ghost use Prim.Native.Nat.{_+_, _-_, _≤_, min};
+ghost use Prim.Native.Nat.{_+_, _-_, _≤_};
 ghost use lib.ListN.{length, getD, take, drop};
-ghost use lib.Seq.{sets};
 ghost use lib.Dec.{eqb};
 ghost use Rattle.words.specs.Word.{pick, flatten};
 ghost use Rattle.text.specs.Wrote.{Wrote};
@@ -220,12 +221,6 @@ fn copy_plain(out: &mut [u8], at: usize, s: &[u8], from: usize, n: usize) -> usi
     i
 }
 
-fn less(a: usize, b: usize) -> usize
-    ensures { λ r. ⌜ r ≡ min a b ⌝ }
-{
-    if a < b { a } else { b }
-}
-
 // The length of the run without a mark that starts at byte i: at a template's start or after a mark. A run of one byte isn't listed.
 fn early_run(i: usize) -> usize
     ensures { λ r. ⌜ marks (take r (drop i (flatten table))) ≡ false ⌝ }
@@ -301,18 +296,6 @@ fn run_at(i: usize) -> usize
     if i < 620 { early_run(i) } else { late_run(i) }
 }
 
-// n bytes of s from `from` on: a loop without tests, which the compiler turns into wide moves.
-fn copy_run(out: &mut [u8], at: usize, s: &[u8], from: usize, n: usize)
-    requires { ⌜ (at + n ≤ length (now out)) × (from + n ≤ length (now s)) ⌝ }
-    ensures { λ _. ⌜ now (out .exit) ≡ sets (now (out .entry)) at (take n (drop from (now (s .entry)))) ⌝ }
-{
-    let mut i = 0;
-    while i < n {
-        out[at + i] = s[from + i];
-        i += 1;
-    }
-}
-
 // Bytes without a mark, so long as there is room: a run that is known is copied without a look at its bytes.
 fn put_plain(out: &mut [u8], at: usize, s: &[u8], from: usize, run: usize) -> usize
     requires { ⌜ (from ≤ length (now s)) × (marks (take run (drop from (now s))) ≡ false) ⌝ }
@@ -326,7 +309,7 @@ fn put_plain(out: &mut [u8], at: usize, s: &[u8], from: usize, run: usize) -> us
         return copy_plain(out, at, s, from, n);
     }
     let most = less(run, n);
-    copy_run(out, at, s, from, most);
+    copy(out, at, s, from, most);
     most
 }
 

@@ -3,34 +3,18 @@
 use libc::STDIN_FILENO;
 use libc::STDOUT_FILENO;
 use strings::Order;
-ghost use mathlib.Core.Path.{_≡_};
 ghost use Prim.Native.Nat.{_≤_};
 ghost use lib.ListN.{length};
 
 // No more records are read than this.
 const MOST: u64 = 1000000;
 
-// Room for the longest listing.
-fn room() -> [u8; 1048576]
-    ensures { λ r. ⌜ 1048576 ≡ length r ⌝ }
-{
-    [0; 1048576]
-}
-
-fn wide(b: u8) -> u32 {
-    b as u32
-}
-
 // A length in little-endian bytes, at most `most`.
 fn length_of(b: &[u8], most: usize) -> usize
     requires { ⌜ 4 ≤ length (now b) ⌝ }
     ensures { λ r. ⌜ r ≤ most ⌝ }
 {
-    let mut w = wide(b[3]);
-    w = std::num::wrapping_add_u32(w << 8, wide(b[2]));
-    w = std::num::wrapping_add_u32(w << 8, wide(b[1]));
-    w = std::num::wrapping_add_u32(w << 8, wide(b[0]));
-    let n = w as usize;
+    let n = image::word(b, 0) as usize;
     if most < n {
         return most;
     }
@@ -49,13 +33,6 @@ fn read_length(b: &mut [u8], most: usize) -> usize
         return 0;
     }
     length_of(b, most)
-}
-
-// So many bytes into the buffer's beginning.
-fn read_part(b: &mut [u8], n: usize) -> bool
-    requires { ⌜ n ≤ length (now b) ⌝ }
-{
-    io::read_full(STDIN_FILENO, &mut b[..n]) == n
 }
 
 fn same(a: &[u8], b: &[u8]) -> bool {
@@ -90,14 +67,14 @@ fn judge(image: &[u8], kept: &[u8], out: &mut [u8]) -> Record {
 // The next record, read and judged.
 fn next(image: &mut [u8], kept: &mut [u8], out: &mut [u8]) -> Record {
     let n = read_length(image, image.len());
-    if !read_part(image, n) {
+    if !programs::read_part(image, n) {
         return Record::None;
     }
     let m = read_length(kept, kept.len());
     if m == 0 {
         return Record::None;
     }
-    if !read_part(kept, m) {
+    if !programs::read_part(kept, m) {
         return Record::None;
     }
     judge(&image[..n], &kept[..m], out)
@@ -125,8 +102,8 @@ fn replay(image: &mut [u8], kept: &mut [u8], out: &mut [u8]) -> Score {
 
 fn main() {
     let mut image = io::large_buffer();
-    let mut kept = room();
-    let mut out = room();
+    let mut kept = programs::room();
+    let mut out = programs::room();
     let s = replay(&mut image, &mut kept, &mut out);
     io::print_decimal(STDOUT_FILENO, s.right);
     io::write_all(STDOUT_FILENO, b" of ");

@@ -19,14 +19,15 @@ pub fn put_byte(out: &mut [u8], at: usize, b: u8) -> usize
     out.len() + 1
 }
 
-fn less(a: usize, b: usize) -> usize
+// The lesser of two.
+pub fn less(a: usize, b: usize) -> usize
     ensures { λ r. ⌜ r ≡ min a b ⌝ }
 {
     if a < b { a } else { b }
 }
 
 // n bytes of s from `from` on: a loop without tests, which the compiler turns into wide moves.
-fn copy(out: &mut [u8], at: usize, s: &[u8], from: usize, n: usize)
+pub fn copy(out: &mut [u8], at: usize, s: &[u8], from: usize, n: usize)
     requires { ⌜ (at + n ≤ length (now out)) × (from + n ≤ length (now s)) ⌝ }
     ensures { λ _. ⌜ now (out .exit) ≡ sets (now (out .entry)) at (take n (drop from (now (s .entry)))) ⌝ }
 {

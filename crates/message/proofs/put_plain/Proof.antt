@@ -29,14 +29,14 @@ returns-2 c = search needs
 less-requires-2 : tie.Need-less-requires-2
 less-requires-2 c κs = search needs
 
-copy-run-requires : tie.Need-copy-run-requires
-copy-run-requires c κs = search needs
+copy-requires : tie.Need-copy-requires
+copy-requires c κs = search needs
 
 same-length-2 : tie.Need-same-length-2
 same-length-2 c = search needs
 
 returns-3 : tie.Need-returns-3
-returns-3 c = plain-run (c .before .before .before .before .before .before .before .before .before .before .args .s .now) (c .before .before .before .before .before .before .before .before .before .before .args .from) _ (c .before .before .before .before .before .before .before .before .before .before .args .run) (c .before .before .before .before .less2 .result) (c .before .before .before .before .before .before .before .before .before .before .args .at) (omega (arith, c .before .before .before .before .less2 .ensures)) (omega (arith, c .before .before .before .before .before .before .less .ensures, c .before .before .before .before .less2 .ensures)) (omega (arith, c .before .before .before .before .before .before .less .ensures, c .before .before .before .before .less2 .ensures)) (c .before .before .before .before .before .before .before .before .before .before .pre .1) (c .before .before .copy-run .ensures)
+returns-3 c = plain-run (c .before .before .before .before .before .before .before .before .before .before .args .s .now) (c .before .before .before .before .before .before .before .before .before .before .args .from) _ (c .before .before .before .before .before .before .before .before .before .before .args .run) (c .before .before .before .before .less2 .result) (c .before .before .before .before .before .before .before .before .before .before .args .at) (omega (arith, c .before .before .before .before .less2 .ensures)) (omega (arith, c .before .before .before .before .before .before .less .ensures, c .before .before .before .before .less2 .ensures)) (omega (arith, c .before .before .before .before .before .before .less .ensures, c .before .before .before .before .less2 .ensures)) (c .before .before .before .before .before .before .before .before .before .before .pre .1) (c .before .before .copy .ensures)
 
 pub put-plain-spec : {M : Type 1} → statement M
 put-plain-spec =
@@ -50,6 +50,6 @@ put-plain-spec =
     same-length
     returns-2
     less-requires-2
-    copy-run-requires
+    copy-requires
     same-length-2
     returns-3)

@@ -9,7 +9,7 @@ use Rattle.replay.proofs.next.Reads as reads
 use Rattle.replay.proofs.next.Lts as lts
 use Rattle.replay.proofs.judge.Reads as judge-reads
 use Rattle.replay.proofs.read_length.Reads as read-length-reads
-use Rattle.replay.proofs.read_part.Reads as read-part-reads
+use Rattle.programs.proofs.read_part.Reads as read-part-reads
 
 -- src/main.rt:91:9
 read-length-requires : tie.Need-read-length-requires

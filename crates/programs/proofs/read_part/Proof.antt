@@ -1,9 +1,9 @@
--- `calls::read_part` meets its contract: the part that is read into is within the buffer. Assumes nothing.
+-- `programs::read_part` meets its contract: the part that is read into is within the buffer. Assumes nothing.
 use mathlib.Core.Path.{sym}
 use lib.Seq.{length-take-le}
 use borrow.Author.Needs.{needs}
-use Rattle.calls.proofs.read_part.Statement.{statement}
-use Rattle.calls.proofs.read_part.Tie as tie
+use Rattle.programs.proofs.read_part.Statement.{statement}
+use Rattle.programs.proofs.read_part.Tie as tie
 
 slice-relend-prefix-read-full : tie.Need-slice-relend-prefix-read-full
 slice-relend-prefix-read-full c = search needs

@@ -1,0 +1,4 @@
+-- `Runs` says what a buffer keeps while rows are entered; the laws that other crates cite are vouched for.
+pub mod Runs
+pub mod Places
+pub mod Laws

@@ -1,0 +1,37 @@
+-- What a buffer keeps while rows are entered. These are definitions, for contracts inside and proofs.
+use mathlib.Core.Path.{_≡_}
+use mathlib.Core.Bool.{true}
+use mathlib.Core.List.{List}
+use mathlib.Core.Option.{Option, none, some}
+use Prim.Native.Nat.{ℕ, _*_}
+use lib.ListN.{length, take, drop}
+use Rattle.words.specs.Word.{pick}
+use Rattle.table.specs.Rows.{Row, width, Holds}
+use Rattle.table.specs.Answers.{Fits}
+use Rattle.table.specs.declared.Found.{Found}
+use Rattle.table.specs.declared.Found.the-variants.{At, Nothing}
+use Rattle.table.specs.declared.Put.{Put}
+use Rattle.table.specs.declared.Put.the-variants.{Full, Done}
+
+-- the row at place i
+abbrev pub rowOf : List ℕ → ℕ → Row
+rowOf buf i = take width (drop (i * width) buf)
+
+-- the row that was found
+abbrev pub rowIn : List ℕ → Found → Option Row
+rowIn buf Nothing = none
+rowIn buf (At i) = some (rowOf buf i)
+
+-- the buffer keeps this table of n rows
+pub record Keeps (rows : List Row) (n : ℕ) (buf : List ℕ) : Type 0 where
+  pub holds : Holds rows n buf
+
+-- rows put in, which leave the rows `new`: Full only where these do not fit, and then the buffer has no meaning any more
+pub record PutIn (new : List Row) (n : ℕ) (r : Put) (buf : List ℕ) : Type 0 where
+  pub answer : r ≡ pick (Fits n new) (Done (length new)) Full
+  pub after : Fits n new ≡ true → Keeps new (length new) buf
+
+-- rows taken out
+pub record TakenOut (new : List Row) (r : ℕ) (buf : List ℕ) : Type 0 where
+  pub answer : r ≡ length new
+  pub after : Keeps new r buf

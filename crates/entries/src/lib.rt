@@ -4,8 +4,9 @@ ghost use mathlib.Core.Path.{_≡_};
 ghost use mathlib.Core.List.{List, [], _∷_};
 ghost use Prim.Native.Nat.{_+_, _*_, _≤_, _<_};
 ghost use lib.ListN.{length};
-ghost use Rattle.table.specs.Rows.{Row, width, find, rowsOf, Holds};
-ghost use Rattle.table.specs.Answers.{Fit, Inserted, Entered};
+ghost use Rattle.table.specs.Rows.{Row, width, find, insert, rowsOf, Holds};
+ghost use Rattle.table.specs.Answers.{Fit, Entered};
+ghost use Rattle.runs.specs.Runs.{Keeps, PutIn};
 ghost use Rattle.entries.specs.Entries.{row, entryKey, bit as bitOf, hasRow, rowWord, replaceUnder, lineRow, labelRow, typeRow, fieldRow, constRow, arrayRow, typedVarRow, procRow, paramRow, dimSharedRow, sharedRow, staticRow, staticProcRow, defFnRow, unrankedRow, optionBaseRow};
 
 // The key of an entry: its kind and name, and its word 1.
@@ -19,9 +20,9 @@ pub fn entry_key(kind: u32, name: u32, second: u32) -> u64
 // Whether there is a row with the key.
 pub fn has(b: &[u32], count: usize, k: u64) -> bool
     requires { ⌜ count * width ≤ length (now b) ⌝ }
-    ensures { λ r. ⌜ ((rows : List Row) → Holds rows count (now (b .entry)) → r ≡ hasRow (find k rows)) ⌝ }
+    ensures { λ r. ⌜ ((rows : List Row) → Keeps rows count (now (b .entry)) → r ≡ hasRow (find k rows)) ⌝ }
 {
-    match table::find(b, count, k) {
+    match runs::find(b, count, k) {
         table::Found::At(_) => true,
         table::Found::Nothing => false,
     }
@@ -30,9 +31,9 @@ pub fn has(b: &[u32], count: usize, k: u64) -> bool
 // Word j of the row with the key, and 0 where there is none.
 pub fn word(b: &[u32], count: usize, k: u64, j: usize) -> u32
     requires { ⌜ (count * width ≤ length (now b)) × (j < width) ⌝ }
-    ensures { λ r. ⌜ ((rows : List Row) → Holds rows count (now (b .entry)) → r ≡ rowWord j (find k rows)) ⌝ }
+    ensures { λ r. ⌜ ((rows : List Row) → Keeps rows count (now (b .entry)) → r ≡ rowWord j (find k rows)) ⌝ }
 {
-    match table::find(b, count, k) {
+    match runs::find(b, count, k) {
         table::Found::At(i) => b[i * table::WIDTH + j],
         table::Found::Nothing => 0,
     }
@@ -59,8 +60,8 @@ pub fn enter(
 ) -> Put
     requires { ⌜ (count * width ≤ length (now b)) × (kind < 144) × (name < 16777216) ⌝ }
     ensures room { λ r. ⌜ Fit width (length (now (b .entry))) r ⌝ }
-    ensures after { λ r. ⌜ ((rows : List Row) → Holds rows count (now (b .entry))
-        → Inserted (row kind name (w1 ∷ w2 ∷ w3 ∷ w4 ∷ w5 ∷ [])) rows (length (now (b .entry))) r (now (b .exit))) ⌝ }
+    ensures after { λ r. ⌜ ((rows : List Row) → Keeps rows count (now (b .entry))
+        → PutIn (insert (row kind name (w1 ∷ w2 ∷ w3 ∷ w4 ∷ w5 ∷ [])) rows) (length (now (b .entry))) r (now (b .exit))) ⌝ }
 {
     let mut row = [0u32; table::WIDTH];
     row[0] = kind * 16777216 + name;
@@ -69,15 +70,15 @@ pub fn enter(
     row[3] = w3;
     row[4] = w4;
     row[5] = w5;
-    table::insert(b, count, &row)
+    runs::insert(b, count, &row)
 }
 
 // A line number.
 pub fn enter_line(b: &mut [u32], count: usize, number: u32, scope: u32) -> Put
     requires { ⌜ (count * width ≤ length (now b)) × (number < 16777216) ⌝ }
     ensures room { λ r. ⌜ Fit width (length (now (b .entry))) r ⌝ }
-    ensures after { λ r. ⌜ ((rows : List Row) → Holds rows count (now (b .entry))
-        → Inserted (lineRow number scope) rows (length (now (b .entry))) r (now (b .exit))) ⌝ }
+    ensures after { λ r. ⌜ ((rows : List Row) → Keeps rows count (now (b .entry))
+        → PutIn (insert (lineRow number scope) rows) (length (now (b .entry))) r (now (b .exit))) ⌝ }
 {
     enter(b, count, 128, number, 0, scope, 0, 0, 0)
 }
@@ -86,8 +87,8 @@ pub fn enter_line(b: &mut [u32], count: usize, number: u32, scope: u32) -> Put
 pub fn enter_label(b: &mut [u32], count: usize, name: u32, scope: u32) -> Put
     requires { ⌜ (count * width ≤ length (now b)) × (name < 16777216) ⌝ }
     ensures room { λ r. ⌜ Fit width (length (now (b .entry))) r ⌝ }
-    ensures after { λ r. ⌜ ((rows : List Row) → Holds rows count (now (b .entry))
-        → Inserted (labelRow name scope) rows (length (now (b .entry))) r (now (b .exit))) ⌝ }
+    ensures after { λ r. ⌜ ((rows : List Row) → Keeps rows count (now (b .entry))
+        → PutIn (insert (labelRow name scope) rows) (length (now (b .entry))) r (now (b .exit))) ⌝ }
 {
     enter(b, count, 129, name, 0, scope, 0, 0, 0)
 }
@@ -96,8 +97,8 @@ pub fn enter_label(b: &mut [u32], count: usize, name: u32, scope: u32) -> Put
 pub fn enter_type(b: &mut [u32], count: usize, name: u32, words: u32, line: u32) -> Put
     requires { ⌜ (count * width ≤ length (now b)) × (name < 16777216) ⌝ }
     ensures room { λ r. ⌜ Fit width (length (now (b .entry))) r ⌝ }
-    ensures after { λ r. ⌜ ((rows : List Row) → Holds rows count (now (b .entry))
-        → Inserted (typeRow name words line) rows (length (now (b .entry))) r (now (b .exit))) ⌝ }
+    ensures after { λ r. ⌜ ((rows : List Row) → Keeps rows count (now (b .entry))
+        → PutIn (insert (typeRow name words line) rows) (length (now (b .entry))) r (now (b .exit))) ⌝ }
 {
     enter(b, count, 130, name, 0, words, line, 0, 0)
 }
@@ -115,8 +116,8 @@ pub fn enter_field(
 ) -> Put
     requires { ⌜ (count * width ≤ length (now b)) × (ty < 16777216) ⌝ }
     ensures room { λ r. ⌜ Fit width (length (now (b .entry))) r ⌝ }
-    ensures after { λ r. ⌜ ((rows : List Row) → Holds rows count (now (b .entry))
-        → Inserted (fieldRow ty ordinal name word head arg) rows (length (now (b .entry))) r (now (b .exit))) ⌝ }
+    ensures after { λ r. ⌜ ((rows : List Row) → Keeps rows count (now (b .entry))
+        → PutIn (insert (fieldRow ty ordinal name word head arg) rows) (length (now (b .entry))) r (now (b .exit))) ⌝ }
 {
     enter(b, count, 131, ty, ordinal, name, word, head, arg)
 }
@@ -125,8 +126,8 @@ pub fn enter_field(
 pub fn enter_const(b: &mut [u32], count: usize, name: u32, kind: u32, low: u32, high: u32) -> Put
     requires { ⌜ (count * width ≤ length (now b)) × (name < 16777216) ⌝ }
     ensures room { λ r. ⌜ Fit width (length (now (b .entry))) r ⌝ }
-    ensures after { λ r. ⌜ ((rows : List Row) → Holds rows count (now (b .entry))
-        → Inserted (constRow name kind low high) rows (length (now (b .entry))) r (now (b .exit))) ⌝ }
+    ensures after { λ r. ⌜ ((rows : List Row) → Keeps rows count (now (b .entry))
+        → PutIn (insert (constRow name kind low high) rows) (length (now (b .entry))) r (now (b .exit))) ⌝ }
 {
     enter(b, count, 132, name, 0, kind, low, high, 0)
 }
@@ -143,8 +144,8 @@ pub fn enter_array(
 ) -> Put
     requires { ⌜ (count * width ≤ length (now b)) × (name < 16777216) ⌝ }
     ensures room { λ r. ⌜ Fit width (length (now (b .entry))) r ⌝ }
-    ensures after { λ r. ⌜ ((rows : List Row) → Holds rows count (now (b .entry))
-        → Inserted (arrayRow name scope rank line lower) rows (length (now (b .entry))) r (now (b .exit))) ⌝ }
+    ensures after { λ r. ⌜ ((rows : List Row) → Keeps rows count (now (b .entry))
+        → PutIn (insert (arrayRow name scope rank line lower) rows) (length (now (b .entry))) r (now (b .exit))) ⌝ }
 {
     enter(b, count, 133, name, scope, rank, line, bit(lower), 0)
 }
@@ -160,8 +161,8 @@ pub fn enter_typed_var(
 ) -> Put
     requires { ⌜ (count * width ≤ length (now b)) × (name < 16777216) ⌝ }
     ensures room { λ r. ⌜ Fit width (length (now (b .entry))) r ⌝ }
-    ensures after { λ r. ⌜ ((rows : List Row) → Holds rows count (now (b .entry))
-        → Inserted (typedVarRow name scope head arg) rows (length (now (b .entry))) r (now (b .exit))) ⌝ }
+    ensures after { λ r. ⌜ ((rows : List Row) → Keeps rows count (now (b .entry))
+        → PutIn (insert (typedVarRow name scope head arg) rows) (length (now (b .entry))) r (now (b .exit))) ⌝ }
 {
     enter(b, count, 134, name, scope, head, arg, 0, 0)
 }
@@ -178,8 +179,8 @@ pub fn enter_proc(
 ) -> Put
     requires { ⌜ (count * width ≤ length (now b)) × (name < 16777216) ⌝ }
     ensures room { λ r. ⌜ Fit width (length (now (b .entry))) r ⌝ }
-    ensures after { λ r. ⌜ ((rows : List Row) → Holds rows count (now (b .entry))
-        → Inserted (procRow name function line head arg) rows (length (now (b .entry))) r (now (b .exit))) ⌝ }
+    ensures after { λ r. ⌜ ((rows : List Row) → Keeps rows count (now (b .entry))
+        → PutIn (insert (procRow name function line head arg) rows) (length (now (b .entry))) r (now (b .exit))) ⌝ }
 {
     enter(b, count, 135, name, 0, bit(function), line, head, arg)
 }
@@ -198,8 +199,8 @@ pub fn enter_param(
 ) -> Put
     requires { ⌜ (count * width ≤ length (now b)) × (proc < 16777216) ⌝ }
     ensures room { λ r. ⌜ Fit width (length (now (b .entry))) r ⌝ }
-    ensures after { λ r. ⌜ ((rows : List Row) → Holds rows count (now (b .entry))
-        → Inserted (paramRow proc ordinal name byval array head arg) rows (length (now (b .entry))) r (now (b .exit))) ⌝ }
+    ensures after { λ r. ⌜ ((rows : List Row) → Keeps rows count (now (b .entry))
+        → PutIn (insert (paramRow proc ordinal name byval array head arg) rows) (length (now (b .entry))) r (now (b .exit))) ⌝ }
 {
     enter(
         b,
@@ -218,8 +219,8 @@ pub fn enter_param(
 pub fn enter_dim_shared(b: &mut [u32], count: usize, name: u32, array: bool) -> Put
     requires { ⌜ (count * width ≤ length (now b)) × (name < 16777216) ⌝ }
     ensures room { λ r. ⌜ Fit width (length (now (b .entry))) r ⌝ }
-    ensures after { λ r. ⌜ ((rows : List Row) → Holds rows count (now (b .entry))
-        → Inserted (dimSharedRow name array) rows (length (now (b .entry))) r (now (b .exit))) ⌝ }
+    ensures after { λ r. ⌜ ((rows : List Row) → Keeps rows count (now (b .entry))
+        → PutIn (insert (dimSharedRow name array) rows) (length (now (b .entry))) r (now (b .exit))) ⌝ }
 {
     enter(b, count, 137, name, bit(array), 0, 0, 0, 0)
 }
@@ -228,8 +229,8 @@ pub fn enter_dim_shared(b: &mut [u32], count: usize, name: u32, array: bool) -> 
 pub fn enter_shared(b: &mut [u32], count: usize, name: u32, scope: u32, mark: u32) -> Put
     requires { ⌜ (count * width ≤ length (now b)) × (name < 16777216) ⌝ }
     ensures room { λ r. ⌜ Fit width (length (now (b .entry))) r ⌝ }
-    ensures after { λ r. ⌜ ((rows : List Row) → Holds rows count (now (b .entry))
-        → Inserted (sharedRow name scope mark) rows (length (now (b .entry))) r (now (b .exit))) ⌝ }
+    ensures after { λ r. ⌜ ((rows : List Row) → Keeps rows count (now (b .entry))
+        → PutIn (insert (sharedRow name scope mark) rows) (length (now (b .entry))) r (now (b .exit))) ⌝ }
 {
     enter(b, count, 138, name, scope, mark, 0, 0, 0)
 }
@@ -238,8 +239,8 @@ pub fn enter_shared(b: &mut [u32], count: usize, name: u32, scope: u32, mark: u3
 pub fn enter_static(b: &mut [u32], count: usize, name: u32, scope: u32, mark: u32) -> Put
     requires { ⌜ (count * width ≤ length (now b)) × (name < 16777216) ⌝ }
     ensures room { λ r. ⌜ Fit width (length (now (b .entry))) r ⌝ }
-    ensures after { λ r. ⌜ ((rows : List Row) → Holds rows count (now (b .entry))
-        → Inserted (staticRow name scope mark) rows (length (now (b .entry))) r (now (b .exit))) ⌝ }
+    ensures after { λ r. ⌜ ((rows : List Row) → Keeps rows count (now (b .entry))
+        → PutIn (insert (staticRow name scope mark) rows) (length (now (b .entry))) r (now (b .exit))) ⌝ }
 {
     enter(b, count, 139, name, scope, mark, 0, 0, 0)
 }
@@ -248,8 +249,8 @@ pub fn enter_static(b: &mut [u32], count: usize, name: u32, scope: u32, mark: u3
 pub fn enter_static_proc(b: &mut [u32], count: usize, name: u32) -> Put
     requires { ⌜ (count * width ≤ length (now b)) × (name < 16777216) ⌝ }
     ensures room { λ r. ⌜ Fit width (length (now (b .entry))) r ⌝ }
-    ensures after { λ r. ⌜ ((rows : List Row) → Holds rows count (now (b .entry))
-        → Inserted (staticProcRow name) rows (length (now (b .entry))) r (now (b .exit))) ⌝ }
+    ensures after { λ r. ⌜ ((rows : List Row) → Keeps rows count (now (b .entry))
+        → PutIn (insert (staticProcRow name) rows) (length (now (b .entry))) r (now (b .exit))) ⌝ }
 {
     enter(b, count, 140, name, 0, 0, 0, 0, 0)
 }
@@ -258,8 +259,8 @@ pub fn enter_static_proc(b: &mut [u32], count: usize, name: u32) -> Put
 pub fn enter_def_fn(b: &mut [u32], count: usize, name: u32) -> Put
     requires { ⌜ (count * width ≤ length (now b)) × (name < 16777216) ⌝ }
     ensures room { λ r. ⌜ Fit width (length (now (b .entry))) r ⌝ }
-    ensures after { λ r. ⌜ ((rows : List Row) → Holds rows count (now (b .entry))
-        → Inserted (defFnRow name) rows (length (now (b .entry))) r (now (b .exit))) ⌝ }
+    ensures after { λ r. ⌜ ((rows : List Row) → Keeps rows count (now (b .entry))
+        → PutIn (insert (defFnRow name) rows) (length (now (b .entry))) r (now (b .exit))) ⌝ }
 {
     enter(b, count, 141, name, 0, 0, 0, 0, 0)
 }
@@ -268,8 +269,8 @@ pub fn enter_def_fn(b: &mut [u32], count: usize, name: u32) -> Put
 pub fn enter_unranked(b: &mut [u32], count: usize, name: u32, scope: u32) -> Put
     requires { ⌜ (count * width ≤ length (now b)) × (name < 16777216) ⌝ }
     ensures room { λ r. ⌜ Fit width (length (now (b .entry))) r ⌝ }
-    ensures after { λ r. ⌜ ((rows : List Row) → Holds rows count (now (b .entry))
-        → Inserted (unrankedRow name scope) rows (length (now (b .entry))) r (now (b .exit))) ⌝ }
+    ensures after { λ r. ⌜ ((rows : List Row) → Keeps rows count (now (b .entry))
+        → PutIn (insert (unrankedRow name scope) rows) (length (now (b .entry))) r (now (b .exit))) ⌝ }
 {
     enter(b, count, 142, name, scope, 0, 0, 0, 0)
 }
@@ -278,8 +279,8 @@ pub fn enter_unranked(b: &mut [u32], count: usize, name: u32, scope: u32) -> Put
 pub fn enter_option_base(b: &mut [u32], count: usize, value: u32) -> Put
     requires { ⌜ count * width ≤ length (now b) ⌝ }
     ensures room { λ r. ⌜ Fit width (length (now (b .entry))) r ⌝ }
-    ensures after { λ r. ⌜ ((rows : List Row) → Holds rows count (now (b .entry))
-        → Inserted (optionBaseRow value) rows (length (now (b .entry))) r (now (b .exit))) ⌝ }
+    ensures after { λ r. ⌜ ((rows : List Row) → Keeps rows count (now (b .entry))
+        → PutIn (insert (optionBaseRow value) rows) (length (now (b .entry))) r (now (b .exit))) ⌝ }
 {
     enter(b, count, 143, 0, 0, value, 0, 0, 0)
 }

@@ -1,10 +1,6 @@
--- `has` is whether `find` finds: `found-row` and `found-none` say what its answer means. Assumes nothing.
+-- `has` is whether `find` finds. Assumes nothing.
 use mathlib.Core.Path.{_≡_, sym, ap, _∙_}
-use Prim.Native.Nat.{_-_}
-use Rattle.table.specs.Rows.{find, rank}
-use Rattle.table.specs.Answers.{foundAt}
-use Rattle.table.specs.declared.Found.the-variants.{At}
-use Rattle.table.specs.Buffers.{found-row, found-none}
+use Rattle.runs.specs.Runs.{rowIn}
 use Rattle.entries.specs.Entries.{hasRow}
 use borrow.Author.Needs.{needs}
 use Rattle.entries.proofs.has.Statement.{statement}
@@ -20,15 +16,14 @@ enum-told-2 : tie.Need-enum-told-2
 enum-told-2 c = search needs
 
 returns : tie.Need-returns
-returns c rows H =
+returns c rows K =
     let a = c .before .before .before .before .args in
-    let e : At (c .enum-told .given .0 .0) ≡ foundAt (rank (a .k) rows) (find (a .k) rows) = sym (c .enum-told .given .1) ∙ c .before .before .find .ensures .1 rows H in
-    sym (ap hasRow (found-row rows (a .count) (a .b .now) H (a .k) (c .enum-told .given .0 .0) e))
+    ap (λ f. hasRow (rowIn (a .b .now) f)) (sym (c .enum-told .given .1)) ∙ ap hasRow (c .before .before .find .ensures .1 rows K)
 
 returns-2 : tie.Need-returns-2
-returns-2 c rows H =
+returns-2 c rows K =
     let a = c .before .before .before .before .args in
-    sym (ap hasRow (found-none rows (a .count) (a .b .now) H (a .k) (sym (c .enum-told2 .given .1) ∙ c .before .before .find .ensures .1 rows H)))
+    ap (λ f. hasRow (rowIn (a .b .now) f)) (sym (c .enum-told2 .given .1)) ∙ ap hasRow (c .before .before .find .ensures .1 rows K)
 
 pub has-spec : {M : Type 1} → statement M
 has-spec = tie.close (tie.spec find-requires enum-told enum-told-2 returns returns-2)

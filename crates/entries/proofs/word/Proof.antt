@@ -2,12 +2,10 @@
 use mathlib.Core.Path.{_≡_, sym, ap, _∙_, subst}
 use Prim.Native.Nat.{ℕ, _<_, _-_}
 use native.Mathlib.Omega.{arith}
-use Rattle.table.specs.Rows.{find, rank}
-use Rattle.table.specs.Answers.{foundAt, Within}
+use Rattle.table.specs.Answers.{Within}
 use Rattle.table.specs.declared.Found.{Found}
-use Rattle.table.specs.declared.Found.the-variants.{At}
-use Rattle.table.specs.Images.{word-at}
-use Rattle.table.specs.Buffers.{found-row, found-none}
+use Rattle.runs.specs.Runs.{rowIn}
+use Rattle.runs.specs.Places.{row-word}
 use Rattle.entries.specs.Entries.{rowWord}
 use borrow.Author.Needs.{needs}
 use Rattle.entries.proofs.word.Statement.{statement}
@@ -39,17 +37,16 @@ enum-told : tie.Need-enum-told
 enum-told c = search needs
 
 returns : tie.Need-returns
-returns c rows H =
+returns c rows K =
     let f = c .before .before in
     let a = f .before .before .before .before .args in
     let i : ℕ = f .i .given .0 .0 in
-    let e : At i ≡ foundAt (rank (a .k) rows) (find (a .k) rows) = sym (f .i .given .1) ∙ f .before .before .find .ensures .1 rows H in
-    word-at (H .filled) i (a .j) (in-table f) (omega arith) ∙ sym (ap (rowWord (a .j)) (found-row rows (a .count) (a .b .now) H (a .k) i e))
+    sym (row-word (a .b .now) i (a .j) (omega arith)) ∙ ap (λ f. rowWord (a .j) (rowIn (a .b .now) f)) (sym (f .i .given .1)) ∙ ap (rowWord (a .j)) (f .before .before .find .ensures .1 rows K)
 
 returns-2 : tie.Need-returns-2
-returns-2 c rows H =
+returns-2 c rows K =
     let a = c .before .before .before .before .args in
-    sym (ap (rowWord (a .j)) (found-none rows (a .count) (a .b .now) H (a .k) (sym (c .enum-told .given .1) ∙ c .before .before .find .ensures .1 rows H)))
+    ap (λ f. rowWord (a .j) (rowIn (a .b .now) f)) (sym (c .enum-told .given .1)) ∙ ap (rowWord (a .j)) (c .before .before .find .ensures .1 rows K)
 
 pub word-spec : {M : Type 1} → statement M
 word-spec =

@@ -10,9 +10,10 @@ use lib.Dec.{leb}
 use lib.ListN.{length}
 use borrow.Author.Tests.{le-leb, lt-leb, leb-true, leb-false}
 use Rattle.words.specs.Word.{pick}
-use Rattle.table.specs.Rows.{Row, width, noteWidth, insert, insertAll, remove, replace, Holds}
+use Rattle.table.specs.Rows.{Row, width, noteWidth, insert, insertAll, remove, replace}
 use Rattle.table.specs.Laws.{pick-true, pick-false, insert-all-len, remove-len}
-use Rattle.table.specs.Images.{holds-fits}
+use Rattle.runs.specs.Runs.{Keeps}
+use Rattle.runs.specs.Laws.{keeps-fits, keeps-count}
 use Rattle.steps.specs.State.{State, running, stopped, Step, _⨾_, nothing, when, asking, each, stop, fits, change, enter, push}
 use Rattle.steps.specs.declared.Counts.{Counts}
 use Rattle.steps.specs.Held.{Fit, Held, Sized, Does, Notes, Rows, Counted, changing, Left}
@@ -128,7 +129,7 @@ stopped-does {f} {s} {b} {d} stays h fit = record { fit = fit; after = by }
 -- ---- with a value that the rows decide: the code asked for it before
 
 pub asked : {A : Type 0} (x : A) (f : List Row → A) (g : A → Sized) {s r : Counts} {b d b′ d′ : List ℕ} → ((a : A) (N D : ℕ) → Stays (g a N D))
-    → ((rows : List Row) → Holds rows (s .rows) b → x ≡ f rows) → Does (g x) s r b d b′ d′ → Does (λ N D. asking (λ rows. g (f rows) N D)) s r b d b′ d′
+    → ((rows : List Row) → Keeps rows (s .rows) b → x ≡ f rows) → Does (g x) s r b d b′ d′ → Does (λ N D. asking (λ rows. g (f rows) N D)) s r b d b′ d′
 unfolding asking
 asked {A} x f g {s} {r} {b} {d} {b′} {d′} stays told F = record { fit = F .fit; after = by }
   where
@@ -171,7 +172,7 @@ replaced lo hi new {s} {r} {b} {d} {b′} {d′} F = record { fit = F .fit; afte
   where
     by : (N D : ℕ) (st : State) → Held N D st s b d → Held N D (change (some N) (replace lo hi new) st) r b′ d′
     by N D (running rows notes) H =
-        let fit : length rows * width ≤ N = omega (arith, holds-fits (H .inside .1 .filled), H .inside .1 .filled .count, H .rows-long) in
+        let fit : length rows * width ≤ N = omega (arith, keeps-fits (H .inside .1), keeps-count (H .inside .1), H .rows-long) in
         subst (λ (st : State). Held N D st r b′ d′) (replace-all N lo hi new rows notes fit) (F .after N D (running rows notes) H)
     by N D (stopped k) H =
         let e : each (enter (some N)) new (change (some N) (remove lo hi) (stopped k)) ≡ stopped k =

@@ -5,9 +5,10 @@ use mathlib.Core.List.{List}
 use mathlib.Core.Option.{some}
 use Prim.Native.Nat.{ℕ, _*_, _≤_, _<_}
 use lib.ListN.{length}
-use Rattle.table.specs.Rows.{Row, width, noteWidth, zeros, image, Filled, Holds}
+use Rattle.table.specs.Rows.{Row, width, noteWidth, zeros, image, Filled}
 use Rattle.table.specs.declared.Put.{Put}
 use Rattle.table.specs.declared.Put.the-variants.{Full, Done}
+use Rattle.runs.specs.Runs.{Keeps}
 use Rattle.steps.specs.State.{State, running, stopped, Step, when, change, enter, push}
 use Rattle.steps.specs.declared.Counts.{Counts}
 
@@ -17,7 +18,7 @@ Fit s N D = (s .rows * width ≤ N) × (s .notes * noteWidth ≤ D)
 
 -- once stopped, the buffers have no meaning any more
 abbrev pub Inside : State → Counts → List ℕ → List ℕ → Type 0
-Inside (running rows notes) s b d = (s .stop ≡ 0) × Holds rows (s .rows) b × Filled noteWidth notes (s .notes) d
+Inside (running rows notes) s b d = (s .stop ≡ 0) × Keeps rows (s .rows) b × Filled noteWidth notes (s .notes) d
 Inside (stopped k) s b d = (s .stop ≡ k) × (0 < k)
 
 -- buffers of N and D words, under these counts, hold the state

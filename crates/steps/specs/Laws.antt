@@ -9,11 +9,13 @@ use lib.Dec.{leb, eqb}
 use lib.ListN.{length, length-append}
 use borrow.Author.Tests.{le-leb, leb-true, eqb-true, ne-eqb}
 use Rattle.words.specs.declared.Refusal.the-variants.{TypeWords}
-use Rattle.table.specs.Rows.{Row, width, noteWidth, Table, insert, remove, zeros, image, Filled, Holds}
+use Rattle.table.specs.Rows.{Row, width, noteWidth, insert, remove, zeros, image, Filled, Holds}
 use Rattle.table.specs.Laws.{pick-true, remove-len}
-use Rattle.table.specs.Images.{holds-fits, holds-image, image-none}
-use Rattle.table.specs.Answers.{Fits, More, Inserted, Removed, Entered, Pushed}
-use Rattle.table.specs.Buffers.{picked-done, picked-full, removed-holds, pushed-filled, more-done, more-full}
+use Rattle.table.specs.Images.{image-none}
+use Rattle.table.specs.Answers.{Fits, More, Pushed}
+use Rattle.table.specs.Buffers.{picked-done, picked-full, pushed-filled, more-done, more-full}
+use Rattle.runs.specs.Runs.{Keeps, PutIn, TakenOut}
+use Rattle.runs.specs.Laws.{holds-keeps, keeps-fits, keeps-count}
 use Rattle.table.specs.Answers as Answers
 use Rattle.table.specs.declared.Put.{Put}
 use Rattle.table.specs.declared.Put.the-variants.{Full, Done}
@@ -31,16 +33,12 @@ going k e h = absurd (omega arith)
 -- buffers of zeros hold no rows and no diagnostics
 pub fresh-held : (f : Bool) {b d : List ℕ} → f ≡ true → Fresh f b d → Held (length b) (length d) (running [] []) (record { stop = 0; rows = 0; notes = 0 }) b d
 fresh-held true {b} {d} e h =
-    let rows : Holds [] 0 b = record { filled = record { words = h .0 ∙ sym (image-none width (length b)); count = refl; wide = tt }; table = tt } in
+    let rows : Keeps [] 0 b = holds-keeps (record { filled = record { words = h .0 ∙ sym (image-none width (length b)); count = refl; wide = tt }; table = tt }) in
     let notes : Filled noteWidth [] 0 d = record { words = h .1 ∙ sym (image-none noteWidth (length d)); count = refl; wide = tt } in
     record { rows-long = refl; notes-long = refl; inside = (refl, rows, notes) }
 fresh-held false e h = absurd (false≢true e)
 
 -- ---- rows changed
-
--- one row put in is a change of the rows
-pub inserted-entered : {row : Row} {rows : List Row} {n : ℕ} {r : Put} {buf : List ℕ} → Inserted row rows n r buf → Entered (insert row rows) n r buf
-inserted-entered {row} {rows} {n} I = record { answer = I .answer; after = λ h. I .after ∙ ap (image width n) (pick-true (insert row rows) rows h) }
 
 module _ (s : Counts) (b : List ℕ) (f : List Row → List Row) where
   change-stopped : (d : List ℕ) (N D : ℕ) (st : State) → (s .stop ≡ 0 → ⊥) → Held N D st s b d → Held N D (change (some N) f st) s b d
@@ -52,12 +50,12 @@ module _ (s : Counts) (b : List ℕ) (f : List Row → List Row) where
   unfolding changing
   stopped-change fit h = record { fit = fit; kept = refl; after = λ d N D st H. change-stopped d N D st h H }
 
-  module _ (go : s .stop ≡ 0) (b′ : List ℕ) (len : length b′ ≡ length b) (keeps : (rows : List Row) → Table 0 rows → Table 0 (f rows)) where
+  module _ (go : s .stop ≡ 0) (b′ : List ℕ) (len : length b′ ≡ length b) where
     fits-is : (N : ℕ) (rows : List Row) → length b ≡ N → Fits (length b) rows ≡ fits width (some N) rows
     unfolding fits
     fits-is N rows e = ap (leb (length rows * width)) e
 
-    put-in : (r : Put) (d : List ℕ) (N D : ℕ) (st : State) → ((rows : List Row) → Holds rows (s .rows) b → Entered (f rows) (length b) r b′)
+    put-in : (r : Put) (d : List ℕ) (N D : ℕ) (st : State) → ((rows : List Row) → Keeps rows (s .rows) b → PutIn (f rows) (length b) r b′)
         → Held N D st s b d → Held N D (change (some N) f st) (rowsPut s r) b′ d
     unfolding change
     put-in Full d N D (running rows notes) E H =
@@ -67,8 +65,7 @@ module _ (s : Counts) (b : List ℕ) (f : List Row → List Row) where
         let e = E rows (H .inside .1) in
         let p : (Fits (length b) (f rows) ≡ true) × (m ≡ length (f rows)) = picked-done _ _ _ (e .answer) in
         let yes : fits width (some N) (f rows) ≡ true = sym (fits-is N (f rows) (H .rows-long)) ∙ p .0 in
-        let holds : Holds (f rows) (length (f rows)) (image width (length b) (f rows)) = holds-image (length b) (f rows) (keeps rows (H .inside .1 .table)) (leb-true _ _ (p .0)) in
-        rw yes (record { rows-long = len ∙ H .rows-long; notes-long = H .notes-long; inside = (refl, rw (p .1, e .after (p .0)) holds, H .inside .2) })
+        rw yes (record { rows-long = len ∙ H .rows-long; notes-long = H .notes-long; inside = (refl, rw (p .1) (e .after (p .0)), H .inside .2) })
     put-in r d N D (stopped k) E H = going k (sym go ∙ H .inside .0) (H .inside .1)
 
     put-fits : (r : Put) → Answers.Fit width (length b) r → s .rows * width ≤ length b → rowsPut s r .rows * width ≤ length b′
@@ -79,7 +76,7 @@ module _ (s : Counts) (b : List ℕ) (f : List Row → List Row) where
     put-keeps Full = refl
     put-keeps (Done m) = refl
 
-    pub put-change : s .rows * width ≤ length b → (r : Put) → Answers.Fit width (length b) r → ((rows : List Row) → Holds rows (s .rows) b → Entered (f rows) (length b) r b′)
+    pub put-change : s .rows * width ≤ length b → (r : Put) → Answers.Fit width (length b) r → ((rows : List Row) → Keeps rows (s .rows) b → PutIn (f rows) (length b) r b′)
         → Rows (changing f) s (rowsPut s r) b b′
     unfolding changing
     put-change fit r h E = record { fit = put-fits r h fit; kept = put-keeps r; after = λ d N D st H. put-in r d N D st E H }
@@ -89,18 +86,18 @@ unfolding changing entering enter
 entering-is row F = record { fit = F .fit; kept = F .kept; after = F .after }
 
 -- rows taken out: what is left always fits
-module _ (s : Counts) (b : List ℕ) (lo hi : ℕ) (h : lo ≤ hi) (go : s .stop ≡ 0) (b′ : List ℕ) (len : length b′ ≡ length b) (m : ℕ) where
-  remove-in : (d : List ℕ) (N D : ℕ) (st : State) → ((rows : List Row) → Holds rows (s .rows) b → Removed lo hi rows (length b) m b′)
+module _ (s : Counts) (b : List ℕ) (lo hi : ℕ) (go : s .stop ≡ 0) (b′ : List ℕ) (len : length b′ ≡ length b) (m : ℕ) where
+  remove-in : (d : List ℕ) (N D : ℕ) (st : State) → ((rows : List Row) → Keeps rows (s .rows) b → TakenOut (remove lo hi rows) m b′)
       → Held N D st s b d → Held N D (change (some N) (remove lo hi) st) (record { stop = 0; rows = m; notes = s .notes }) b′ d
   unfolding change fits
   remove-in d N D (running rows notes) R H =
-      let holds : Holds rows (s .rows) b = H .inside .1 in
+      let K : Keeps rows (s .rows) b = H .inside .1 in
       let yes : leb (length (remove lo hi rows) * width) N ≡ true =
-      le-leb (length (remove lo hi rows) * width) N (omega (arith, remove-len lo hi rows, holds-fits (holds .filled), holds .filled .count, H .rows-long)) in
-      rw yes (record { rows-long = len ∙ H .rows-long; notes-long = H .notes-long; inside = (refl, removed-holds rows (s .rows) b holds lo hi m h b′ (R rows holds), H .inside .2) })
+      le-leb (length (remove lo hi rows) * width) N (omega (arith, remove-len lo hi rows, keeps-fits K, keeps-count K, H .rows-long)) in
+      rw yes (record { rows-long = len ∙ H .rows-long; notes-long = H .notes-long; inside = (refl, R rows K .after, H .inside .2) })
   remove-in d N D (stopped k) R H = going k (sym go ∙ H .inside .0) (H .inside .1)
 
-  pub remove-change : s .rows * width ≤ length b → m ≤ s .rows → ((rows : List Row) → Holds rows (s .rows) b → Removed lo hi rows (length b) m b′)
+  pub remove-change : s .rows * width ≤ length b → m ≤ s .rows → ((rows : List Row) → Keeps rows (s .rows) b → TakenOut (remove lo hi rows) m b′)
       → Rows (changing (remove lo hi)) s (record { stop = 0; rows = m; notes = s .notes }) b b′
   unfolding changing
   remove-change fit le R = record { fit = omega arith; kept = refl; after = λ d N D st H. remove-in d N D st R H }
@@ -177,18 +174,19 @@ module _ (s : Counts) (number : ℕ) where
       by b d N D (stopped k) H = going k (sym go ∙ H .inside .0) (H .inside .1)
 
 module _ {N D : ℕ} {s : Counts} {b d : List ℕ} where
-  -- a run that goes on leaves what it holds
-  pub left-running : (st : State) → Held N D st s b d → s .stop ≡ 0 → Left N D st s b d
+  -- a run that goes on leaves what it holds, its rows in one run
+  pub left-running : (st : State) → Held N D st s b d → s .stop ≡ 0 → (b′ : List ℕ) → length b′ ≡ length b → ((rows : List Row) → Keeps rows (s .rows) b → Holds rows (s .rows) b′) → Left N D st s b′ d
   unfolding countsOf rowsLeft notesLeft
-  left-running (running rows notes) H go =
+  left-running (running rows notes) H go b′ len settled =
+      let S : Holds rows (s .rows) b′ = settled rows (H .inside .1) in
       record {
         answer = ap (λ (k : ℕ). record { stop = k; rows = s .rows; notes = s .notes }) (H .inside .0)
-            ∙ ap (λ (k : ℕ). record { stop = 0; rows = k; notes = s .notes }) (sym (H .inside .1 .filled .count))
+            ∙ ap (λ (k : ℕ). record { stop = 0; rows = k; notes = s .notes }) (sym (S .filled .count))
             ∙ ap (λ (k : ℕ). record { stop = 0; rows = length rows; notes = k }) (sym (H .inside .2 .count));
-        rows = H .inside .1 .filled .words ∙ ap (λ (n : ℕ). image width n rows) (H .rows-long);
+        rows = S .filled .words ∙ ap (λ (n : ℕ). image width n rows) (len ∙ H .rows-long);
         notes = H .inside .2 .words ∙ ap (λ (n : ℕ). image noteWidth n notes) (H .notes-long);
       }
-  left-running (stopped k) H go = going k (sym go ∙ H .inside .0) (H .inside .1)
+  left-running (stopped k) H go b′ len settled = going k (sym go ∙ H .inside .0) (H .inside .1)
 
   -- a stopped one zeros
   pub left-stopped : (st : State) → Held N D st s b d → (s .stop ≡ 0 → ⊥) → (b′ d′ : List ℕ) → b′ ≡ zeros (length b) → d′ ≡ zeros (length d)

@@ -3,7 +3,8 @@ use Prim.Native.Nat.{ℕ, _*_, _≤_}
 use mathlib.Core.Path.{_≡_, refl, _∙_, subst}
 use mathlib.Core.List.{List, [], _∷_, _++_}
 use lib.ListN.{length}
-use Rattle.table.specs.Rows.{Row, width, Holds}
+use Rattle.table.specs.Rows.{Row, width}
+use Rattle.runs.specs.Runs.{Keeps}
 use Rattle.steps.specs.State.{State, running, stopped, _⨾_, nothing, asking, each}
 use Rattle.steps.specs.declared.Counts.{Counts}
 use Rattle.steps.specs.Held.{Held, Sized, Rows}
@@ -20,7 +21,7 @@ rows-same g {s} {r} {b} {b′} e F = record { fit = F .fit; kept = F .kept; afte
 
 -- with a value that the rows decide: the code asked for it before
 pub rows-asked : {A : Type 0} (x : A) (f : List Row → A) (g : A → Sized) {s r : Counts} {b b′ : List ℕ} → ((a : A) (N D : ℕ) → Stays (g a N D))
-    → ((rows : List Row) → Holds rows (s .rows) b → x ≡ f rows) → Rows (g x) s r b b′ → Rows (λ N D. asking (λ rows. g (f rows) N D)) s r b b′
+    → ((rows : List Row) → Keeps rows (s .rows) b → x ≡ f rows) → Rows (g x) s r b b′ → Rows (λ N D. asking (λ rows. g (f rows) N D)) s r b b′
 unfolding asking
 rows-asked {A} x f g {s} {r} {b} {b′} stays told F = record { fit = F .fit; kept = F .kept; after = by }
   where

@@ -48,11 +48,13 @@ pub fn begin_in(b: &mut [u32], d: &mut [u32], fresh: bool) -> Counts
     begin(b, d)
 }
 
-// The end of a run: one that was stopped leaves zeros to the last word of both buffers.
+// The end of a run: its rows are put in order; one that was stopped leaves zeros to the last word of both buffers.
 pub fn finish(b: &mut [u32], d: &mut [u32], s: Counts) -> Counts
+    requires { ⌜ s .rows * width ≤ length (now b) ⌝ }
     ensures { λ r. ⌜ ((N D : ℕ) (st : State) → Held N D st s (now (b .entry)) (now (d .entry)) → Left N D st r (now (b .exit)) (now (d .exit))) ⌝ }
 {
     if s.stop == 0 {
+        runs::settle(b, s.rows);
         return s;
     }
     table::empty(b);
@@ -157,7 +159,7 @@ pub fn remove_under(b: &mut [u32], s: Counts, kind: u32, name: u32) -> Counts
     }
     let lo = entries::entry_key(kind, name, 0);
     let hi = entries::entry_key(kind, name + 1, 0);
-    let n = table::remove(b, s.rows, lo, hi);
+    let n = runs::remove(b, s.rows, lo, hi);
     Counts {
         stop: 0,
         rows: n,

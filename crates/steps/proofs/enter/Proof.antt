@@ -1,13 +1,11 @@
 -- A row entered: once stopped nothing is done; else the answer of `entries::enter` is the change of the rows. Assumes nothing.
-use mathlib.Core.Path.{refl, subst, sym}
+use mathlib.Core.Path.{subst, sym}
 use mathlib.Core.List.{List, [], _∷_}
-use Prim.Native.Nat.{zero-le}
 use Rattle.table.specs.Rows.{Row, insert}
-use Rattle.table.specs.Laws.{insert-table}
 use Rattle.entries.specs.Entries.{row as rowOf}
 use Rattle.steps.specs.declared.Counts.{Counts}
 use Rattle.steps.specs.Held.{Rows, entering}
-use Rattle.steps.specs.Laws.{stopped-change, put-change, inserted-entered, entering-is}
+use Rattle.steps.specs.Laws.{stopped-change, put-change, entering-is}
 use borrow.Author.Needs.{needs}
 use Rattle.steps.proofs.enter.Statement.{statement}
 use Rattle.steps.proofs.enter.Tie as tie
@@ -33,7 +31,7 @@ returns-2 c =
     let a = k .args in
     let row : Row = rowOf (a .kind) (a .name) (a .w1 ∷ a .w2 ∷ a .w3 ∷ a .w4 ∷ a .w5 ∷ []) in
     let e = c .before .before .before .enter in
-    let put = entering-is row (put-change (a .s) (a .b .now) (insert row) (c .before .before .before .before .before .if1 .left) (e .last .0) (e .kept .0) (λ rows t. insert-table 0 row rows t refl zero-le) (k .pre .0) (e .result) (e .ensures .0) (λ rows H. inserted-entered {row = row} (e .ensures .1 rows H))) in
+    let put = entering-is row (put-change (a .s) (a .b .now) (insert row) (c .before .before .before .before .before .if1 .left) (e .last .0) (e .kept .0) (k .pre .0) (e .result) (e .ensures .0) (e .ensures .1)) in
     subst (λ (r : Counts). Rows (entering row) (a .s) r (a .b .now) (e .last .0)) (sym (c .rows-put .ensures)) put
 
 pub enter-spec : {M : Type 1} → statement M

@@ -36,8 +36,7 @@ returns-2 c =
     let e = c .before .before .remove in
     let lo = c .before .before .before .before .before .entry-key .ensures in
     let hi = c .before .before .before .before .entry-key2 .ensures in
-    let le : entryKey (a .kind) (a .name) 0 ≤ entryKey (a .kind) (a .name + 1) 0 = omega arith in
-    rw (lo, hi) at (remove-change (a .s) (a .b .now) _ _ (rw (lo, hi) le) (c .before .before .before .before .before .before .if1 .left) (e .last .0) (e .kept .0) (e .result) (k .pre .0) (e .ensures .0) (e .ensures .1))
+    rw (lo, hi) at (remove-change (a .s) (a .b .now) _ _ (c .before .before .before .before .before .before .if1 .left) (e .last .0) (e .kept .0) (e .result) (k .pre .0) (e .ensures .0) (e .ensures .1))
 
 pub remove-under-spec : {M : Type 1} → statement M
 remove-under-spec =

@@ -13,7 +13,8 @@ use Rattle.expr.proofs.Laws.{name-got, got-17}
 use Rattle.expr.proofs.Complete.{stands}
 use Rattle.expr.proofs.Nodes.{node, within, kind-of, in-binary, in-paren, in-unary}
 use Rattle.skip.specs.Shape.{SomeExpr}
-use Rattle.table.specs.Rows.{Row, Holds}
+use Rattle.table.specs.Rows.{Row}
+use Rattle.runs.specs.Runs.{Keeps}
 use Rattle.fold.specs.Fold.{GoodFold, negateOf, binaryOf}
 use Rattle.fold.specs.FoldLaws.{row-good}
 use Rattle.fold.specs.declared.Fold.{Fold}
@@ -79,7 +80,7 @@ module _ {ws : List ℕ} {at : ℕ} {buf : List ℕ} {count : ℕ} where
   pub name-fits : kindOf (getD ws at 0) ≡ 17 → Ready ws at buf count → at + 1 < length ws
   name-fits k R = let v = in-var k (R .stands) in omega (arith, v .to, R .stands .wrote .inside)
 
-  pub name-is : kindOf (getD ws at 0) ≡ 17 → {f : Fold} → ((rows : List Row) → Holds rows count buf → f ≡ constant rows (payOf (getD ws (at + 1) 0))) → Evaluates ws at buf count (record { fold = f; next = at + 2 })
+  pub name-is : kindOf (getD ws at 0) ≡ 17 → {f : Fold} → ((rows : List Row) → Keeps rows count buf → f ≡ constant rows (payOf (getD ws (at + 1) 0))) → Evaluates ws at buf count (record { fold = f; next = at + 2 })
   unfolding constEval
   name-is k F n e end s rows h = let v = in-var k s in record { answer = F rows h ∙ sym (ap (constEval rows) (v .is)); past = v .to }
 

@@ -5,10 +5,11 @@ use mathlib.Core.List.{List, []}
 use mathlib.Core.Option.{none, some}
 use native.Mathlib.Omega.{arith}
 use lib.ListN.{length, getD}
-use Rattle.table.specs.Rows.{Row, width, rank, find, Holds}
-use Rattle.table.specs.Answers.{foundAt, Within}
-use Rattle.table.specs.Images.{holds-fits, word-at}
-use Rattle.table.specs.Buffers.{found-row, found-none}
+use Rattle.table.specs.Rows.{Row, width, find}
+use Rattle.table.specs.Answers.{Within}
+use Rattle.runs.specs.Runs.{rowOf, rowIn, Keeps}
+use Rattle.runs.specs.Laws.{keeps-fits}
+use Rattle.runs.specs.Places.{row-word}
 use Rattle.table.specs.declared.Found.{Found}
 use Rattle.table.specs.declared.Found.the-variants.{At, Nothing}
 use Rattle.entries.specs.Entries.{entryKey}
@@ -19,32 +20,32 @@ use Rattle.consteval.specs.ConstEval.{rowValue, ofRow, constant}
 use Rattle.consteval.specs.Evaluates.{HoldsConsts}
 
 pub rows-fit : {buf : List ℕ} {count : ℕ} → HoldsConsts buf count → count * width ≤ length buf
-rows-fit H = holds-fits (H .holds .filled)
+rows-fit H = keeps-fits (H .holds)
 
 -- the value that the words of row i are
 abbrev pub valueAt : List ℕ → ℕ → Value
 valueAt buf i = valueOf (getD buf (i * width + 2) 0) (getD buf (i * width + 3) 0) (getD buf (i * width + 4) 0)
 
-value-at : {buf : List ℕ} {count : ℕ} {rows : List Row} (H : Holds rows count buf) (i : ℕ) → i < count → rowValue (getD rows i []) ≡ valueAt buf i
-value-at H i h = rw (← word-at (H .filled) i 2 h (omega arith), ← word-at (H .filled) i 3 h (omega arith), ← word-at (H .filled) i 4 h (omega arith)) refl
+value-at : (buf : List ℕ) (i : ℕ) → rowValue (rowOf buf i) ≡ valueAt buf i
+value-at buf i = rw (← row-word buf i 2 (omega arith), ← row-word buf i 3 (omega arith), ← row-word buf i 4 (omega arith)) refl
 
 pub in-table : {count : ℕ} {f : Found} {i : ℕ} → f ≡ At i → Within count f → i < count
 in-table {count} F W = subst (Within count) F W
 
 -- what the search answered, of the key k
 abbrev pub Searched : List ℕ → ℕ → ℕ → Found → Type 0
-Searched buf count k f = (rows : List Row) → Holds rows count buf → f ≡ foundAt (rank k rows) (find k rows)
+Searched buf count k f = (rows : List Row) → Keeps rows count buf → rowIn buf f ≡ find k rows
 
 module _ (name : ℕ) {buf : List ℕ} {count k : ℕ} {f : Found} (q : k ≡ entryKey 132 name 0) (E : Searched buf count k f) where
   module _ {i : ℕ} (F : f ≡ At i) where
-    row-is : {rows : List Row} → Holds rows count buf → find (entryKey 132 name 0) rows ≡ some (getD rows i [])
-    row-is {rows} H = subst (λ (j : ℕ). find j rows ≡ some (getD rows i [])) q (found-row rows count buf H k i (sym F ∙ E rows H))
+    row-is : {rows : List Row} → Keeps rows count buf → find (entryKey 132 name 0) rows ≡ some (rowOf buf i)
+    row-is {rows} K = subst (λ (j : ℕ). find j rows ≡ some (rowOf buf i)) q (sym (E rows K) ∙ ap (rowIn buf) F)
 
-    pub value-good : i < count → HoldsConsts buf count → name < 16777216 → Good (valueAt buf i)
-    value-good t C h = subst Good (value-at (C .holds) i t) (C .consts .good name h (getD (C .rows) i []) (row-is (C .holds)) .good)
+    pub value-good : HoldsConsts buf count → name < 16777216 → Good (valueAt buf i)
+    value-good C h = subst Good (value-at buf i) (C .consts .good name h (rowOf buf i) (row-is (C .holds)) .good)
 
-    pub value-is : i < count → {v : Value} → v ≡ valueAt buf i → (rows : List Row) → Holds rows count buf → Is v ≡ constant rows name
-    value-is t e rows H = ap Is (e ∙ sym (value-at H i t)) ∙ sym (ap ofRow (row-is H))
+    pub value-is : {v : Value} → v ≡ valueAt buf i → (rows : List Row) → Keeps rows count buf → Is v ≡ constant rows name
+    value-is e rows K = ap Is (e ∙ sym (value-at buf i)) ∙ sym (ap ofRow (row-is K))
 
-  pub value-none : f ≡ Nothing → (rows : List Row) → Holds rows count buf → NotConstant ≡ constant rows name
-  value-none F rows H = sym (ap ofRow (subst (λ (j : ℕ). find j rows ≡ none) q (found-none rows count buf H k (sym F ∙ E rows H))))
+  pub value-none : f ≡ Nothing → (rows : List Row) → Keeps rows count buf → NotConstant ≡ constant rows name
+  value-none F rows K = sym (ap ofRow (subst (λ (j : ℕ). find j rows ≡ none) q (sym (E rows K) ∙ ap (rowIn buf) F)))

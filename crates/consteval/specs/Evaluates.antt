@@ -9,7 +9,8 @@ use Rattle.words.specs.Word.{kindOf}
 use Rattle.expr.specs.Expr.{Strings, Expr}
 use Rattle.expr.specs.Stands.{Stands}
 use Rattle.skip.specs.Shape.{SomeExpr}
-use Rattle.table.specs.Rows.{Row, find, Holds}
+use Rattle.table.specs.Rows.{Row, find}
+use Rattle.runs.specs.Runs.{Keeps}
 use Rattle.entries.specs.Entries.{entryKey}
 use Rattle.fold.specs.ValueLaws.{RowValue}
 use Rattle.fold.specs.declared.Fold.{Fold}
@@ -27,7 +28,7 @@ pub record Consts (n : ℕ) (rows : List Row) : Type 0 where
 pub record HoldsConsts (buf : List ℕ) (count : ℕ) : Type 0 where
   pub strings : ℕ
   pub rows : List Row
-  pub holds : Holds rows count buf
+  pub holds : Keeps rows count buf
   pub consts : Consts strings rows
 
 -- some expression stands at the place, and the buffer holds rows whose CONST rows meet their rule
@@ -37,7 +38,7 @@ pub record Ready (ws : List ℕ) (at : ℕ) (buf : List ℕ) (count : ℕ) : Typ
   pub end : ℕ
   pub stands : Stands ws strings at expr end
   pub rows : List Row
-  pub holds : Holds rows count buf
+  pub holds : Keeps rows count buf
   pub consts : Consts (strings .count) rows
 
 -- an expression with a literal's head stands there
@@ -54,7 +55,7 @@ pub record Evaluated (rows : List Row) (e : Expr) (end : ℕ) (r : Folded) : Typ
 
 -- for whatever stands there and whatever rows the buffer holds
 abbrev pub Evaluates : (ws : List ℕ) (at : ℕ) (buf : List ℕ) (count : ℕ) → Folded → Type 0
-Evaluates ws at buf count r = (n : Strings) (e : Expr) (end : ℕ) → Stands ws n at e end → (rows : List Row) → Holds rows count buf → Evaluated rows e end r
+Evaluates ws at buf count r = (n : Strings) (e : Expr) (end : ℕ) → Stands ws n at e end → (rows : List Row) → Keeps rows count buf → Evaluated rows e end r
 
 -- the same where no row matters
 abbrev pub EvaluatesAlone : (ws : List ℕ) (at : ℕ) → Folded → Type 0

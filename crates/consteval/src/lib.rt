@@ -2,7 +2,8 @@
 ghost use mathlib.Core.Path.{_≡_};
 ghost use mathlib.Core.List.{List};
 ghost use Prim.Native.Nat.{ℕ, _<_};
-ghost use Rattle.table.specs.Rows.{Row, Holds};
+ghost use Rattle.table.specs.Rows.{Row};
+ghost use Rattle.runs.specs.Runs.{Keeps};
 ghost use Rattle.fold.specs.Fold.{GoodFold, negateOf, binaryOf};
 ghost use Rattle.fold.specs.declared.Fold.the-variants.{NotConstant};
 ghost use Rattle.skip.specs.Shape.{SomeExpr};
@@ -63,9 +64,9 @@ fn literal(words: &[u32], at: usize) -> Folded
 fn constant(rows: &[u32], count: usize, name: u32) -> Fold
     requires { ⌜ HoldsConsts (now rows) count ⌝ }
     requires { ⌜ name < 16777216 ⌝ }
-    ensures { λ r. ⌜ ((held : List Row) → Holds held count (now (rows .entry)) → r ≡ constantOf held name) ⌝ }
+    ensures { λ r. ⌜ ((held : List Row) → Keeps held count (now (rows .entry)) → r ≡ constantOf held name) ⌝ }
 {
-    match table::find(rows, count, entries::entry_key(132, name, 0)) {
+    match runs::find(rows, count, entries::entry_key(132, name, 0)) {
         Found::At(i) => {
             let at = i * table::WIDTH;
             Fold::Is(fold::value_of(rows[at + 2], rows[at + 3], rows[at + 4]))

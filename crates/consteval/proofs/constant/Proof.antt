@@ -45,13 +45,13 @@ shared-slice-read-value-of-3 : tie.Need-shared-slice-read-value-of-3
 shared-slice-read-value-of-3 c = omega (arith, in-table (c .before .before .before .before .i .given .1) (c .before .before .before .before .before .before .find .ensures .0), rows-fit (c .before .before .before .before .before .before .before .before .before .pre .0))
 
 value-of-requires : tie.Need-value-of-requires
-value-of-requires c κs = value-good (c .before .before .before .before .before .before .before .before .before .args .name) (c .before .before .before .before .before .before .before .entry-key .ensures) (c .before .before .before .before .before .before .find .ensures .1) (c .before .before .before .before .i .given .1) (in-table (c .before .before .before .before .i .given .1) (c .before .before .before .before .before .before .find .ensures .0)) (c .before .before .before .before .before .before .before .before .before .pre .0) (c .before .before .before .before .before .before .before .before .before .pre .1)
+value-of-requires c κs = value-good (c .before .before .before .before .before .before .before .before .before .args .name) (c .before .before .before .before .before .before .before .entry-key .ensures) (c .before .before .before .before .before .before .find .ensures .1) (c .before .before .before .before .i .given .1) (c .before .before .before .before .before .before .before .before .before .pre .0) (c .before .before .before .before .before .before .before .before .before .pre .1)
 
 enum-told : tie.Need-enum-told
 enum-told c = search needs
 
 returns : tie.Need-returns
-returns c = value-is (c .before .before .before .before .before .before .before .before .before .before .args .name) (c .before .before .before .before .before .before .before .before .entry-key .ensures) (c .before .before .before .before .before .before .before .find .ensures .1) (c .before .before .before .before .before .i .given .1) (in-table (c .before .before .before .before .before .i .given .1) (c .before .before .before .before .before .before .before .find .ensures .0)) (c .value-of .ensures)
+returns c = value-is (c .before .before .before .before .before .before .before .before .before .before .args .name) (c .before .before .before .before .before .before .before .before .entry-key .ensures) (c .before .before .before .before .before .before .before .find .ensures .1) (c .before .before .before .before .before .i .given .1) (c .value-of .ensures)
 
 returns-2 : tie.Need-returns-2
 returns-2 c = value-none (c .before .before .before .before .before .args .name) (c .before .before .before .entry-key .ensures) (c .before .before .find .ensures .1) (c .enum-told .given .1)

@@ -10,11 +10,11 @@ use lib.ListN.{length, getD, drop}
 use lib.Seq.{drop-cons, drop-length}
 use borrow.Author.Tests.{eq-eqb, ne-eqb, not-true, not-false}
 use Rattle.strings.specs.Table.{stringAt}
-use Rattle.table.specs.Rows.{Row, width, Holds}
-use Rattle.table.specs.Images.{word-at}
+use Rattle.table.specs.Rows.{Row, width}
+use Rattle.runs.specs.Runs.{rowIn}
+use Rattle.runs.specs.Places.{row-word}
 use Rattle.table.specs.declared.Found.{Found}
 use Rattle.table.specs.declared.Found.the-variants.{At, Nothing}
-use Rattle.lookup.specs.Answers.{rowAt}
 use Rattle.views.specs.View.{TypeRef, head}
 use Rattle.collect.specs.Collect.{lastOf, disagrees, member}
 use Rattle.dims.specs.declared.Old.{Old}
@@ -87,11 +87,11 @@ module _ (erased : List ℕ) (is-redim preserve : Bool) (name rank : ℕ) (old :
 
 -- ---- the array that was there
 
-pub old-found : {rows : List Row} {n : ℕ} {buf : List ℕ} → Holds rows n buf → (i : ℕ) → i < n → {f : Found} {o : Option Row} → f ≡ At i → rowAt rows f ≡ o
-    → OldIs o (record { there = true; rank = getD buf (i * width + 2) 0; lower = getD buf (i * width + 4) 0 })
-old-found {rows} {n} {buf} H i h e q =
-    subst (λ (o : Option Row). OldIs o (record { there = true; rank = getD buf (i * width + 2) 0; lower = getD buf (i * width + 4) 0 })) (ap (rowAt rows) (sym e) ∙ q)
-    (record { there = refl; rank = word-at (H .filled) i 2 h (omega arith); lower = word-at (H .filled) i 4 h (omega arith) })
+module _ (buf : List ℕ) where
+  pub old-found : (i : ℕ) {f : Found} {o : Option Row} → f ≡ At i → rowIn buf f ≡ o → OldIs o (record { there = true; rank = getD buf (i * width + 2) 0; lower = getD buf (i * width + 4) 0 })
+  old-found i e q =
+      subst (λ (o : Option Row). OldIs o (record { there = true; rank = getD buf (i * width + 2) 0; lower = getD buf (i * width + 4) 0 })) (ap (rowIn buf) (sym e) ∙ q)
+      (record { there = refl; rank = sym (row-word buf i 2 (omega arith)); lower = sym (row-word buf i 4 (omega arith)) })
 
-pub old-missing : (rows : List Row) {f : Found} {o : Option Row} → f ≡ Nothing → rowAt rows f ≡ o → OldIs o (record { there = false; rank = 0; lower = 0 })
-old-missing rows e q = subst (λ (o : Option Row). OldIs o (record { there = false; rank = 0; lower = 0 })) (ap (rowAt rows) (sym e) ∙ q) (record { there = refl; rank = refl; lower = refl })
+  pub old-missing : {f : Found} {o : Option Row} → f ≡ Nothing → rowIn buf f ≡ o → OldIs o (record { there = false; rank = 0; lower = 0 })
+  old-missing e q = subst (λ (o : Option Row). OldIs o (record { there = false; rank = 0; lower = 0 })) (ap (rowIn buf) (sym e) ∙ q) (record { there = refl; rank = refl; lower = refl })

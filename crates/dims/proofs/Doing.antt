@@ -15,7 +15,8 @@ use Rattle.tree.specs.Sorts.{Declarator as DeclaratorRow, many}
 use Rattle.tree.specs.Tree.{Tree, one, row as fields, over}
 use Rattle.tree.specs.Stands.{SomeTree}
 use Rattle.tree.proofs.Nodes.{in-list}
-use Rattle.table.specs.Rows.{Row, width, noteWidth, find, Holds}
+use Rattle.table.specs.Rows.{Row, width, noteWidth, find}
+use Rattle.runs.specs.Runs.{Keeps}
 use Rattle.entries.specs.Entries.{row as rowOf, entryKey, has, hasRow, rowWord, bit, arrayRow, typedVarRow, dimSharedRow}
 use Rattle.views.specs.View.{TypeRef, Integer, Long, Single, Double, FixedString, Record, head, arg, headOf, argOf, Declarator, items, declarator}
 use Rattle.steps.specs.State.{State, running, stopped, Step, _⨾_, nothing, when, asking, each, enter, push}
@@ -78,8 +79,8 @@ module _ (bytes ends erased : List ℕ) where
 
   typed-does : (scope line : ℕ) (is-redim : Bool) (name : ℕ) (ty : TypeRef) {s s₁ s₂ s₃ r : Counts} {b d d₁ d₂ d₃ b′ : List ℕ} → Fit s (length b) (length d) → (t₁ t₂ t₃ : Bool)
       → t₁ ≡ (not (isRecord ty) && disagrees (lastOf (stringAt bytes ends name)) ty) → Notes (noting t₁ (suffixDiffers line name)) s s₁ d d₁
-      → ((rows : List Row) → Holds rows (s₁ .rows) b → t₂ ≡ undefinedIn (head ty) (arg ty) rows) → Notes (noting t₂ (undefinedType line (arg ty))) s₁ s₂ d₁ d₂
-      → ((rows : List Row) → Holds rows (s₂ .rows) b → t₃ ≡ againIn is-redim scope name rows) → Notes (noting t₃ (declaredTwice line name)) s₂ s₃ d₂ d₃
+      → ((rows : List Row) → Keeps rows (s₁ .rows) b → t₂ ≡ undefinedIn (head ty) (arg ty) rows) → Notes (noting t₂ (undefinedType line (arg ty))) s₁ s₂ d₁ d₂
+      → ((rows : List Row) → Keeps rows (s₂ .rows) b → t₃ ≡ againIn is-redim scope name rows) → Notes (noting t₃ (declaredTwice line name)) s₂ s₃ d₂ d₃
       → Rows (entering (typedVarRow name scope (head ty) (arg ty))) s₃ r b b′
       → Does (λ N D. declaredAs (given (some N) (some D) bytes ends erased) scope line is-redim name (some ty)) s r b d b′ d₃
   unfolding declaredAs differs noting entering
@@ -101,8 +102,8 @@ module _ (bytes ends : List ℕ) (scope line : ℕ) (is-redim : Bool) (v : Decl)
 
   pub type-some : (v .head ≡ 0 → ⊥) → {s s₁ s₂ s₃ r : Counts} {b d d₁ d₂ d₃ b′ : List ℕ} → Fit s (length b) (length d) → {t₁ t₂ t₃ : Bool}
       → Contradicts bytes ends (v .name) (v .head) t₁ → Notes (noting t₁ (suffixDiffers line (v .name))) s s₁ d d₁
-      → ((rows : List Row) → Holds rows (s₁ .rows) b → t₂ ≡ undefinedIn (v .head) (v .arg) rows) → Notes (noting t₂ (undefinedType line (v .arg))) s₁ s₂ d₁ d₂
-      → ((rows : List Row) → Holds rows (s₂ .rows) b → t₃ ≡ againIn is-redim scope (v .name) rows) → Notes (noting t₃ (declaredTwice line (v .name))) s₂ s₃ d₂ d₃
+      → ((rows : List Row) → Keeps rows (s₁ .rows) b → t₂ ≡ undefinedIn (v .head) (v .arg) rows) → Notes (noting t₂ (undefinedType line (v .arg))) s₁ s₂ d₁ d₂
+      → ((rows : List Row) → Keeps rows (s₂ .rows) b → t₃ ≡ againIn is-redim scope (v .name) rows) → Notes (noting t₃ (declaredTwice line (v .name))) s₂ s₃ d₂ d₃
       → Rows (entering (typedVarRow (v .name) scope (v .head) (v .arg))) s₃ r b b′
       → DeclaresType bytes ends scope line is-redim v s r b d b′ d₃
   type-some z {s} {s₁} {s₂} {s₃} {r} {b} {d} {d₁} {d₂} {d₃} {b′} fit {t₁} {t₂} {t₃} e₁ F₁ e₂ F₂ e₃ F₃ G = record {
@@ -158,7 +159,7 @@ module _ (bytes ends erased : List ℕ) (line : ℕ) (is-redim preserve : Bool) 
 
   arrayed-does : (scope : ℕ) (lowers : List (Option Seen)) (dims : List Seen) → length dims ≡ rank → {s s₁ s₂ r : Counts} {b d d₁ d₂ b′ : List ℕ} → Fit s (length b) (length d) → (old : Old) (c : Clash) (low : Bool)
       → Notes (noting (eqb rank 0) (noDimension line name)) s s₁ d d₁
-      → ((rows : List Row) → Holds rows (s₁ .rows) b → OldIs (find (entryKey 133 name scope) rows) old)
+      → ((rows : List Row) → Keeps rows (s₁ .rows) b → OldIs (find (entryKey 133 name scope) rows) old)
       → c ≡ clashOf erased is-redim preserve name rank old → Notes (clashes line name c) s₁ s₂ d₁ d₂
       → low ≡ (anySome lowers || eqb (old .lower) 1)
       → Rows (entering (arrayRow name scope rank line low)) s₂ r b b′
@@ -176,7 +177,7 @@ module _ (bytes ends erased : List ℕ) (line : ℕ) (is-redim preserve : Bool) 
       (λ rows H. old-is (O rows H)) (notes-does F b (one .fit .0))) in
       let three = asked low (λ rows. anySome lowers || eqb (rowWord 4 (find (entryKey 133 name scope) rows)) 1) (λ t. entering (arrayRow name scope rank line t))
       (λ t N D. entering-stays (arrayRow name scope rank line t) N D)
-      (λ rows H. l ∙ ap (λ (w : ℕ). anySome lowers || eqb w 1) (O rows (subst (λ (n : ℕ). Holds rows n b) (F₂ .kept) H) .lower))
+      (λ rows H. l ∙ ap (λ (w : ℕ). anySome lowers || eqb w 1) (O rows (subst (λ (n : ℕ). Keeps rows n b) (F₂ .kept) H) .lower))
       (rows-does G d₂ (two .fit .1)) in
       subst (λ (n : ℕ). Does (λ N D. when (eqb n 0) (push (some D) (noDimension line name))
       ⨾ asking (λ rows. redeclared (given (some N) (some D) bytes ends erased) line is-redim preserve name n (find (entryKey 133 name scope) rows))
@@ -197,7 +198,7 @@ module _ (erased : List ℕ) (scope line : ℕ) (is-redim preserve : Bool) (v : 
 
   pub array-some : not (v .array) ≡ false → {s s₁ s₂ r : Counts} {b d d₁ d₂ b′ : List ℕ} → Fit s (length b) (length d) → {old : Old} {c : Clash} {t : Bool} {w : ℕ}
       → Notes (noting (eqb (v .rank) 0) (noDimension line (v .name))) s s₁ d d₁
-      → ((rows : List Row) → Holds rows (s₁ .rows) b → OldIs (find (entryKey 133 (v .name) scope) rows) old)
+      → ((rows : List Row) → Keeps rows (s₁ .rows) b → OldIs (find (entryKey 133 (v .name) scope) rows) old)
       → c ≡ clashOf erased is-redim preserve (v .name) (v .rank) old → Notes (clashes line (v .name) c) s₁ s₂ d₁ d₂
       → t ≡ (v .lower || eqb (old .lower) 1) → w ≡ bit t
       → Rows (entering (rowOf 133 (v .name) (scope ∷ v .rank ∷ line ∷ w ∷ 0 ∷ []))) s₂ r b b′

@@ -12,7 +12,8 @@ ghost use Rattle.expr.specs.Expr.{Expr};
 ghost use Rattle.tree.specs.Sorts.{expr as exprSort, exprs as exprsSort, many, opt, nil, _&_, Declarator as DeclaratorRow, dim as dimKind, redim as redimKind};
 ghost use Rattle.tree.specs.Tree.{Tree, one, row, rows, count};
 ghost use Rattle.tree.specs.Stands.{Stands, SomeTree};
-ghost use Rattle.table.specs.Rows.{Row, width, find, Holds};
+ghost use Rattle.table.specs.Rows.{Row, width, find};
+ghost use Rattle.runs.specs.Runs.{Keeps};
 ghost use Rattle.entries.specs.Entries.{entryKey, has as hasEntry};
 ghost use Rattle.steps.specs.Held.{Fit};
 ghost use Rattle.collect.specs.Collect.{member};
@@ -177,7 +178,7 @@ fn contradicts(bytes: &[u8], ends: &[u32], name: u32, head: u32) -> bool
 // Whether the type is a record of no TYPE.
 fn undefined(b: &[u32], count: usize, head: u32, arg: u32) -> bool
     requires { ⌜ (count * width ≤ length (now b)) × (arg < 16777216) ⌝ }
-    ensures { λ r. ⌜ ((rows : List Row) → Holds rows count (now (b .entry)) → r ≡ (eqb head 45 && not (hasEntry rows 130 arg 0))) ⌝ }
+    ensures { λ r. ⌜ ((rows : List Row) → Keeps rows count (now (b .entry)) → r ≡ (eqb head 45 && not (hasEntry rows 130 arg 0))) ⌝ }
 {
     if head != 45 {
         return false;
@@ -188,7 +189,7 @@ fn undefined(b: &[u32], count: usize, head: u32, arg: u32) -> bool
 // Whether a typed variable is there already, which REDIM allows.
 fn again(b: &[u32], count: usize, redim: bool, scope: u32, name: u32) -> bool
     requires { ⌜ (count * width ≤ length (now b)) × (name < 16777216) ⌝ }
-    ensures { λ r. ⌜ ((rows : List Row) → Holds rows count (now (b .entry)) → r ≡ (hasEntry rows 134 name scope && not redim)) ⌝ }
+    ensures { λ r. ⌜ ((rows : List Row) → Keeps rows count (now (b .entry)) → r ≡ (hasEntry rows 134 name scope && not redim)) ⌝ }
 {
     if redim {
         return false;
@@ -237,7 +238,7 @@ pub struct Old {
 
 fn old_array(b: &[u32], count: usize, scope: u32, name: u32) -> Old
     requires { ⌜ (count * width ≤ length (now b)) × (name < 16777216) ⌝ }
-    ensures { λ r. ⌜ ((rows : List Row) → Holds rows count (now (b .entry)) → OldIs (find (entryKey 133 name scope) rows) r) ⌝ }
+    ensures { λ r. ⌜ ((rows : List Row) → Keeps rows count (now (b .entry)) → OldIs (find (entryKey 133 name scope) rows) r) ⌝ }
 {
     let found = lookup::find_entry(b, count, 133, name, scope);
     match found {

@@ -14,7 +14,8 @@ use Rattle.expr.proofs.Parts.{wrote-first, pay-is}
 use Rattle.tree.specs.Sorts.{sorts, numberOf, nil, _&_, opt, many, TypeRef as TypeSort, ScopeItem as ItemRow, shared as sharedKind, static as staticKind}
 use Rattle.tree.specs.Tree.{Tree, one, row as rowShape, Stmt, word, cons, done, wordsT, Right, over}
 use Rattle.tree.specs.Stands.{Stands, SomeTree}
-use Rattle.table.specs.Rows.{Row, width, noteWidth, find, Holds}
+use Rattle.table.specs.Rows.{Row, width, noteWidth, find}
+use Rattle.runs.specs.Runs.{Keeps}
 use Rattle.entries.specs.Entries.{row, entryKey, rowWord}
 use Rattle.views.specs.View.{TypeRef, Integer, Long, Single, Double, FixedString, Record, head, arg, headOf, argOf, ScopeItem, View, Shared, Static, isSet, scopeItem, items, view}
 use Rattle.steps.specs.State.{each, enter}
@@ -105,7 +106,7 @@ module _ (m : ℕ) where
 -- ---- what is done for an item
 
 module _ {s r : Counts} {b b′ : List ℕ} {kind scope : ℕ} {i : ItemAt} where
-  pub enters-mark : (kind ≡ 134 → ⊥) → (w : ℕ) {m : ℕ} → ((rows : List Row) → Holds rows (s .rows) b → w ≡ rowWord 2 (find (entryKey kind (i .name) scope) rows)) → m ≡ marked (i .array) w
+  pub enters-mark : (kind ≡ 134 → ⊥) → (w : ℕ) {m : ℕ} → ((rows : List Row) → Keeps rows (s .rows) b → w ≡ rowWord 2 (find (entryKey kind (i .name) scope) rows)) → m ≡ marked (i .array) w
       → Rows (entering (row kind (i .name) (scope ∷ m ∷ []))) s r b b′ → Enters kind scope i s r b b′
   unfolding entering itemAs
   enters-mark k w told e R = record {

@@ -17,7 +17,9 @@ use Rattle.expr.proofs.Parts.{wrote-first, pay-is}
 use Rattle.tree.specs.Sorts.{sorts, numberOf, label as labelKind, labelName as labelNameKind, optionBase as optionBaseKind, const as constKind}
 use Rattle.tree.specs.Tree.{strings, row, Tree, Stmt, word, value, cons, done, wordsT, Right, over}
 use Rattle.tree.specs.Stands.{Stands}
-use Rattle.table.specs.Rows.{Row, width, noteWidth, key, find, insert, Table, Holds}
+use Rattle.table.specs.Rows.{Row, width, noteWidth, key, find, insert, Table}
+use Rattle.runs.specs.Runs.{Keeps}
+use Rattle.runs.specs.Laws.{keeps-count, keeps-table}
 use Rattle.table.specs.Laws.{order₃, insert-lt, insert-eq, insert-gt, find-eq, find-ne, find-above}
 use Rattle.entries.specs.Entries.{row as rowOf, entryKey, hasRow, has, lineRow, labelRow, constRow, optionBaseRow}
 use Rattle.views.specs.View.{View, Label, LabelName, OptionBase, Const, view}
@@ -132,7 +134,7 @@ module _ {s t r : Counts} {b d b′ d′ : List ℕ} where
       entered N D rows notes H true e K = said N D (has rows kind name 0) (running (insert new rows) notes) K (λ h. rw yes h)
         where
           yes : has rows kind name 0 ≡ x
-          yes = rw (sym q) (sym (same-len 0 new rows (H .inside .1 .table)) ∙ rw (K .inside .1 .filled .count, H .inside .1 .filled .count) refl)
+          yes = rw (sym q) (sym (same-len 0 new rows (keeps-table (H .inside .1))) ∙ rw (keeps-count (K .inside .1), keeps-count (H .inside .1)) refl)
       entered N D rows notes H false e K = said N D (has rows kind name 0) (stopped 7) K (λ h. rw (stays-when (has rows kind name 0) (push (some D) note) (stays-push D note) 7) (rw (stays-when x (push (some D) note) (stays-push D note) 7) at h))
 
       by : (N D : ℕ) (st : State) → Held N D st s b d → Held N D (asking (λ rows. enter (some N) new ⨾ when (has rows kind name 0) (push (some D) note)) st) r b′ d′
@@ -170,13 +172,13 @@ say-stays twice late line N D =
     (stays-when late (push (some D) (optionBaseLate line)) (stays-push D (optionBaseLate line)))
 
 module _ {s t : Counts} {b d d′ : List ℕ} {x y : Bool} (fit : Fit s (length b) (length d)) where
-  base-said : (line : ℕ) → ((rows : List Row) → Holds rows (s .rows) b → x ≡ has rows 143 0 0) → ((rows : List Row) → Holds rows (s .rows) b → y ≡ anyArray rows)
+  base-said : (line : ℕ) → ((rows : List Row) → Keeps rows (s .rows) b → x ≡ has rows 143 0 0) → ((rows : List Row) → Keeps rows (s .rows) b → y ≡ anyArray rows)
       → Notes (sayBase x y line) s t d d′ → Does (λ N D. asking (λ rows. sayBase (has rows 143 0 0) (anyArray rows) line N D)) s t b d b d′
   base-said line first second F =
       asked {A = Bool × Bool} (x, y) (λ rows. (has rows 143 0 0, anyArray rows)) (λ (p : Bool × Bool) N D. sayBase (p .0) (p .1) line N D) (λ p N D. say-stays (p .0) (p .1) line N D)
       (λ rows H. ap (λ (a : Bool). (a, y)) (first rows H) ∙ ap (λ (a : Bool). (has rows 143 0 0, a)) (second rows H)) (notes-does F b (fit .0))
 
-  pub base-collects : {r : Counts} {b′ ws : List ℕ} {at : ℕ} → ((rows : List Row) → Holds rows (s .rows) b → x ≡ has rows 143 0 0) → ((rows : List Row) → Holds rows (s .rows) b → y ≡ anyArray rows)
+  pub base-collects : {r : Counts} {b′ ws : List ℕ} {at : ℕ} → ((rows : List Row) → Keeps rows (s .rows) b → x ≡ has rows 143 0 0) → ((rows : List Row) → Keeps rows (s .rows) b → y ≡ anyArray rows)
       → Notes (sayBase x y (lineAt ws at)) s t d d′ → Rows (entering (optionBaseRow (leafAt ws at))) t r b b′ → (scope : ℕ) → CollectsAny optionBaseKind ws scope at s r b d b′ d′
   unfolding statement optionBase entering sayBase
   base-collects {ws = ws} {at} first second F R scope =
@@ -257,7 +259,7 @@ module _ {s : Counts} {b d : List ℕ} {ws : List ℕ} {at : ℕ} where
       stays : (bytes ends erased : List ℕ) (N D : ℕ) (e : Expr) → Stays (const (given (some N) (some D) bytes ends erased) (lineAt ws at) (leafAt ws at) (see e))
       stays bytes ends erased N D e k = refl
 
-  pub const-collects : {t r : Counts} {b′ d′ d″ : List ℕ} {x : Bool} {f : Folded} → Fit s (length b) (length d) → ((rows : List Row) → Holds rows (s .rows) b → x ≡ has rows 132 (leafAt ws at) 0)
+  pub const-collects : {t r : Counts} {b′ d′ d″ : List ℕ} {x : Bool} {f : Folded} → Fit s (length b) (length d) → ((rows : List Row) → Keeps rows (s .rows) b → x ≡ has rows 132 (leafAt ws at) 0)
       → Evaluates ws (at + 2) b (s .rows) f → Notes (noting x (constDefined (lineAt ws at) (leafAt ws at))) s t d d′
       → ((bytes ends erased : List ℕ) → Does (λ N D. folded (given (some N) (some D) bytes ends erased) (lineAt ws at) (leafAt ws at) (f .fold)) t r b d′ b′ d″)
       → (scope : ℕ) → CollectsAny constKind ws scope at s r b d b′ d″
@@ -272,4 +274,4 @@ module _ {s : Counts} {b d : List ℕ} {ws : List ℕ} {at : ℕ} where
           (λ y N D. stays-when y (push (some D) (constDefined (lineAt ws at) (leafAt ws at))) (stays-push D (constDefined (lineAt ws at) (leafAt ws at)))) told (notes-does F b (fit .0)))
           (asked (f .fold) (λ rows. constEval rows e) (λ (g : Fold) N D. folded (given (some N) (some D) bytes ends erased) (lineAt ws at) (leafAt ws at) g)
           (λ g N D. folded-stays bytes ends erased (lineAt ws at) (leafAt ws at) g N D)
-          (λ rows H. E (strings ns n) e end S rows (subst (λ (m : ℕ). Holds rows m b) (F .kept) H) .answer) (G bytes ends erased))
+          (λ rows H. E (strings ns n) e end S rows (subst (λ (m : ℕ). Keeps rows m b) (F .kept) H) .answer) (G bytes ends erased))

@@ -9,9 +9,12 @@ use lib.Dec.{ltb, leb·suc-suc}
 use lib.ListN.{length, take, drop, getD}
 use borrow.Author.Tests.{eq-eqb, ne-eqb, lt-ltb}
 use Rattle.words.specs.Word.{kindOf}
-use Rattle.table.specs.Rows.{Row, width, key, rank, Table, Holds}
+use Rattle.table.specs.Rows.{Row, width, key, rank, Table}
+use Rattle.runs.specs.Runs.{Keeps}
 use Rattle.table.specs.Laws.{zone, order, rank-lt, rank-ge, rank-le, rank-low, rank-high}
-use Rattle.table.specs.Images.{word-at}
+use Rattle.table.specs.Each.{each-at}
+use Rattle.runs.specs.Laws.{keeps-each}
+use Rattle.runs.specs.Places.{row-word}
 use Rattle.entries.specs.Entries.{entryKey}
 use Rattle.consteval.specs.EvalLaws.{Words32}
 use Rattle.collect.specs.Collect.{anyArray}
@@ -20,11 +23,9 @@ use Rattle.collect.specs.Collect.{anyArray}
 abbrev pub Small : List Row → Type 0
 Small rows = (i : ℕ) → i < length rows → getD (getD rows i []) 1 0 < 4294967296
 
-pub holds-small : {rows : List Row} {n : ℕ} {buf : List ℕ} → Words32 buf → Holds rows n buf → Small rows
-holds-small {rows} {n} {buf} W H i h =
-    let c : length rows ≡ n = H .filled .count in
-    let e : getD buf (i * width + 1) 0 ≡ getD (getD rows i []) 1 0 = word-at (H .filled) i 1 (omega arith) (omega arith) in
-    omega (arith, e, W (i * width + 1))
+pub keeps-small : {rows : List Row} {n : ℕ} {buf : List ℕ} → Words32 buf → Keeps rows n buf → Small rows
+keeps-small {rows} {n} {buf} W K i h =
+    each-at (λ r. getD r 1 0 < 4294967296) [] rows (keeps-each K (λ r. getD r 1 0 < 4294967296) (λ j g. omega (arith, row-word buf j 1 (omega arith), W (j * width + 1)))) i h
 
 pub small-next : (r : Row) (rs : List Row) → Small (r ∷ rs) → Small rs
 small-next r rs S i h = S (suc i) (omega arith)

@@ -5,7 +5,8 @@ use mathlib.Core.Bool.{Bool}
 use mathlib.Core.List.{List}
 use mathlib.Core.Option.{some}
 use Rattle.words.specs.Word.{pick}
-use Rattle.table.specs.Rows.{Row, Holds}
+use Rattle.table.specs.Rows.{Row}
+use Rattle.runs.specs.Runs.{Keeps}
 use Rattle.tree.specs.Sorts.{const}
 use Rattle.steps.specs.declared.Counts.{Counts}
 use Rattle.consteval.specs.Evaluates.{Consts}
@@ -17,7 +18,7 @@ use Rattle.collect.specs.Code.{SomeStmt}
 -- the buffer holds rows whose CONST rows meet their rule, with n strings
 pub record HeldConsts (n : ℕ) (s : Counts) (b : List ℕ) : Type 0 where
   pub rows : List Row
-  pub holds : Holds rows (s .rows) b
+  pub holds : Keeps rows (s .rows) b
   pub consts : Consts n rows
 
 -- where the run goes on

@@ -7,7 +7,8 @@ ghost use mathlib.Core.List.{List};
 ghost use mathlib.Core.Option.{some};
 ghost use Prim.Native.Nat.{ℕ, _*_, _≤_, _<_};
 ghost use lib.ListN.{length};
-ghost use Rattle.table.specs.Rows.{Row, width, noteWidth, Holds};
+ghost use Rattle.table.specs.Rows.{Row, width, noteWidth};
+ghost use Rattle.runs.specs.Runs.{Keeps};
 ghost use Rattle.fold.specs.Value.{Good};
 ghost use Rattle.fold.specs.Fold.{GoodFold};
 ghost use Rattle.tree.specs.Sorts.{label as labelKind, labelName, optionBase, const as constKind};
@@ -52,14 +53,14 @@ pub fn label_name(
     steps::push_if(d, t, t.rows == s.rows, 2, line, name + 1, 0, 0, 0)
 }
 
-// Whether there is an array, in whatever scope: their rows stand together.
+// Whether there is an array, in whatever scope: their keys are together.
 fn any_array(b: &[u32], count: usize) -> bool
     requires { ⌜ count * width ≤ length (now b) ⌝ }
-    ensures { λ r. ⌜ ((rows : List Row) → Holds rows count (now (b .entry)) → r ≡ anyArray rows) ⌝ }
+    ensures { λ r. ⌜ ((rows : List Row) → Keeps rows count (now (b .entry)) → r ≡ anyArray rows) ⌝ }
 {
-    let from = table::lower_bound(b, count, entries::entry_key(133, 0, 0));
-    let to = table::lower_bound(b, count, entries::entry_key(134, 0, 0));
-    from < to
+    let from = entries::entry_key(133, 0, 0);
+    let to = entries::entry_key(134, 0, 0);
+    runs::any_between(b, count, from, to)
 }
 
 // What is said of an OPTION BASE: that it isn't the first, or else that an array was before it.

@@ -13,7 +13,8 @@ use Rattle.expr.specs.Expr.{Expr}
 use Rattle.tree.specs.Sorts.{body as bodySort, Kind, sorts}
 use Rattle.tree.specs.Tree.{one, row as rowShape, Tree, Stmt, over}
 use Rattle.views.specs.View.{TypeRef, Integer, Long, Single, Double, FixedString, Record, head, arg, headOf, argOf, Param, view}
-use Rattle.table.specs.Rows.{Row, width, noteWidth, find, Holds, remove, replace}
+use Rattle.table.specs.Rows.{Row, width, noteWidth, find, remove, replace}
+use Rattle.runs.specs.Runs.{Keeps}
 use Rattle.entries.specs.Entries.{row, entryKey, rowWord, has, bit, procRow, paramRow}
 use Rattle.steps.specs.State.{State, Step, _⨾_, nothing, when, asking, each, change, enter, push}
 use Rattle.steps.specs.declared.Counts.{Counts}
@@ -124,8 +125,8 @@ strings-says line n {p} {ws} {s} {t} {r} {d} {d′} {d″} F told G =
 -- that it was there before
 module _ (line name prev : ℕ) (yes : Bool) {s r : Counts} {b d d′ : List ℕ} where
   defined-does : s .rows * width ≤ length b
-      → ((rows : List Row) → Holds rows (s .rows) b → yes ≡ has rows 135 name 0)
-      → ((rows : List Row) → Holds rows (s .rows) b → prev ≡ rowWord 3 (find (entryKey 135 name 0) rows))
+      → ((rows : List Row) → Keeps rows (s .rows) b → yes ≡ has rows 135 name 0)
+      → ((rows : List Row) → Keeps rows (s .rows) b → prev ≡ rowWord 3 (find (entryKey 135 name 0) rows))
       → Notes (noting yes (25 ∷ line ∷ (name + 1) ∷ 0 ∷ 0 ∷ prev ∷ [])) s r d d′
       → Does (λ N D. definedBefore (plain N D) line name) s r b d b d′
   unfolding noting
@@ -137,8 +138,8 @@ module _ (line name prev : ℕ) (yes : Bool) {s r : Counts} {b d d′ : List ℕ
       (notes-does F b k)
 
   pub defined-acts : s .rows * width ≤ length b
-      → ((rows : List Row) → Holds rows (s .rows) b → yes ≡ has rows 135 name 0)
-      → ((rows : List Row) → Holds rows (s .rows) b → prev ≡ rowWord 3 (find (entryKey 135 name 0) rows))
+      → ((rows : List Row) → Keeps rows (s .rows) b → yes ≡ has rows 135 name 0)
+      → ((rows : List Row) → Keeps rows (s .rows) b → prev ≡ rowWord 3 (find (entryKey 135 name 0) rows))
       → Notes (noting yes (25 ∷ line ∷ (name + 1) ∷ 0 ∷ 0 ∷ prev ∷ [])) s r d d′
       → Acts (λ x. name ≡ x) (λ x N D. definedBefore (plain N D) line x) s r b d b d′
   defined-acts k told told′ F =
@@ -318,7 +319,7 @@ module _ (line name : ℕ) where
   undefined-other z k = acts-nothing k (λ ty q. other-type z ty (q .0))
 
   module _ (a : ℕ) {s r : Counts} {b d d′ : List ℕ} where
-    known-does : (known : Bool) → s .rows * width ≤ length b → ((rows : List Row) → Holds rows (s .rows) b → known ≡ has rows 130 a 0)
+    known-does : (known : Bool) → s .rows * width ≤ length b → ((rows : List Row) → Keeps rows (s .rows) b → known ≡ has rows 130 a 0)
         → Notes (noting (not known) (26 ∷ line ∷ (name + 1) ∷ (a + 1) ∷ 0 ∷ 0 ∷ [])) s r d d′
         → Does (λ N D. asking (λ rows. when (not (has rows 130 a 0)) (push (some D) (paramUndefined line name a)))) s r b d b d′
     unfolding noting
@@ -336,7 +337,7 @@ module _ (line name : ℕ) where
     record-does z F (FixedString n) e f = absurd (omega arith)
     record-does z F (Record x) e f = subst (λ (y : ℕ). Does (λ N D. asking (λ rows. when (not (has rows 130 y 0)) (push (some D) (paramUndefined line name y)))) s r b d b d′) f F
 
-    pub undefined-record : {h : ℕ} → h ≡ 45 → (known : Bool) → s .rows * width ≤ length b → ((rows : List Row) → Holds rows (s .rows) b → known ≡ has rows 130 a 0)
+    pub undefined-record : {h : ℕ} → h ≡ 45 → (known : Bool) → s .rows * width ≤ length b → ((rows : List Row) → Keeps rows (s .rows) b → known ≡ has rows 130 a 0)
         → Notes (noting (not known) (26 ∷ line ∷ (name + 1) ∷ (a + 1) ∷ 0 ∷ 0 ∷ [])) s r d d′
         → Acts (λ ty. (h ≡ head ty) × (a ≡ arg ty)) (λ ty N D. undefined (plain N D) ty (λ (x : ℕ). paramUndefined line name x)) s r b d b d′
     undefined-record z known k told F =

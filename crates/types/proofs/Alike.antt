@@ -11,10 +11,11 @@ use lib.ListN.{length}
 use borrow.Author.Tests.{eqb-true, eqb-false}
 use Rattle.words.specs.Word.{pick}
 use Rattle.views.specs.View.{FieldDecl, head, arg}
-use Rattle.table.specs.Rows.{Row, width, noteWidth, key, find, insert, remove, rowsOf, Holds}
+use Rattle.table.specs.Rows.{Row, width, noteWidth, key, find, insert, remove}
+use Rattle.runs.specs.Runs.{Keeps}
+use Rattle.runs.specs.Laws.{keeps-same}
 use Rattle.table.specs.Laws.{pick-true, pick-false, find-insert-other, find-remove-out}
 use Rattle.entries.specs.Entries.{entryKey, has, hasRow, typeRow, fieldRow, replaceType}
-use Rattle.lent.specs.LentLaws.{rows-of-holds}
 use Rattle.lookup.specs.Lookup.{recordWords, typeWords}
 use Rattle.steps.specs.State.{State, running, stopped, asking, each, change, enter, fits}
 use Rattle.steps.specs.declared.Counts.{Counts}
@@ -140,11 +141,6 @@ unfolding asking
 entering-alike owner N D rows fs S (running r n) A = ap (λ (ks : List FieldInfo). each (enter (some N)) (fieldRows owner 0 ks) (running r n)) (keeps-alike owner rows r A 0 [] fs tt S)
 entering-alike owner N D rows fs S (stopped k) A = sym (stays-each (enter (some N)) (fieldRows owner 0 (keeps rows owner 0 [] fs)) (λ row. stays-enter N row) k)
 
--- a buffer holds one table
-one-table : {r₁ r₂ : List Row} {n : ℕ} {b : List ℕ} → Holds r₁ n b → Holds r₂ n b → r₁ ≡ r₂
-one-table {r₁} {r₂} {n} {b} H K =
-    sym (rows-of-holds 0 r₁ b (H .table) (H .filled .words)) ∙ ap (λ (k : ℕ). rowsOf k b) (H .filled .count ∙ sym (K .filled .count)) ∙ rows-of-holds 0 r₂ b (K .table) (K .filled .words)
-
 -- the old fields go, the TYPE and the kept ones come
 module _ (owner words line : ℕ) (fs : List FieldDecl) {t t₁ t₂ r : Counts} {b b₁ b₂ b′ : List ℕ} (S : Small fs)
     (R₁ : Rows (changing (remove (entryKey 131 owner 0) (entryKey 131 (owner + 1) 0))) t t₁ b b₁) (R₂ : Rows (entering (typeRow owner words line)) t₁ t₂ b₁ b₂) (R₃ : Rows (Entering owner fs) t₂ r b₂ b′) where
@@ -170,7 +166,7 @@ module _ (owner words line : ℕ) (fs : List FieldDecl) {t t₁ t₂ r : Counts}
           → Held N′ D′ (each (enter (some N′)) (typeRow owner words line ∷ fieldRows owner 0 (keeps rows owner 0 [] fs)) (change (some N′) (remove (entryKey 131 owner 0) (entryKey 131 (owner + 1) 0)) st)) r b′ d
       by N′ D′ (running r′ n′) K =
           subst (λ (x : List Row). Held N′ D′ (each (enter (some N′)) (typeRow owner words line ∷ fieldRows owner 0 (keeps x owner 0 [] fs)) (change (some N′) (remove (entryKey 131 owner 0) (entryKey 131 (owner + 1) 0)) (running r′ n′))) r b′ d)
-          (one-table (K .inside .1) (H .inside .1)) (steps-put d N′ D′ r′ n′ K)
+          (keeps-same (K .inside .1) (H .inside .1)) (steps-put d N′ D′ r′ n′ K)
       by N′ D′ (stopped k) K =
           let z : 0 ≡ k = sym (H .inside .0) ∙ K .inside .0 in
           absurd (omega (arith, K .inside .1))

@@ -11,7 +11,8 @@ use Rattle.tree.specs.Sorts.{FieldDecl as FieldRow}
 use Rattle.tree.specs.Tree.{Tree, row as oneRow, rows as manyRows, count}
 use Rattle.tree.specs.Stands.{Stands, SomeTree}
 use Rattle.views.specs.View.{head, arg, FieldDecl, rowsOf, fieldDecl}
-use Rattle.table.specs.Rows.{Row, Holds}
+use Rattle.table.specs.Rows.{Row}
+use Rattle.runs.specs.Runs.{Keeps}
 use Rattle.table.specs.Laws.{pick-true, pick-false}
 use Rattle.types.specs.Types.{SomeFields, FieldIs, Upto, typeCode, said, codeOf}
 use Rattle.types.specs.declared.FieldAt.{FieldAt}
@@ -22,7 +23,7 @@ pub record SayingAt (ws ns : List ℕ) (m : ℕ) (v : Tree Expr (manyRows FieldR
   pub rest : Tree Expr (manyRows FieldRow)
   pub there : Stands ws ns m a rest end
   pub enough : left ≤ count rest
-  pub same : (rows : List Row) → Holds rows k b → said rows owner field (take n (rowsOf fieldDecl v)) ≡ said rows owner field (take left (rowsOf fieldDecl rest))
+  pub same : (rows : List Row) → Keeps rows k b → said rows owner field (take n (rowsOf fieldDecl v)) ≡ said rows owner field (take left (rowsOf fieldDecl rest))
 
 pub record Saying (ws : List ℕ) (at n owner field a left k : ℕ) (b : List ℕ) : Type 0 where
   pub of : (ns : List ℕ) (m : ℕ) (v : Tree Expr (manyRows FieldRow)) (end : ℕ) → Stands ws ns m at v end → n ≤ count v → SayingAt ws ns m v end n owner field a left k b
@@ -54,8 +55,8 @@ module _ {ws : List ℕ} {at n owner field k : ℕ} {b : List ℕ} where
       record { names = F .names; strings = F .strings; tree = q .field; end = q .mid; stands = q .here }
 
   pub saying-hit : {a left : ℕ} → Saying ws at n owner field a left k b → 0 < left → (f : FieldAt) → FieldIs ws a f
-      → ((rows : List Row) → Holds rows k b → true ≡ (eqb (f .name) field && eqb (typeCode rows owner (f .head) (f .arg)) 0))
-      → (rows : List Row) → Holds rows k b → Upto ws at n (λ fs. true ≡ said rows owner field fs)
+      → ((rows : List Row) → Keeps rows k b → true ≡ (eqb (f .name) field && eqb (typeCode rows owner (f .head) (f .arg)) 0))
+      → (rows : List Row) → Keeps rows k b → Upto ws at n (λ fs. true ≡ said rows owner field fs)
   saying-hit {a} {left} Y h f F e rows H =
       record {
         of = λ ns m v end S c.
@@ -67,7 +68,7 @@ module _ {ws : List ℕ} {at n owner field k : ℕ} {b : List ℕ} where
       }
 
   pub saying-next : {a left : ℕ} → Saying ws at n owner field a left k b → 0 < left → (f : FieldAt) → FieldIs ws a f
-      → ((rows : List Row) → Holds rows k b → false ≡ (eqb (f .name) field && eqb (typeCode rows owner (f .head) (f .arg)) 0))
+      → ((rows : List Row) → Keeps rows k b → false ≡ (eqb (f .name) field && eqb (typeCode rows owner (f .head) (f .arg)) 0))
       → Saying ws at n owner field (f .next) (left - 1) k b
   saying-next {a} {left} Y h f F e =
       record {
@@ -85,7 +86,7 @@ module _ {ws : List ℕ} {at n owner field k : ℕ} {b : List ℕ} where
             };
       }
 
-  pub saying-none : {a left : ℕ} → Saying ws at n owner field a left k b → (0 < left → ⊥) → (rows : List Row) → Holds rows k b → Upto ws at n (λ fs. false ≡ said rows owner field fs)
+  pub saying-none : {a left : ℕ} → Saying ws at n owner field a left k b → (0 < left → ⊥) → (rows : List Row) → Keeps rows k b → Upto ws at n (λ fs. false ≡ said rows owner field fs)
   unfolding said
   saying-none {a} {left} Y h rows H =
       let z : left ≡ 0 = none-left left h in

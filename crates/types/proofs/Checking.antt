@@ -10,7 +10,8 @@ use Rattle.tree.specs.Sorts.{FieldDecl as FieldRow}
 use Rattle.tree.specs.Tree.{Tree, row as oneRow, rows as manyRows, count}
 use Rattle.tree.specs.Stands.{Stands, SomeTree}
 use Rattle.views.specs.View.{head, arg, FieldDecl, rowsOf, fieldDecl}
-use Rattle.table.specs.Rows.{Row, noteWidth, Holds}
+use Rattle.table.specs.Rows.{Row, noteWidth}
+use Rattle.runs.specs.Runs.{Keeps}
 use Rattle.table.specs.Laws.{order}
 use Rattle.steps.specs.State.{State, running}
 use Rattle.steps.specs.declared.Counts.{Counts}
@@ -81,7 +82,7 @@ module _ {ws : List ℕ} {at n line owner : ℕ} {s : Counts} {b d₀ : List ℕ
       record { names = F .names; strings = F .strings; tree = q .field; end = q .mid; stands = q .here }
 
   pub checking-next : {c c′ : Summed} {a i : ℕ} {d d′ : List ℕ} → Checking ws at n line owner s b d₀ c a i d → i < n → (f : FieldAt) → FieldIs ws a f → (code : ℕ)
-      → ((rows : List Row) → Holds rows (s .rows) b → Upto ws at i (λ fs. code ≡ codeOf rows owner fs (f .name) (f .head) (f .arg)))
+      → ((rows : List Row) → Keeps rows (s .rows) b → Upto ws at i (λ fs. code ≡ codeOf rows owner fs (f .name) (f .head) (f .arg)))
       → Looks line owner code (f .name) (f .head) (f .arg) c c′ b d d′ → Checking ws at n line owner s b d₀ c′ (f .next) (i + 1) d′
   checking-next {c} {c′} {a} {i} {d} {d′} C h f F code U L = record { fit = L .fit; kept = L .kept ∙ C .kept; few = L .few; upto = omega arith; walked = by }
     where
@@ -97,7 +98,7 @@ module _ {ws : List ℕ} {at n line owner : ℕ} {s : Counts} {b d₀ : List ℕ
             past = rest-next p q (f .next) (g .3);
             mid = λ N D rows notes H.
                 let M = w .mid N D rows notes H in
-                let holds : Holds rows (c .counts .rows) b = subst (λ (k : ℕ). Holds rows k b) (sym (C .kept)) (H .inside .1) in
+                let holds : Keeps rows (c .counts .rows) b = subst (λ (k : ℕ). Keeps rows k b) (sym (C .kept)) (H .inside .1) in
                 let ec : code ≡ fieldCode rows owner (p .before) decl = code-there at owner rows f code p decl (g .0) (g .1) (g .2) S (U rows (H .inside .1)) in
                 let ew : c′ .words ≡ sized rows (c .words) code (f .head) (f .arg) = L .size rows holds in
                 record {

@@ -13,7 +13,8 @@ use Rattle.tree.specs.Sorts.{FieldDecl as FieldRow}
 use Rattle.tree.specs.Tree.{Tree, row as oneRow, rows as manyRows, count}
 use Rattle.tree.specs.Stands.{Stands, SomeTree}
 use Rattle.views.specs.View.{head, arg, FieldDecl, rowsOf, fieldDecl}
-use Rattle.table.specs.Rows.{Row, width, insert, Holds}
+use Rattle.table.specs.Rows.{Row, width, insert}
+use Rattle.runs.specs.Runs.{Keeps}
 use Rattle.entries.specs.Entries.{fieldRow}
 use Rattle.steps.specs.State.{State, running, stopped, asking, each, enter}
 use Rattle.steps.specs.declared.Counts.{Counts}
@@ -75,8 +76,8 @@ inside-start owner N D fs (stopped k) = refl
 -- one more field
 module _ (owner N : ℕ) (rows : List Row) (whole : State) (k k′ w w′ code name h a cnt : ℕ) (before tail : List FieldDecl) (f : FieldDecl) (b : List ℕ)
     (B : Small before) (s : arg (f .ty) < 16777216) (en : name ≡ f .name) (eh : h ≡ head (f .ty)) (ea : a ≡ arg (f .ty)) (ek : k′ ≡ pick (eqb code 0) (k + 1) k)
-    (told : (r : List Row) → Holds r cnt b → (code ≡ fieldCode r owner before f) × (w′ ≡ sized r w code h a)) where
-  pub inside-next : (st : State) → ((r n : List Row) → st ≡ running r n → Holds r cnt b) → Inside owner N rows whole k w before (f ∷ tail) st
+    (told : (r : List Row) → Keeps r cnt b → (code ≡ fieldCode r owner before f) × (w′ ≡ sized r w code h a)) where
+  pub inside-next : (st : State) → ((r n : List Row) → st ≡ running r n → Keeps r cnt b) → Inside owner N rows whole k w before (f ∷ tail) st
       → Inside owner N rows whole k′ w′ (before ++ (f ∷ [])) tail (each (enter (some N)) (pick (eqb code 0) (fieldRow owner k name w h a ∷ []) []) st)
   inside-next (running r n) H I =
       let q = told r (H r n refl) in
@@ -116,7 +117,7 @@ more-fields code k k′ i e h = go (eqb code 0) e
     go true q = omega arith
     go false q = omega arith
 
-held-rows : {N D : ℕ} {c : Counts} {b d : List ℕ} (st : State) → Held N D st c b d → (r n : List Row) → st ≡ running r n → Holds r (c .rows) b
+held-rows : {N D : ℕ} {c : Counts} {b d : List ℕ} (st : State) → Held N D st c b d → (r n : List Row) → st ≡ running r n → Keeps r (c .rows) b
 held-rows {N} {D} {c} {b} {d} st H r n e = subst (λ (x : State). Held N D x c b d) e H .inside .1
 
 module _ {ws : List ℕ} {at n owner : ℕ} {s : Counts} {b₀ : List ℕ} where
@@ -138,7 +139,7 @@ module _ {ws : List ℕ} {at n owner : ℕ} {s : Counts} {b₀ : List ℕ} where
       record { names = F .names; strings = F .strings; tree = q .field; end = q .mid; stands = q .here }
 
   pub entering-next : {c c′ : Kept} {a i : ℕ} {b b′ : List ℕ} → EnteringMid ws at n owner s b₀ c a i b → i < n → (f : FieldAt) → FieldIs ws a f → (code : ℕ)
-      → ((rows : List Row) → Holds rows (c .counts .rows) b → Upto ws at i (λ fs. code ≡ codeOf rows owner fs (f .name) (f .head) (f .arg)))
+      → ((rows : List Row) → Keeps rows (c .counts .rows) b → Upto ws at i (λ fs. code ≡ codeOf rows owner fs (f .name) (f .head) (f .arg)))
       → Keeps owner code (f .name) (f .head) (f .arg) c c′ b b′ → EnteringMid ws at n owner s b₀ c′ (f .next) (i + 1) b′
   entering-next {c} {c′} {a} {i} {b} {b′} C h f F code U K =
       record {

@@ -9,7 +9,8 @@ use lib.Dec.{leb, eqb}
 use lib.ListN.{length}
 use borrow.Author.Tests.{eq-eqb, ne-eqb, le-leb, lt-leb}
 use Rattle.words.specs.Word.{pick}
-use Rattle.table.specs.Rows.{Row, width, noteWidth, Holds}
+use Rattle.table.specs.Rows.{Row, width, noteWidth}
+use Rattle.runs.specs.Runs.{Keeps}
 use Rattle.table.specs.Laws.{pick-true, pick-false}
 use Rattle.entries.specs.Entries.{has, fieldRow}
 use Rattle.lookup.specs.Lookup.{typeWords}
@@ -64,7 +65,7 @@ module _ (line owner code name head arg : ℕ) (s : Summed) (b d : List ℕ) (fe
         notes = λ rows H. as-notes (λ N D. looks D rows line owner (s .words) code name head arg) (λ N D st. ap (λ (g : Step). g st) (sym (pick-false {A = Step} (pick (leb (s .words + typeWords rows head arg) 65535) nothing (stop 9)) (push (some D) (noteOf code line owner name arg)) (ne-eqb code 0 n)))) N;
       }
 
-  module _ (z : code ≡ 0) (fit : s .counts .notes * noteWidth ≤ length d) (more : ℕ) (told : (rows : List Row) → Holds rows (s .counts .rows) b → more ≡ typeWords rows head arg) where
+  module _ (z : code ≡ 0) (fit : s .counts .notes * noteWidth ≤ length d) (more : ℕ) (told : (rows : List Row) → Keeps rows (s .counts .rows) b → more ≡ typeWords rows head arg) where
     pub look-long : 65535 - s .words < more → {t : Counts} → Counted (λ N D. stop 9) (s .counts) t → Looks line owner code name head arg s (record { counts = t; words = s .words }) b d d
     unfolding looks sized
     look-long l C =
@@ -109,7 +110,7 @@ module _ (owner code name head arg : ℕ) (s : Kept) (b : List ℕ) where
         rows = rows-same (λ N D. each (enter (some N)) (pick (eqb code 0) Row′ [])) (λ N D st. ap (λ (l : List Row). each (enter (some N)) l st) (sym (pick-false Row′ [] (ne-eqb code 0 n)))) (record { fit = fit; kept = refl; after = λ d N D st K. K });
       }
 
-  pub keep-some : code ≡ 0 → (more w : ℕ) → ((rows : List Row) → Holds rows (s .counts .rows) b → more ≡ typeWords rows head arg) → w ≡ grown (s .words) more → w ≤ 65535
+  pub keep-some : code ≡ 0 → (more w : ℕ) → ((rows : List Row) → Keeps rows (s .counts .rows) b → more ≡ typeWords rows head arg) → w ≡ grown (s .words) more → w ≤ 65535
       → {t : Counts} {b′ : List ℕ} → Rows (entering (fieldRow owner (s .fields) name (s .words) head arg)) (s .counts) t b b′
       → Keeps owner code name head arg s (record { counts = t; fields = s .fields + 1; words = w }) b b′
   unfolding sized each entering

@@ -15,7 +15,8 @@ use Rattle.tree.specs.Tree.{Tree, row as oneRow, rows as manyRows, word, list, 
 use Rattle.tree.specs.Stands.{Stands}
 use Rattle.views.specs.View.{FieldDecl, rowsOf, items, fieldDecl, TypeDef, view}
 use Rattle.parts.specs.Over.{field-rows-over}
-use Rattle.table.specs.Rows.{Row, find, remove, Holds}
+use Rattle.table.specs.Rows.{Row, find, remove}
+use Rattle.runs.specs.Runs.{Keeps}
 use Rattle.lent.specs.RuleLaws.{name-below}
 use Rattle.entries.specs.Entries.{entryKey, has, rowWord, typeRow}
 use Rattle.steps.specs.State.{State, running, stopped, when, asking, push}
@@ -134,8 +135,8 @@ module _ {ws : List ℕ} {at : ℕ} where
 
 -- the two diagnostics, and then the fields
 module _ (ws : List ℕ) (at scope : ℕ) {s t₁ t₂ r : Counts} {b d d₁ d₂ b′ d′ : List ℕ} (twice inner : Bool) (prev : ℕ) (fit : Fit s (length b) (length d))
-    (told : (rows : List Row) → Holds rows (s .rows) b → twice ≡ has rows 130 (payOf (getD ws (at + 1) 0)) 0)
-    (line-told : (rows : List Row) → Holds rows (s .rows) b → prev ≡ rowWord 3 (find (entryKey 130 (payOf (getD ws (at + 1) 0)) 0) rows))
+    (told : (rows : List Row) → Keeps rows (s .rows) b → twice ≡ has rows 130 (payOf (getD ws (at + 1) 0)) 0)
+    (line-told : (rows : List Row) → Keeps rows (s .rows) b → prev ≡ rowWord 3 (find (entryKey 130 (payOf (getD ws (at + 1) 0)) 0) rows))
     (is : inner ≡ not (eqb scope 0))
     (A : Notes (noting twice (typeDefined (payOf (getD ws at 0)) (payOf (getD ws (at + 1) 0)) prev)) s t₁ d d₁)
     (B : Notes (noting inner (typeInside (payOf (getD ws at 0)) (payOf (getD ws (at + 1) 0)))) t₁ t₂ d₁ d₂)

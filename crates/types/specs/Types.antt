@@ -12,7 +12,8 @@ use Rattle.tree.specs.Sorts.{FieldDecl as FieldRow, typeDef as typeKind}
 use Rattle.tree.specs.Tree.{Tree, row as oneRow, rows as manyRows, count}
 use Rattle.tree.specs.Stands.{Stands}
 use Rattle.views.specs.View.{FieldDecl, head, arg, rowsOf, fieldDecl}
-use Rattle.table.specs.Rows.{Row, noteWidth, Holds}
+use Rattle.table.specs.Rows.{Row, noteWidth}
+use Rattle.runs.specs.Runs.{Keeps}
 use Rattle.entries.specs.Entries.{has, fieldRow}
 use Rattle.lookup.specs.Lookup.{typeWords}
 use Rattle.steps.specs.State.{running, Step, _⨾_, nothing, asking, each, stop, enter, push}
@@ -111,8 +112,8 @@ pub record Looks (line owner code name head arg : ℕ) (s r : Summed) (b d d′ 
   pub fit : r .counts .notes * noteWidth ≤ length d′
   pub kept : r .counts .rows ≡ s .counts .rows
   pub few : r .words ≤ 65535
-  pub size : (rows : List Row) → Holds rows (s .counts .rows) b → r .words ≡ sized rows (s .words) code head arg
-  pub notes : (rows : List Row) → Holds rows (s .counts .rows) b → Notes (λ N D. looks D rows line owner (s .words) code name head arg) (s .counts) (r .counts) d d′
+  pub size : (rows : List Row) → Keeps rows (s .counts .rows) b → r .words ≡ sized rows (s .words) code head arg
+  pub notes : (rows : List Row) → Keeps rows (s .counts .rows) b → Notes (λ N D. looks D rows line owner (s .words) code name head arg) (s .counts) (r .counts) d d′
 
 -- n fields looked at, and their words
 pub record Checks (ws : List ℕ) (at n line owner : ℕ) (s : Counts) (r : Summed) (b d d′ : List ℕ) : Type 0 where
@@ -126,7 +127,7 @@ pub record Checks (ws : List ℕ) (at n line owner : ℕ) (s : Counts) (r : Summ
 pub record Keeps (owner code name head arg : ℕ) (s r : Kept) (b b′ : List ℕ) : Type 0 where
   pub few : r .words ≤ 65535
   pub more : r .fields ≡ pick (eqb code 0) (s .fields + 1) (s .fields)
-  pub size : (rows : List Row) → Holds rows (s .counts .rows) b → r .words ≡ sized rows (s .words) code head arg
+  pub size : (rows : List Row) → Keeps rows (s .counts .rows) b → r .words ≡ sized rows (s .words) code head arg
   pub rows : Rows (λ N D. each (enter (some N)) (pick (eqb code 0) (fieldRow owner (s .fields) name (s .words) head arg ∷ []) [])) (s .counts) (r .counts) b b′
 
 -- the kept ones of n fields entered

@@ -6,7 +6,8 @@ ghost use mathlib.Core.List.{List};
 ghost use Prim.Native.Nat.{ℕ, _+_, _*_, _≤_, _<_};
 ghost use lib.Dec.{eqb};
 ghost use lib.ListN.{length};
-ghost use Rattle.table.specs.Rows.{Row, width, noteWidth, Holds};
+ghost use Rattle.table.specs.Rows.{Row, width, noteWidth};
+ghost use Rattle.runs.specs.Runs.{Keeps};
 ghost use Rattle.tree.specs.Sorts.{FieldDecl as FieldRow, typeDef};
 ghost use Rattle.tree.specs.Tree.{row as oneRow};
 ghost use Rattle.tree.specs.Stands.{SomeTree};
@@ -53,7 +54,7 @@ fn field_at(words: &[u32], at: usize) -> FieldAt
 // 0 where a type may stand in the TYPE `owner`, else the code of its diagnostic. Its own name is asked first: its row may be there or not.
 fn type_code(b: &[u32], count: usize, owner: u32, head: u32, arg: u32) -> u32
     requires { ⌜ (count * width ≤ length (now b)) × (arg < 16777216) ⌝ }
-    ensures { λ r. ⌜ ((rows : List Row) → Holds rows count (now (b .entry)) → r ≡ typeCode rows owner head arg) ⌝ }
+    ensures { λ r. ⌜ ((rows : List Row) → Keeps rows count (now (b .entry)) → r ≡ typeCode rows owner head arg) ⌝ }
 {
     if head != 45 {
         return 0;
@@ -70,7 +71,7 @@ fn type_code(b: &[u32], count: usize, owner: u32, head: u32, arg: u32) -> u32
 // Whether it is a field of that name, and of a type that may stand there.
 fn is_kept(b: &[u32], count: usize, owner: u32, field: u32, f: FieldAt) -> bool
     requires { ⌜ (count * width ≤ length (now b)) × (f .arg < 16777216) ⌝ }
-    ensures { λ r. ⌜ ((rows : List Row) → Holds rows count (now (b .entry)) → r ≡ (eqb (f .name) field && eqb (typeCode rows owner (f .head) (f .arg)) 0)) ⌝ }
+    ensures { λ r. ⌜ ((rows : List Row) → Keeps rows count (now (b .entry)) → r ≡ (eqb (f .name) field && eqb (typeCode rows owner (f .head) (f .arg)) 0)) ⌝ }
 {
     if f.name != field {
         return false;
@@ -81,7 +82,7 @@ fn is_kept(b: &[u32], count: usize, owner: u32, field: u32, f: FieldAt) -> bool
 // Whether one of the n fields from `at` on has the name and a type that may stand there: the first such one is kept.
 fn said(words: &[u32], b: &[u32], count: usize, owner: u32, at: usize, n: u32, field: u32) -> bool
     requires { ⌜ (count * width ≤ length (now b)) × SomeFields (now words) at n ⌝ }
-    ensures { λ r. ⌜ ((rows : List Row) → Holds rows count (now (b .entry)) → Upto (now (words .entry)) at n (λ fs. r ≡ saidOf rows owner field fs)) ⌝ }
+    ensures { λ r. ⌜ ((rows : List Row) → Keeps rows count (now (b .entry)) → Upto (now (words .entry)) at n (λ fs. r ≡ saidOf rows owner field fs)) ⌝ }
 {
     let mut a = at;
     let mut left = n;
@@ -107,7 +108,7 @@ fn field_code(
     f: FieldAt,
 ) -> u32
     requires { ⌜ (count * width ≤ length (now b)) × SomeFields (now words) at i × (f .arg < 16777216) ⌝ }
-    ensures { λ r. ⌜ ((rows : List Row) → Holds rows count (now (b .entry)) → Upto (now (words .entry)) at i (λ fs. r ≡ codeOf rows owner fs (f .name) (f .head) (f .arg))) ⌝ }
+    ensures { λ r. ⌜ ((rows : List Row) → Keeps rows count (now (b .entry)) → Upto (now (words .entry)) at i (λ fs. r ≡ codeOf rows owner fs (f .name) (f .head) (f .arg))) ⌝ }
 {
     if said(words, b, count, owner, at, i, f.name) {
         return 5;

@@ -44,10 +44,10 @@ enum-told : tie.Need-enum-told
 enum-told c = search needs
 
 returns : tie.Need-returns
-returns c = λ rows H. old-found H (c .before .before .before .found .given .0 .0) (in-table (c .before .before .before)) (c .before .before .before .found .given .1) (c .before .before .before .before .before .find-entry .ensures .1 rows H)
+returns c = λ rows H. old-found _ (c .before .before .before .found .given .0 .0) (c .before .before .before .found .given .1) (c .before .before .before .before .before .find-entry .ensures .1 rows H)
 
 returns-2 : tie.Need-returns-2
-returns-2 c = λ rows H. old-missing rows (c .enum-told .given .1) (c .before .before .find-entry .ensures .1 rows H)
+returns-2 c = λ rows H. old-missing _ (c .enum-told .given .1) (c .before .before .find-entry .ensures .1 rows H)
 
 pub old-array-spec : {M : Type 1} → statement M
 old-array-spec =

@@ -6,12 +6,12 @@ use mathlib.Core.Option.{none, some}
 use Prim.Native.Nat.{ℕ, _+_, _*_, _<_}
 use native.Mathlib.Omega.{arith}
 use lib.ListN.{getD}
-use Rattle.table.specs.Rows.{Row, width, find, Holds}
+use Rattle.table.specs.Rows.{Row, width, find}
+use Rattle.runs.specs.Runs.{rowOf, rowIn, Keeps}
+use Rattle.runs.specs.Places.{row-word}
 use Rattle.table.specs.Answers.{Within}
-use Rattle.table.specs.Images.{word-at}
 use Rattle.table.specs.declared.Found.{Found}
 use Rattle.entries.specs.Entries.{entryKey, hasRow, rowWord}
-use Rattle.lookup.specs.Answers.{rowAt}
 use Rattle.steps.specs.Laws.{no-note, noting-is}
 use Rattle.procedures.proofs.Does.{defined-acts}
 use borrow.Author.Needs.{needs}
@@ -35,8 +35,8 @@ returns : tie.Need-returns
 returns c =
     let a = c .before .before .before .before .before .args in
     let k = c .before .before .before .before .before .pre .1 in
-    let is : (rows : List Row) → Holds rows (a .s .rows) (a .b .now) → none ≡ find (entryKey 135 (a .name) 0) rows =
-    λ rows H. ap (rowAt rows) (sym (c .enum-told .given .1)) ∙ c .before .before .find-entry .ensures .1 rows H in
+    let is : (rows : List Row) → Keeps rows (a .s .rows) (a .b .now) → none ≡ find (entryKey 135 (a .name) 0) rows =
+    λ rows H. ap (rowIn (a .b .now)) (sym (c .enum-told .given .1)) ∙ c .before .before .find-entry .ensures .1 rows H in
     defined-acts (a .line) (a .name) 0 false (k .0) (λ rows H. ap hasRow (is rows H)) (λ rows H. ap (rowWord 3) (is rows H)) (no-note (a .s) (a .d .now) _ (k .1) false refl)
 
 mul-prev : tie.Need-mul-prev
@@ -65,10 +65,10 @@ returns-2 c =
     let a = c .before .before .before .before .before .before .before .before .before .before .before .args in
     let f = c .before .before .before .before .before .before in
     let i : ℕ = f .i .given .0 .0 in
-    let is : (rows : List Row) → Holds rows (a .s .rows) (a .b .now) → some (getD rows i []) ≡ find (entryKey 135 (a .name) 0) rows =
-    λ rows H. ap (rowAt rows) (sym (f .i .given .1)) ∙ f .before .before .find-entry .ensures .1 rows H in
+    let is : (rows : List Row) → Keeps rows (a .s .rows) (a .b .now) → some (rowOf (a .b .now) i) ≡ find (entryKey 135 (a .name) 0) rows =
+    λ rows H. ap (rowIn (a .b .now)) (sym (f .i .given .1)) ∙ f .before .before .find-entry .ensures .1 rows H in
     let prev : ℕ = getD (a .b .now) (i * width + 3) 0 in
-    defined-acts (a .line) (a .name) prev true (c .before .before .before .before .before .before .before .before .before .before .before .pre .1 .0) (λ rows H. ap hasRow (is rows H)) (λ rows H. word-at (H .filled) i 3 (in-table f) (omega arith) ∙ ap (rowWord 3) (is rows H)) (noting-is (25 ∷ a .line ∷ (a .name + 1) ∷ 0 ∷ 0 ∷ prev ∷ []) true refl (c .before .before .push .ensures))
+    defined-acts (a .line) (a .name) prev true (c .before .before .before .before .before .before .before .before .before .before .before .pre .1 .0) (λ rows H. ap hasRow (is rows H)) (λ rows H. sym (row-word (a .b .now) i 3 (omega arith)) ∙ ap (rowWord 3) (is rows H)) (noting-is (25 ∷ a .line ∷ (a .name + 1) ∷ 0 ∷ 0 ∷ prev ∷ []) true refl (c .before .before .push .ensures))
 
 pub defined-before-spec : {M : Type 1} → statement M
 defined-before-spec =

@@ -1,6 +1,6 @@
 -- The loop of the first pass: what is left to look at does the same as all of it. Assumes nothing.
 use Prim.Native.Nat.{ℕ, _-_}
-use Rattle.table.specs.Rows.{Holds}
+use Rattle.runs.specs.Runs.{Keeps}
 use Rattle.types.proofs.Walk.{fewer}
 use mathlib.Core.Path.{_≡_, refl, sym, _∙_, subst}
 use native.Mathlib.Omega.{arith}
@@ -38,7 +38,7 @@ loop-again c = (
   c .before .before .look .kept .1 .0 ∙ c .before .before .before .before .before .before .before .loop .inv .0,
   c .before .before .before .before .before .before .before .loop .inv .1,
   checking-next (c .before .before .before .before .before .before .before .loop .inv .2) (c .before .before .before .before .before .before .loop-test .taken) _ (c .before .before .before .before .before .field-at .ensures) _
-      (λ rows H. c .before .before .before .before .field-code .ensures rows (subst (λ (k : ℕ). Holds rows k (c .before .before .before .before .before .before .before .before .before .before .before .args .b .now)) (sym (c .before .before .before .before .before .before .before .loop .inv .1)) H)) (c .before .before .look .ensures),
+      (λ rows H. c .before .before .before .before .field-code .ensures rows (subst (λ (k : ℕ). Keeps rows k (c .before .before .before .before .before .before .before .before .before .before .before .args .b .now)) (sym (c .before .before .before .before .before .before .before .loop .inv .1)) H)) (c .before .before .look .ensures),
 )
 
 same-length : tie.Need-same-length Inv-loop μ-loop

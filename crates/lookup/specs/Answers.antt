@@ -1,11 +1,6 @@
 -- What the answers of the lookups mean. These are definitions.
-use mathlib.Core.List.{List, []}
 use mathlib.Core.Option.{Option, none, some}
 use Prim.Native.Nat.{ℕ}
-use lib.ListN.{getD}
-use Rattle.table.specs.Rows.{Row}
-use Rattle.table.specs.declared.Found.{Found}
-use Rattle.table.specs.declared.Found.the-variants.{At, Nothing as Missing}
 use Rattle.lookup.specs.Builtins.{Builtin}
 use Rattle.lookup.specs.Lookup.{TypeRef, ArrayInfo}
 use Rattle.lookup.specs.declared.Typed.{Typed}
@@ -16,11 +11,6 @@ use Rattle.lookup.specs.declared.Declared.{Declared}
 use Rattle.lookup.specs.declared.Declared.the-variants.{Record, Class}
 use Rattle.lookup.specs.declared.Arguments.{Arguments}
 use Rattle.lookup.specs.declared.Arguments.the-variants.{Unknown, Takes}
-
--- the row that was found
-abbrev pub rowAt : List Row → Found → Option Row
-rowAt rows Missing = none
-rowAt rows (At i) = some (getD rows i [])
 
 abbrev pub typed : Typed → Option TypeRef
 typed Untyped = none

@@ -1,4 +1,4 @@
--- How the visible row comes out in each case, and that the row that `find` answers is the one that the definition finds. Assumes nothing.
+-- How the visible row comes out in each case. Assumes nothing.
 use mathlib.Core.Path.{_≡_, sym, ap, _∙_}
 use mathlib.Core.Bool.{Bool, true, false}
 use mathlib.Core.List.{List}
@@ -6,20 +6,10 @@ use mathlib.Core.Option.{Option, none, some}
 use Prim.Native.Nat.{ℕ, _-_}
 use borrow.Author.Tests.{eq-eqb, ne-eqb}
 use Rattle.words.specs.Word.{pick}
-use Rattle.table.specs.Rows.{Row, rank, find, Holds}
+use Rattle.table.specs.Rows.{Row, find}
 use Rattle.table.specs.Laws.{pick-true, pick-false}
-use Rattle.table.specs.Answers.{foundAt}
-use Rattle.table.specs.Buffers.{found-row, found-none}
-use Rattle.table.specs.declared.Found.{Found}
-use Rattle.table.specs.declared.Found.the-variants.{At, Nothing}
 use Rattle.entries.specs.Entries.{entryKey}
 use Rattle.lookup.specs.Lookup.{shares, orElse, visible}
-use Rattle.lookup.specs.Answers.{rowAt}
-
--- the row that was found is what the definition finds
-pub found-is : {rows : List Row} {n : ℕ} {buf : List ℕ} (H : Holds rows n buf) (k : ℕ) (r : Found) → r ≡ foundAt (rank k rows) (find k rows) → rowAt rows r ≡ find k rows
-found-is {rows} {n} {buf} H k (At i) e = sym (found-row rows n buf H k i e)
-found-is {rows} {n} {buf} H k Nothing e = sym (found-none rows n buf H k e)
 
 module _ (rows : List Row) (kind scope name : ℕ) (array : Bool) where
   -- at module level

@@ -1,4 +1,4 @@
-// The leaves of document 01 without checks: what is answered is said for every table that the buffer holds.
+// The leaves of document 01 without checks: what is answered is said for every table that the buffer keeps.
 use entries::bit;
 use entries::entry_key;
 use table::Found;
@@ -9,26 +9,27 @@ ghost use Prim.Native.Nat.{_*_, _+_, _≤_, _<_};
 ghost use lib.ListN.{length, getD};
 ghost use lib.Dec.{eqb};
 ghost use Rattle.words.specs.Word.{flatten};
-ghost use Rattle.table.specs.Rows.{Row, width, find, Holds};
+ghost use Rattle.table.specs.Rows.{Row, width, find};
 ghost use Rattle.table.specs.Answers.{Within};
+ghost use Rattle.runs.specs.Runs.{rowIn, Keeps};
 ghost use Rattle.entries.specs.Entries.{entryKey, has as hasOf, rowWord};
 ghost use Rattle.lookup.specs.Lookup.{contains as containsOf, shares as sharesOf, isStatic, recordWords, typeWords, typeOf, arrayOf, visible as visibleOf, typedVar, typedVarIn, lookupArray, fromSuffix, fromTypeRef, declaredType};
 ghost use Rattle.lookup.specs.Builtins.{cells, nameAt, same, lengthFits, mayBe, builtin as builtinOf};
-ghost use Rattle.lookup.specs.Answers.{rowAt, typed, array as arrayOf′, class, argumentsOf};
+ghost use Rattle.lookup.specs.Answers.{typed, array as arrayOf′, class, argumentsOf};
 
 // The row of an entry.
 pub fn find_entry(b: &[u32], count: usize, kind: u32, name: u32, second: u32) -> Found
     requires { ⌜ (count * width ≤ length (now b)) × (kind < 144) × (name < 16777216) ⌝ }
     ensures within { λ r. ⌜ Within count r ⌝ }
-    ensures found { λ r. ⌜ ((rows : List Row) → Holds rows count (now (b .entry)) → rowAt rows r ≡ find (entryKey kind name second) rows) ⌝ }
+    ensures found { λ r. ⌜ ((rows : List Row) → Keeps rows count (now (b .entry)) → rowIn (now (b .entry)) r ≡ find (entryKey kind name second) rows) ⌝ }
 {
-    table::find(b, count, entry_key(kind, name, second))
+    runs::find(b, count, entry_key(kind, name, second))
 }
 
 // Whether there is one.
 pub fn has(b: &[u32], count: usize, kind: u32, name: u32, second: u32) -> bool
     requires { ⌜ (count * width ≤ length (now b)) × (kind < 144) × (name < 16777216) ⌝ }
-    ensures { λ r. ⌜ ((rows : List Row) → Holds rows count (now (b .entry)) → r ≡ hasOf rows kind name second) ⌝ }
+    ensures { λ r. ⌜ ((rows : List Row) → Keeps rows count (now (b .entry)) → r ≡ hasOf rows kind name second) ⌝ }
 {
     entries::has(b, count, entry_key(kind, name, second))
 }
@@ -36,7 +37,7 @@ pub fn has(b: &[u32], count: usize, kind: u32, name: u32, second: u32) -> bool
 // Word j of it, 0 where there is none.
 pub fn word(b: &[u32], count: usize, kind: u32, name: u32, second: u32, j: usize) -> u32
     requires { ⌜ (count * width ≤ length (now b)) × (kind < 144) × (name < 16777216) × (j < width) ⌝ }
-    ensures { λ r. ⌜ ((rows : List Row) → Holds rows count (now (b .entry)) → r ≡ rowWord j (find (entryKey kind name second) rows)) ⌝ }
+    ensures { λ r. ⌜ ((rows : List Row) → Keeps rows count (now (b .entry)) → r ≡ rowWord j (find (entryKey kind name second) rows)) ⌝ }
 {
     entries::word(b, count, entry_key(kind, name, second), j)
 }
@@ -54,7 +55,7 @@ fn contains(mark: u32, array: bool) -> bool
 // Whether the procedure uses the module's name, an array or a variable, rather than one of its own.
 pub fn shares(b: &[u32], count: usize, proc: u32, name: u32, array: bool) -> bool
     requires { ⌜ (count * width ≤ length (now b)) × (proc < 16777216) × (name < 16777216) ⌝ }
-    ensures { λ r. ⌜ ((rows : List Row) → Holds rows count (now (b .entry)) → r ≡ sharesOf rows proc name array) ⌝ }
+    ensures { λ r. ⌜ ((rows : List Row) → Keeps rows count (now (b .entry)) → r ≡ sharesOf rows proc name array) ⌝ }
 {
     if has(b, count, 141, proc, 0) {
         return true;
@@ -68,7 +69,7 @@ pub fn shares(b: &[u32], count: usize, proc: u32, name: u32, array: bool) -> boo
 // Whether the procedure's own name keeps its value between calls.
 pub fn is_static(b: &[u32], count: usize, proc: u32, name: u32, array: bool) -> bool
     requires { ⌜ (count * width ≤ length (now b)) × (proc < 16777216) × (name < 16777216) ⌝ }
-    ensures { λ r. ⌜ ((rows : List Row) → Holds rows count (now (b .entry)) → r ≡ isStatic rows proc name array) ⌝ }
+    ensures { λ r. ⌜ ((rows : List Row) → Keeps rows count (now (b .entry)) → r ≡ isStatic rows proc name array) ⌝ }
 {
     if has(b, count, 140, proc, 0) {
         return true;
@@ -79,7 +80,7 @@ pub fn is_static(b: &[u32], count: usize, proc: u32, name: u32, array: bool) -> 
 // The words of the record of that name.
 fn record_words(b: &[u32], count: usize, name: u32) -> u32
     requires { ⌜ (count * width ≤ length (now b)) × (name < 16777216) ⌝ }
-    ensures { λ r. ⌜ ((rows : List Row) → Holds rows count (now (b .entry)) → r ≡ recordWords (find (entryKey 130 name 0) rows)) ⌝ }
+    ensures { λ r. ⌜ ((rows : List Row) → Keeps rows count (now (b .entry)) → r ≡ recordWords (find (entryKey 130 name 0) rows)) ⌝ }
 {
     match find_entry(b, count, 130, name, 0) {
         Found::At(i) => b[i * table::WIDTH + 2],
@@ -90,7 +91,7 @@ fn record_words(b: &[u32], count: usize, name: u32) -> u32
 // The size of a type in words.
 pub fn type_words(b: &[u32], count: usize, head: u32, arg: u32) -> u32
     requires { ⌜ (count * width ≤ length (now b)) × (arg < 16777216) ⌝ }
-    ensures { λ r. ⌜ ((rows : List Row) → Holds rows count (now (b .entry)) → r ≡ typeWords rows head arg) ⌝ }
+    ensures { λ r. ⌜ ((rows : List Row) → Keeps rows count (now (b .entry)) → r ≡ typeWords rows head arg) ⌝ }
 {
     match head {
         44 => 2,
@@ -103,7 +104,7 @@ pub fn type_words(b: &[u32], count: usize, head: u32, arg: u32) -> u32
 pub fn visible(b: &[u32], count: usize, kind: u32, scope: u32, name: u32, array: bool) -> Found
     requires { ⌜ (count * width ≤ length (now b)) × (kind < 144) × (scope ≤ 16777216) × (name < 16777216) ⌝ }
     ensures within { λ r. ⌜ Within count r ⌝ }
-    ensures found { λ r. ⌜ ((rows : List Row) → Holds rows count (now (b .entry)) → rowAt rows r ≡ visibleOf rows kind scope name array) ⌝ }
+    ensures found { λ r. ⌜ ((rows : List Row) → Keeps rows count (now (b .entry)) → rowIn (now (b .entry)) r ≡ visibleOf rows kind scope name array) ⌝ }
 {
     let own = find_entry(b, count, kind, name, scope);
     if scope == 0 {
@@ -130,7 +131,7 @@ pub enum Typed {
 // The type in row 134.
 fn type_at(b: &[u32], count: usize, found: Found) -> Typed
     requires { ⌜ (count * width ≤ length (now b)) × Within count found ⌝ }
-    ensures { λ r. ⌜ ((rows : List Row) → Holds rows count (now (b .entry)) → typed r ≡ typeOf (rowAt rows found)) ⌝ }
+    ensures { λ r. ⌜ ((rows : List Row) → Keeps rows count (now (b .entry)) → typed r ≡ typeOf (rowIn (now (b .entry)) found)) ⌝ }
 {
     match found {
         Found::At(i) => {
@@ -147,7 +148,7 @@ fn type_at(b: &[u32], count: usize, found: Found) -> Typed
 // A variable's declared type, the scope's own first.
 pub fn typed_var(b: &[u32], count: usize, scope: u32, name: u32) -> Typed
     requires { ⌜ (count * width ≤ length (now b)) × (scope ≤ 16777216) × (name < 16777216) ⌝ }
-    ensures { λ r. ⌜ ((rows : List Row) → Holds rows count (now (b .entry)) → typed r ≡ typedVar rows scope name) ⌝ }
+    ensures { λ r. ⌜ ((rows : List Row) → Keeps rows count (now (b .entry)) → typed r ≡ typedVar rows scope name) ⌝ }
 {
     type_at(b, count, visible(b, count, 134, scope, name, false))
 }
@@ -155,7 +156,7 @@ pub fn typed_var(b: &[u32], count: usize, scope: u32, name: u32) -> Typed
 // The type of a variable of exactly this scope.
 pub fn typed_var_in(b: &[u32], count: usize, scope: u32, name: u32) -> Typed
     requires { ⌜ (count * width ≤ length (now b)) × (name < 16777216) ⌝ }
-    ensures { λ r. ⌜ ((rows : List Row) → Holds rows count (now (b .entry)) → typed r ≡ typedVarIn rows scope name) ⌝ }
+    ensures { λ r. ⌜ ((rows : List Row) → Keeps rows count (now (b .entry)) → typed r ≡ typedVarIn rows scope name) ⌝ }
 {
     type_at(b, count, find_entry(b, count, 134, name, scope))
 }
@@ -169,7 +170,7 @@ pub enum Array {
 // The array in row 133.
 fn array_at(b: &[u32], count: usize, found: Found) -> Array
     requires { ⌜ (count * width ≤ length (now b)) × Within count found ⌝ }
-    ensures { λ r. ⌜ ((rows : List Row) → Holds rows count (now (b .entry)) → arrayOf′ r ≡ arrayOf (rowAt rows found)) ⌝ }
+    ensures { λ r. ⌜ ((rows : List Row) → Keeps rows count (now (b .entry)) → arrayOf′ r ≡ arrayOf (rowIn (now (b .entry)) found)) ⌝ }
 {
     match found {
         Found::At(i) => {
@@ -187,7 +188,7 @@ fn array_at(b: &[u32], count: usize, found: Found) -> Array
 // The array that a name is from a scope.
 pub fn lookup_array(b: &[u32], count: usize, scope: u32, name: u32) -> Array
     requires { ⌜ (count * width ≤ length (now b)) × (scope ≤ 16777216) × (name < 16777216) ⌝ }
-    ensures { λ r. ⌜ ((rows : List Row) → Holds rows count (now (b .entry)) → arrayOf′ r ≡ lookupArray rows scope name) ⌝ }
+    ensures { λ r. ⌜ ((rows : List Row) → Keeps rows count (now (b .entry)) → arrayOf′ r ≡ lookupArray rows scope name) ⌝ }
 {
     array_at(b, count, visible(b, count, 133, scope, name, true))
 }
@@ -227,7 +228,7 @@ pub enum Declared {
 // By the AS clause, else by the name's last byte.
 pub fn declared_type(b: &[u32], count: usize, last: u8, scope: u32, name: u32) -> Declared
     requires { ⌜ (count * width ≤ length (now b)) × (scope ≤ 16777216) × (name < 16777216) ⌝ }
-    ensures { λ r. ⌜ ((rows : List Row) → Holds rows count (now (b .entry)) → class r ≡ declaredType rows last scope name) ⌝ }
+    ensures { λ r. ⌜ ((rows : List Row) → Keeps rows count (now (b .entry)) → class r ≡ declaredType rows last scope name) ⌝ }
 {
     let t = typed_var(b, count, scope, name);
     match t {

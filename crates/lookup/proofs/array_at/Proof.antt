@@ -1,16 +1,15 @@
 -- `array_at` reads the row that was found. Assumes nothing.
 use mathlib.Core.Path.{_≡_, sym, ap, _∙_, subst}
-use mathlib.Core.List.{List, []}
 use mathlib.Core.Option.{Option, some}
 use Prim.Native.Nat.{ℕ, _<_}
 use native.Mathlib.Omega.{arith}
 use lib.ListN.{getD}
-use Rattle.table.specs.Rows.{Row, Holds}
+use Rattle.table.specs.Rows.{Row}
 use Rattle.table.specs.Answers.{Within}
-use Rattle.table.specs.Images.{word-at}
 use Rattle.table.specs.declared.Found.{Found}
+use Rattle.runs.specs.Runs.{rowOf, rowIn}
+use Rattle.runs.specs.Places.{row-word}
 use Rattle.lookup.specs.Lookup.{ArrayInfo, arrayOf}
-use Rattle.lookup.specs.Answers.{rowAt}
 use borrow.Author.Needs.{needs}
 use Rattle.lookup.proofs.array_at.Statement.{statement}
 use Rattle.lookup.proofs.array_at.Tie as tie
@@ -23,14 +22,14 @@ abbrev made : ℕ → ℕ → ℕ → Option ArrayInfo
 made r l b = some (record { rank = r; line = l; lower = b })
 
 -- its words are the array's
-array-is : (rows : List Row) {n : ℕ} {buf : List ℕ} → Holds rows n buf → (c : tie.After-found) {x y z : ℕ} → x ≡ getD (getD rows (c .found .given .0 .0) []) 2 0 → y ≡ getD (getD rows (c .found .given .0 .0) []) 3 0
-    → z ≡ getD (getD rows (c .found .given .0 .0) []) 4 0 → made x y z ≡ arrayOf (rowAt rows (c .before .before .args .found))
-array-is rows H c {x} {y} {z} p q r =
-    let row : Row = getD rows (c .found .given .0 .0) [] in
-    ap (λ (v : ℕ). made v y z) p
-    ∙ ap (λ (v : ℕ). made (getD row 2 0) v z) q
-    ∙ ap (λ (v : ℕ). made (getD row 2 0) (getD row 3 0) v) r
-    ∙ ap (λ (f : Found). arrayOf (rowAt rows f)) (sym (c .found .given .1))
+array-is : (c : tie.After-found) {x y z : ℕ} → getD (rowOf (c .before .before .args .b .now) (c .found .given .0 .0)) 2 0 ≡ x → getD (rowOf (c .before .before .args .b .now) (c .found .given .0 .0)) 3 0 ≡ y
+    → getD (rowOf (c .before .before .args .b .now) (c .found .given .0 .0)) 4 0 ≡ z → made x y z ≡ arrayOf (rowIn (c .before .before .args .b .now) (c .before .before .args .found))
+array-is c {x} {y} {z} p q r =
+    let row : Row = rowOf (c .before .before .args .b .now) (c .found .given .0 .0) in
+    ap (λ (v : ℕ). made v y z) (sym p)
+    ∙ ap (λ (v : ℕ). made (getD row 2 0) v z) (sym q)
+    ∙ ap (λ (v : ℕ). made (getD row 2 0) (getD row 3 0) v) (sym r)
+    ∙ ap (λ (f : Found). arrayOf (rowIn (c .before .before .args .b .now) f)) (sym (c .found .given .1))
 
 enum-known-found : tie.Need-enum-known-found
 enum-known-found c = search needs
@@ -69,10 +68,10 @@ enum-told : tie.Need-enum-told
 enum-told c = search needs
 
 returns : tie.Need-returns
-returns c = λ rows H. array-is rows H (c .before .before .before .before) (word-at (H .filled) (c .before .before .before .before .found .given .0 .0) 2 (in-table (c .before .before .before .before)) (omega arith)) (word-at (H .filled) (c .before .before .before .before .found .given .0 .0) 3 (in-table (c .before .before .before .before)) (omega arith)) (word-at (H .filled) (c .before .before .before .before .found .given .0 .0) 4 (in-table (c .before .before .before .before)) (omega arith))
+returns c = λ rows K. let f = c .before .before .before .before in let b = f .before .before .args .b .now in array-is f (row-word b (f .found .given .0 .0) 2 (omega arith)) (row-word b (f .found .given .0 .0) 3 (omega arith)) (row-word b (f .found .given .0 .0) 4 (omega arith))
 
 returns-2 : tie.Need-returns-2
-returns-2 c = λ rows H. ap (λ (f : Found). arrayOf (rowAt rows f)) (sym (c .enum-told .given .1))
+returns-2 c = λ rows K. ap (λ (f : Found). arrayOf (rowIn (c .before .before .args .b .now) f)) (sym (c .enum-told .given .1))
 
 pub array-at-spec : {M : Type 1} → statement M
 array-at-spec =

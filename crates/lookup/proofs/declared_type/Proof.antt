@@ -26,15 +26,15 @@ from-type-ref-requires c κs = search needs
 
 returns : tie.Need-returns
 unfolding declaredType classOf
-returns c = λ rows H. ap some (c .from-suffix .ensures) ∙ ap (classOf (c .before .before .before .before .before .args .last)) (ap typed (sym (c .before .enum-told .given .1)) ∙ c .before .before .before .typed-var .ensures rows H)
+returns c = λ rows K. ap some (c .from-suffix .ensures) ∙ ap (classOf (c .before .before .before .before .before .args .last)) (ap typed (sym (c .before .enum-told .given .1)) ∙ c .before .before .before .typed-var .ensures rows K)
 
 returns-2 : tie.Need-returns-2
 unfolding declaredType classOf
-returns-2 c = λ rows H. sym (pick-true _ _ (eq-eqb _ _ (c .if1 .taken))) ∙ ap (classOf (c .before .before .before .before .before .before .args .last)) (ap typed (sym (c .before .before .t .given .1)) ∙ c .before .before .before .before .typed-var .ensures rows H)
+returns-2 c = λ rows K. sym (pick-true _ _ (eq-eqb _ _ (c .if1 .taken))) ∙ ap (classOf (c .before .before .before .before .before .before .args .last)) (ap typed (sym (c .before .before .t .given .1)) ∙ c .before .before .before .before .typed-var .ensures rows K)
 
 returns-3 : tie.Need-returns-3
 unfolding declaredType classOf
-returns-3 c = λ rows H. ap some (c .from-type-ref .ensures) ∙ sym (pick-false _ _ (ne-eqb _ _ (c .before .if1 .left))) ∙ ap (classOf (c .before .before .before .before .before .before .before .args .last)) (ap typed (sym (c .before .before .before .t .given .1)) ∙ c .before .before .before .before .before .typed-var .ensures rows H)
+returns-3 c = λ rows K. ap some (c .from-type-ref .ensures) ∙ sym (pick-false _ _ (ne-eqb _ _ (c .before .if1 .left))) ∙ ap (classOf (c .before .before .before .before .before .before .before .args .last)) (ap typed (sym (c .before .before .before .t .given .1)) ∙ c .before .before .before .before .before .typed-var .ensures rows K)
 
 pub declared-type-spec : {M : Type 1} → statement M
 declared-type-spec =

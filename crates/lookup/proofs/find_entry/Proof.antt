@@ -2,7 +2,6 @@
 use mathlib.Core.Path.{ap, _∙_}
 use Prim.Native.Nat.{ℕ}
 use Rattle.table.specs.Rows.{find}
-use Rattle.lookup.specs.LookupLaws.{found-is}
 use borrow.Author.Needs.{needs}
 use Rattle.lookup.proofs.find_entry.Statement.{statement}
 use Rattle.lookup.proofs.find_entry.Tie as tie
@@ -14,7 +13,7 @@ find-requires : tie.Need-find-requires
 find-requires c κs = search needs
 
 returns : tie.Need-returns
-returns c = (c .find .ensures .0, λ rows H. found-is H (c .before .entry-key .result) (c .find .result) (c .find .ensures .1 rows H) ∙ ap (λ (k : ℕ). find k rows) (c .before .entry-key .ensures))
+returns c = (c .find .ensures .0, λ rows K. c .find .ensures .1 rows K ∙ ap (λ (k : ℕ). find k rows) (c .before .entry-key .ensures))
 
 pub find-entry-spec : {M : Type 1} → statement M
 find-entry-spec = tie.close (tie.spec entry-key-requires find-requires returns)

@@ -10,7 +10,7 @@ has-requires : tie.Need-has-requires
 has-requires c κs = search needs
 
 returns : tie.Need-returns
-returns c = λ rows H. rw (← c .before .entry-key .ensures) (c .has .ensures rows H)
+returns c = λ rows K. rw (← c .before .entry-key .ensures) (c .has .ensures rows K)
 
 pub has-spec : {M : Type 1} → statement M
 has-spec = tie.close (tie.spec entry-key-requires has-requires returns)

@@ -13,7 +13,7 @@ has-requires c κs = search needs
 
 returns : tie.Need-returns
 unfolding isStatic
-returns c = λ rows H. sym (or-inl _ _ (sym (c .before .has .ensures rows H) ∙ c .if1 .taken))
+returns c = λ rows K. sym (or-inl _ _ (sym (c .before .has .ensures rows K) ∙ c .if1 .taken))
 
 add-word : tie.Need-add-word
 add-word c = search needs
@@ -26,7 +26,7 @@ contains-requires c κs = search needs
 
 returns-2 : tie.Need-returns-2
 unfolding isStatic
-returns-2 c = λ rows H. c .contains .ensures ∙ ap (λ (m : ℕ). contains m (c .before .before .before .before .before .args .array)) (c .before .word .ensures rows H) ∙ sym (or-false _ _ (sym (c .before .before .before .has .ensures rows H) ∙ c .before .before .if1 .left))
+returns-2 c = λ rows K. c .contains .ensures ∙ ap (λ (m : ℕ). contains m (c .before .before .before .before .before .args .array)) (c .before .word .ensures rows K) ∙ sym (or-false _ _ (sym (c .before .before .before .has .ensures rows K) ∙ c .before .before .if1 .left))
 
 pub is-static-spec : {M : Type 1} → statement M
 is-static-spec =

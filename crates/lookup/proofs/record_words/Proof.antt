@@ -3,10 +3,10 @@ use mathlib.Core.Path.{sym, ap, _∙_, subst}
 use Prim.Native.Nat.{_<_}
 use native.Mathlib.Omega.{arith}
 use Rattle.table.specs.Answers.{Within}
-use Rattle.table.specs.Images.{word-at}
 use Rattle.table.specs.declared.Found.{Found}
+use Rattle.runs.specs.Runs.{rowIn}
+use Rattle.runs.specs.Places.{row-word}
 use Rattle.lookup.specs.Lookup.{recordWords}
-use Rattle.lookup.specs.Answers.{rowAt}
 use borrow.Author.Needs.{needs}
 use Rattle.lookup.proofs.record_words.Statement.{statement}
 use Rattle.lookup.proofs.record_words.Tie as tie
@@ -37,10 +37,10 @@ enum-told : tie.Need-enum-told
 enum-told c = search needs
 
 returns : tie.Need-returns
-returns c = λ rows H. word-at (H .filled) (c .before .before .i .given .0 .0) 2 (in-table (c .before .before)) (omega arith) ∙ ap recordWords (ap (rowAt rows) (sym (c .before .before .i .given .1)) ∙ c .before .before .before .before .find-entry .ensures .1 rows H)
+returns c = λ rows K. let b = c .before .before .before .before .before .before .args .b .now in sym (row-word b (c .before .before .i .given .0 .0) 2 (omega arith)) ∙ ap recordWords (ap (rowIn b) (sym (c .before .before .i .given .1)) ∙ c .before .before .before .before .find-entry .ensures .1 rows K)
 
 returns-2 : tie.Need-returns-2
-returns-2 c = λ rows H. ap recordWords (ap (rowAt rows) (sym (c .enum-told .given .1)) ∙ c .before .before .find-entry .ensures .1 rows H)
+returns-2 c = λ rows K. ap recordWords (ap (rowIn (c .before .before .before .before .args .b .now)) (sym (c .enum-told .given .1)) ∙ c .before .before .find-entry .ensures .1 rows K)
 
 pub record-words-spec : {M : Type 1} → statement M
 record-words-spec =

@@ -13,7 +13,7 @@ has-requires c κs = search needs
 
 returns : tie.Need-returns
 unfolding shares
-returns c = λ rows H. sym (or-inl _ _ (sym (c .before .has .ensures rows H) ∙ c .if1 .taken))
+returns c = λ rows K. sym (or-inl _ _ (sym (c .before .has .ensures rows K) ∙ c .if1 .taken))
 
 bit-requires : tie.Need-bit-requires
 bit-requires c κs = search needs
@@ -23,7 +23,7 @@ has-requires-2 c κs = search needs
 
 returns-2 : tie.Need-returns-2
 unfolding shares
-returns-2 c = λ rows H. sym (or-inl _ _ (rw (c .before .before .bit .ensures .0) at (sym (c .before .has2 .ensures rows H) ∙ c .if2 .taken))) ∙ sym (or-false _ _ (sym (c .before .before .before .before .has .ensures rows H) ∙ c .before .before .before .if1 .left))
+returns-2 c = λ rows K. sym (or-inl _ _ (rw (c .before .before .bit .ensures .0) at (sym (c .before .has2 .ensures rows K) ∙ c .if2 .taken))) ∙ sym (or-false _ _ (sym (c .before .before .before .before .has .ensures rows K) ∙ c .before .before .before .if1 .left))
 
 add-word : tie.Need-add-word
 add-word c = search needs
@@ -36,7 +36,7 @@ contains-requires c κs = search needs
 
 returns-3 : tie.Need-returns-3
 unfolding shares
-returns-3 c = λ rows H. c .contains .ensures ∙ ap (λ (m : ℕ). contains m (c .before .before .before .before .before .before .before .before .args .array)) (c .before .word .ensures rows H) ∙ sym (or-false _ _ (rw (c .before .before .before .before .bit .ensures .0) at (sym (c .before .before .before .has2 .ensures rows H) ∙ c .before .before .if2 .left))) ∙ sym (or-false _ _ (sym (c .before .before .before .before .before .before .has .ensures rows H) ∙ c .before .before .before .before .before .if1 .left))
+returns-3 c = λ rows K. c .contains .ensures ∙ ap (λ (m : ℕ). contains m (c .before .before .before .before .before .before .before .before .args .array)) (c .before .word .ensures rows K) ∙ sym (or-false _ _ (rw (c .before .before .before .before .bit .ensures .0) at (sym (c .before .before .before .has2 .ensures rows K) ∙ c .before .before .if2 .left))) ∙ sym (or-false _ _ (sym (c .before .before .before .before .before .before .has .ensures rows K) ∙ c .before .before .before .before .before .if1 .left))
 
 pub shares-spec : {M : Type 1} → statement M
 shares-spec =

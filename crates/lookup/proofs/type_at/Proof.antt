@@ -1,16 +1,15 @@
 -- `type_at` reads the row that was found. Assumes nothing.
 use mathlib.Core.Path.{_≡_, sym, ap, _∙_, subst}
-use mathlib.Core.List.{List, []}
 use mathlib.Core.Option.{Option, some}
 use Prim.Native.Nat.{ℕ, _<_}
 use native.Mathlib.Omega.{arith}
 use lib.ListN.{getD}
-use Rattle.table.specs.Rows.{Row, Holds}
+use Rattle.table.specs.Rows.{Row}
 use Rattle.table.specs.Answers.{Within}
-use Rattle.table.specs.Images.{word-at}
 use Rattle.table.specs.declared.Found.{Found}
+use Rattle.runs.specs.Runs.{rowOf, rowIn}
+use Rattle.runs.specs.Places.{row-word}
 use Rattle.lookup.specs.Lookup.{TypeRef, typeOf}
-use Rattle.lookup.specs.Answers.{rowAt}
 use borrow.Author.Needs.{needs}
 use Rattle.lookup.proofs.type_at.Statement.{statement}
 use Rattle.lookup.proofs.type_at.Tie as tie
@@ -23,11 +22,13 @@ abbrev made : ℕ → ℕ → Option TypeRef
 made h a = some (record { head = h; arg = a })
 
 -- its words are the type's
-type-is : (rows : List Row) {n : ℕ} {buf : List ℕ} → Holds rows n buf → (c : tie.After-found) {x y : ℕ} → x ≡ getD (getD rows (c .found .given .0 .0) []) 2 0 → y ≡ getD (getD rows (c .found .given .0 .0) []) 3 0
-    → made x y ≡ typeOf (rowAt rows (c .before .before .args .found))
-type-is rows H c {x} {y} p q =
-    ap (λ (v : ℕ). made v y) p ∙ ap (λ (v : ℕ). made (getD (getD rows (c .found .given .0 .0) []) 2 0) v) q
-    ∙ ap (λ (f : Found). typeOf (rowAt rows f)) (sym (c .found .given .1))
+type-is : (c : tie.After-found) {x y : ℕ} → getD (rowOf (c .before .before .args .b .now) (c .found .given .0 .0)) 2 0 ≡ x → getD (rowOf (c .before .before .args .b .now) (c .found .given .0 .0)) 3 0 ≡ y
+    → made x y ≡ typeOf (rowIn (c .before .before .args .b .now) (c .before .before .args .found))
+type-is c {x} {y} p q =
+    let row : Row = rowOf (c .before .before .args .b .now) (c .found .given .0 .0) in
+    ap (λ (v : ℕ). made v y) (sym p)
+    ∙ ap (λ (v : ℕ). made (getD row 2 0) v) (sym q)
+    ∙ ap (λ (f : Found). typeOf (rowIn (c .before .before .args .b .now) f)) (sym (c .found .given .1))
 
 enum-known-found : tie.Need-enum-known-found
 enum-known-found c = search needs
@@ -57,10 +58,10 @@ enum-told : tie.Need-enum-told
 enum-told c = search needs
 
 returns : tie.Need-returns
-returns c = λ rows H. type-is rows H (c .before .before .before) (word-at (H .filled) (c .before .before .before .found .given .0 .0) 2 (in-table (c .before .before .before)) (omega arith)) (word-at (H .filled) (c .before .before .before .found .given .0 .0) 3 (in-table (c .before .before .before)) (omega arith))
+returns c = λ rows K. let f = c .before .before .before in let b = f .before .before .args .b .now in type-is f (row-word b (f .found .given .0 .0) 2 (omega arith)) (row-word b (f .found .given .0 .0) 3 (omega arith))
 
 returns-2 : tie.Need-returns-2
-returns-2 c = λ rows H. ap (λ (f : Found). typeOf (rowAt rows f)) (sym (c .enum-told .given .1))
+returns-2 c = λ rows K. ap (λ (f : Found). typeOf (rowIn (c .before .before .args .b .now) f)) (sym (c .enum-told .given .1))
 
 pub type-at-spec : {M : Type 1} → statement M
 type-at-spec =

@@ -1,12 +1,10 @@
 -- `visible` by its cases, which are laws of `LookupLaws`. Assumes nothing.
 use mathlib.Core.Path.{sym, ap, _∙_, subst}
-use mathlib.Core.List.{[]}
 use Prim.Native.Nat.{_<_}
-use lib.ListN.{getD}
 use Rattle.table.specs.Answers.{Within}
 use Rattle.table.specs.declared.Found.{Found}
+use Rattle.runs.specs.Runs.{rowOf, rowIn}
 use Rattle.lookup.specs.Lookup.{shares}
-use Rattle.lookup.specs.Answers.{rowAt}
 use Rattle.lookup.specs.LookupLaws.{visible-module, visible-own, visible-shared, visible-hidden}
 use borrow.Author.Needs.{needs}
 use Rattle.lookup.proofs.visible.Statement.{statement}
@@ -20,7 +18,7 @@ find-entry-requires : tie.Need-find-entry-requires
 find-entry-requires c κs = search needs
 
 returns : tie.Need-returns
-returns c = (c .before .find-entry .ensures .0, λ rows H. c .before .find-entry .ensures .1 rows H ∙ sym (visible-module rows (c .before .before .before .args .kind) (c .before .before .before .args .scope) (c .before .before .before .args .name) (c .before .before .before .args .array) (c .if1 .taken)))
+returns c = (c .before .find-entry .ensures .0, λ rows K. c .before .find-entry .ensures .1 rows K ∙ sym (visible-module rows (c .before .before .before .args .kind) (c .before .before .before .args .scope) (c .before .before .before .args .name) (c .before .before .before .args .array) (c .if1 .taken)))
 
 enum-known-own : tie.Need-enum-known-own
 enum-known-own c = search needs
@@ -38,13 +36,13 @@ find-entry-requires-2 : tie.Need-find-entry-requires-2
 find-entry-requires-2 c κs = search needs
 
 returns-2 : tie.Need-returns-2
-returns-2 c = (in-table (c .before), λ rows H. sym (visible-own rows (c .before .before .before .before .before .before .args .kind) (c .before .before .before .before .before .before .args .scope) (c .before .before .before .before .before .before .args .name) (c .before .before .before .before .before .before .args .array) (c .before .before .before .if1 .left) (getD rows (c .before .own .given .0 .0) []) (sym (c .before .before .before .before .find-entry .ensures .1 rows H) ∙ ap (rowAt rows) (c .before .own .given .1))))
+returns-2 c = (in-table (c .before), λ rows K. sym (visible-own rows (c .before .before .before .before .before .before .args .kind) (c .before .before .before .before .before .before .args .scope) (c .before .before .before .before .before .before .args .name) (c .before .before .before .before .before .before .args .array) (c .before .before .before .if1 .left) (rowOf (c .before .before .before .before .before .before .args .b .now) (c .before .own .given .0 .0)) (sym (c .before .before .before .before .find-entry .ensures .1 rows K) ∙ ap (rowIn (c .before .before .before .before .before .before .args .b .now)) (c .before .own .given .1))))
 
 returns-3 : tie.Need-returns-3
-returns-3 c = (c .find-entry2 .ensures .0, λ rows H. c .find-entry2 .ensures .1 rows H ∙ sym (visible-shared rows (c .before .before .before .before .before .before .before .before .args .kind) (c .before .before .before .before .before .before .before .before .args .scope) (c .before .before .before .before .before .before .before .before .args .name) (c .before .before .before .before .before .before .before .before .args .array) (c .before .before .before .before .before .if1 .left) (sym (c .before .before .before .before .before .before .find-entry .ensures .1 rows H) ∙ ap (rowAt rows) (c .before .before .before .enum-told .given .1)) (sym (c .before .before .shares .ensures rows H) ∙ c .before .if2 .taken)))
+returns-3 c = (c .find-entry2 .ensures .0, λ rows K. c .find-entry2 .ensures .1 rows K ∙ sym (visible-shared rows (c .before .before .before .before .before .before .before .before .args .kind) (c .before .before .before .before .before .before .before .before .args .scope) (c .before .before .before .before .before .before .before .before .args .name) (c .before .before .before .before .before .before .before .before .args .array) (c .before .before .before .before .before .if1 .left) (sym (c .before .before .before .before .before .before .find-entry .ensures .1 rows K) ∙ ap (rowIn (c .before .before .before .before .before .before .before .before .args .b .now)) (c .before .before .before .enum-told .given .1)) (sym (c .before .before .shares .ensures rows K) ∙ c .before .if2 .taken)))
 
 returns-4 : tie.Need-returns-4
-returns-4 c = (tt, λ rows H. sym (visible-hidden rows (c .before .before .before .before .before .before .before .args .kind) (c .before .before .before .before .before .before .before .args .scope) (c .before .before .before .before .before .before .before .args .name) (c .before .before .before .before .before .before .before .args .array) (c .before .before .before .before .if1 .left) (sym (c .before .before .before .before .before .find-entry .ensures .1 rows H) ∙ ap (rowAt rows) (c .before .before .enum-told .given .1)) (sym (c .before .shares .ensures rows H) ∙ c .if2 .left)))
+returns-4 c = (tt, λ rows K. sym (visible-hidden rows (c .before .before .before .before .before .before .before .args .kind) (c .before .before .before .before .before .before .before .args .scope) (c .before .before .before .before .before .before .before .args .name) (c .before .before .before .before .before .before .before .args .array) (c .before .before .before .before .if1 .left) (sym (c .before .before .before .before .before .find-entry .ensures .1 rows K) ∙ ap (rowIn (c .before .before .before .before .before .before .before .args .b .now)) (c .before .before .enum-told .given .1)) (sym (c .before .shares .ensures rows K) ∙ c .if2 .left)))
 
 pub visible-spec : {M : Type 1} → statement M
 visible-spec =

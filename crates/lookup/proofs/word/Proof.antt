@@ -10,7 +10,7 @@ word-requires : tie.Need-word-requires
 word-requires c κs = search needs
 
 returns : tie.Need-returns
-returns c = λ rows H. rw (← c .before .entry-key .ensures) (c .word .ensures rows H)
+returns c = λ rows K. rw (← c .before .entry-key .ensures) (c .word .ensures rows K)
 
 pub word-spec : {M : Type 1} → statement M
 word-spec = tie.close (tie.spec entry-key-requires word-requires returns)

@@ -3,4 +3,3 @@ pub mod Heads
 pub mod Match
 pub mod Passing
 pub mod Walk
-pub mod Aside

@@ -29,7 +29,6 @@ use Rattle.plans.proofs.Front.{StmtAt, at-stmt, at-end, items-tree, items-insid
 use Rattle.lawful.specs.Views.{stands-known, Scope, inner-scope, view-fine}
 use Rattle.lawful.specs.Lawful.{statement-good}
 use Rattle.collecting.specs.Walk.{Kept, Ready, Alone, ReadyProcedure, ReadyWhole, Scanning, Scanned, Left, SoFar, Doing, SomeItems, Passes, piece, Stated, Collects}
-use Rattle.collecting.specs.Aside.{Numbered}
 use Rattle.collecting.proofs.Passing.{opened, closed, alone}
 
 -- ---- how far the scan is
@@ -124,29 +123,6 @@ module _ {ws ns bytes ends erased : List ℕ} {scope from at to : ℕ} {s t : Co
   pub scan-some : Scanning ws ns bytes ends scope from to s b d → SomeItems ws at to
   scan-some R = let L = w .left (R .items) (R .there) in record { names = ns; strings = length ends; items = L .items; there = L .there }
 
-  -- what is left to scan
-  pub scan-rest : Scanning ws ns bytes ends scope from to s b d → Scanning ws ns bytes ends scope at to t b′ d′
-  scan-rest R = let L = w .left (R .items) (R .there) in record { items = L .items; there = L .there; around = R .around; kept = w .kept }
-
-  -- on, by what others did
-  pub scan-then : {a : ℕ} {r : Counts} {b″ d″ : List ℕ} → SoFar ws ns bytes ends erased scope at a to t r b′ d′ b″ d″ → SoFar ws ns bytes ends erased scope from a to s r b d b″ d″
-  scan-then v = record {
-    ahead = omega (arith, w .ahead, v .ahead);
-    left = λ xs h.
-        let L = w .left xs h in
-        let M = v .left (L .items) (L .there) in
-        record { items = M .items; there = M .there; before = λ N D. L .before N D ⨾ M .before N D; does = then (L .does) (M .does); rest = λ N D st. M .rest N D (L .before N D st) ∙ L .rest N D st };
-    kept = v .kept;
-  }
-
-  -- line numbers that were merged in
-  module _ (R : Scanning ws ns bytes ends scope from to s b d) {a : ℕ} {r : Counts} {b″ : List ℕ} (n : Numbered ws scope at a to t r b′ b″) where
-    pub scan-numbers : SoFar ws ns bytes ends erased scope from a to s r b d b″ d′
-    scan-numbers = scan-then (n .all ns bytes ends erased d′ (scan-rest R))
-
-    pub numbers-ahead : at ≤ a
-    numbers-ahead = n .all ns bytes ends erased d′ (scan-rest R) .ahead
-
 module _ {ws ns bytes ends erased : List ℕ} {scope from at to : ℕ} {s t : Counts} {b d b′ d′ : List ℕ} (w : SoFar ws ns bytes ends erased scope from at to s t b d b′ d′) (z : at < to) where
   pub scan-stmt : {r : Counts} {b″ d″ : List ℕ} → Alone (kindOf (getD ws at 0)) → Stated ws ns (length ends) bytes ends erased scope at t r b′ d′ b″ d″ → Kept ns (length ends) r b″ d″ → SoFar ws ns bytes ends erased scope from (at + 1) to s r b d b″ d″
   scan-stmt o S K = record { ahead = omega (arith, w .ahead); left = λ xs h. let L = w .left xs h in left-stmt L (at-stmt (L .there) z (o .from) (omega (arith, o .upto))) (o .no-sub) (o .no-function) S; kept = K }
@@ -217,19 +193,6 @@ module _ {ws ns bytes ends erased : List ℕ} {scope from at to : ℕ} {s t : Co
             around = record { named = R .around .named; counted = R .around .counted; few = R .around .few; scoped = subst (Scope ns (length ends)) (sym (within-seen I (M .whole))) x };
             kept = K;
           }
-
--- ---- a statement that opens no scope, from where it stands
-
-module _ {ws ns bytes ends : List ℕ} {scope at to : ℕ} {s : Counts} {b d : List ℕ} (R : Scanning ws ns bytes ends scope at to s b d) (z : at < to) where
-  pub here-fits : (at < length ws) × (to ≤ length ws)
-  here-fits = scan-fits (scan-start {erased = []} R) z R
-
-  module _ (o : Alone (kindOf (getD ws at 0))) where
-    pub alone-ready : Ready (one stmt) ws ns bytes ends scope at s b d
-    alone-ready = stmt-ready (scan-start {erased = []} R) z R (o .from) (omega (arith, o .upto))
-
-    pub alone-done : Words32 ws → {erased : List ℕ} {r : Counts} {b′ d′ : List ℕ} → Stated ws ns (length ends) bytes ends erased scope at s r b d b′ d′ → SoFar ws ns bytes ends erased scope at (at + 1) to s r b d b′ d′
-    alone-done W32 S = scan-stmt (scan-start R) z o S (stated-kept (scan-start R) z R (o .from) (omega (arith, o .upto)) W32 S)
 
 -- ---- a whole list of statements
 

@@ -5,6 +5,7 @@ use mathlib.Core.Path.{refl}
 use mathlib.Core.List.{List, []}
 use lib.ListN.{length}
 use Rattle.table.specs.Images.{holds-fits}
+use Rattle.runs.specs.Laws.{keeps-fits}
 use Rattle.steps.specs.State.{running}
 use Rattle.steps.specs.Held.{Held}
 use Rattle.steps.specs.declared.Counts.{Counts}
@@ -23,7 +24,7 @@ start-ready {ends = ends} {ws = ws} {marks = marks} {N = N} {D} P H =
         tree = record { tree = P .program; end = length ws; stands = w .stands; shallow = w .shallow };
         around = record { named = P .named; counted = marks-many P; few = omega (arith, P .few, marks-many P); scoped = module-scope marks (length ends) };
         kept = record {
-          fit = (holds-fits (H .inside .1 .filled), holds-fits (H .inside .2));
+          fit = (keeps-fits (H .inside .1), holds-fits (H .inside .2));
           rows-room = N;
           notes-room = D;
           state = running [] [];

@@ -6,7 +6,7 @@ use lib.ListN.{length, getD}
 use borrow.Author.Needs.{needs}
 use Rattle.words.specs.Word.{kindOf}
 use Rattle.collecting.specs.Walk.{Doing, SoFar}
-use Rattle.collecting.proofs.Walk.{scan-start, scan-end, scan-past, scan-some, scanning-some, scan-rest, scan-then, no-procedure, scan-procedure, scan-fits, procedure-ready, stmt-some, stmt-span, stated-kept, body-ready}
+use Rattle.collecting.proofs.Walk.{scan-start, scan-end, scan-past, scan-some, scanning-some, no-procedure, scan-stmt, scan-procedure, scan-fits, stmt-ready, procedure-ready, stmt-some, stmt-span, stated-kept, body-ready}
 use Prim.Native.Nat.{ℕ, _-_, _<_}
 use borrow.Fn.Kinds.{In}
 use borrow.Fn.PlainCycle.{Measures, is, falls, and}
@@ -14,7 +14,7 @@ use Rattle.collecting.proofs.scan.Reads as scan
 use Rattle.collecting.proofs.scan.Kinds as scan-kinds
 use Rattle.collecting.proofs.+scan.Lts-scan as scan-lts
 use Rattle.collecting.proofs.ahead.Reads as ahead-reads
-use Rattle.collecting.proofs.onward.Reads as onward-reads
+use Rattle.collecting.proofs.statement.Reads as statement-reads
 use Rattle.collecting.proofs.procedure.Reads as procedure-reads
 use Rattle.plans.proofs.inside.Reads as inside-reads
 use Rattle.tree.proofs.past.Reads as past-reads
@@ -31,7 +31,7 @@ abbrev scan-below : ℕ → In 8 scan-kinds.ps
 scan-below t = and 8 scan-kinds.ps (falls 8 scan-kinds.ps _<_ μ-scan t) scan.Pre
 
 abbrev K-scan : ℕ → scan-lts.Claims
-K-scan t = (ahead-reads.Asked, ahead-reads.Learnt, past-reads.Asked, past-reads.Learnt, inside-reads.Asked, inside-reads.Learnt, procedure-reads.Asked, procedure-reads.Learnt, scan-below t, scan.Post, onward-reads.Asked, onward-reads.Learnt)
+K-scan t = (ahead-reads.Asked, ahead-reads.Learnt, past-reads.Asked, past-reads.Learnt, inside-reads.Asked, inside-reads.Learnt, procedure-reads.Asked, procedure-reads.Learnt, scan-below t, scan.Post, statement-reads.Asked, statement-reads.Learnt)
 
 abbrev scan-Inv-loop : scan-lts.InvT-loop
 scan-Inv-loop words names bytes ends erased b₀ d₀ scope from to memo t₀ at₀ b d t at = (length b ≡ length b₀) × (length d ≡ length d₀) × SoFar words names bytes ends erased scope from at to t₀ t b₀ d₀ b d × (at < to → Doing (kindOf (getD words at 0)))
@@ -78,14 +78,20 @@ scan-loop-less t c = omega (arith, (c .before .before .before .before .before .b
 scan-loop-again : (t : ℕ) → scan-lts.Need-loop-again (K-scan t) (scan-at t) scan.Post scan-Inv-loop scan-μ-loop
 scan-loop-again t c = (c .before .before .before .before .before .scan .kept .1 .1 .1 .1 .1 .0 ∙ c .before .before .before .before .before .before .before .before .before .before .before .before .procedure .kept .1 .1 .1 .1 .0 ∙ c .before .before .before .before .before .before .before .before .before .before .before .before .before .before .before .before .before .before .before .before .before .loop .inv .0, c .before .before .before .before .before .scan .kept .1 .1 .1 .1 .1 .1 .0 ∙ c .before .before .before .before .before .before .before .before .before .before .before .before .procedure .kept .1 .1 .1 .1 .1 .0 ∙ c .before .before .before .before .before .before .before .before .before .before .before .before .before .before .before .before .before .before .before .before .before .loop .inv .1, scan-past (scan-procedure (c .before .before .before .before .before .before .before .before .before .before .before .before .before .before .before .before .before .before .before .before .before .loop .inv .2) (c .before .before .before .before .before .before .before .before .before .before .before .before .before .before .before .before .before .before .before .before .loop-test .taken) (c .before .before .before .before .before .before .before .before .before .before .before .before .before .before .before .before .before .before .if1 .left) (c .before .before .before .before .before .before .before .before .before .before .before .before .before .before .before .before .before .if2 .taken) (c .before .before .before .before .before .before .before .before .before .before .before .before .before .before .before .before .past .ensures .gives (c .before .before .before .before .before .before .before .before .before .before .before .before .before .before .before .before .before .before .before .before .before .before .before .before .before .before .before .before .before .before .before .pre .1 .1)) ((stmt-span (c .before .before .before .before .before .before .before .before .before .before .before .before .before .before .before .before .before .before .before .before .before .loop .inv .2) (c .before .before .before .before .before .before .before .before .before .before .before .before .before .before .before .before .before .before .before .before .loop-test .taken) (c .before .before .before .before .before .before .before .before .before .before .before .before .before .before .before .before .before .before .before .before .before .before .before .before .before .before .before .before .before .before .before .pre .1 .0) (omega (arith, c .before .before .before .before .before .before .before .before .before .before .before .before .before .before .before .before .before .before .if1 .left)) (omega (arith, c .before .before .before .before .before .before .before .before .before .before .before .before .before .before .before .before .before .if2 .taken)) (c .before .before .before .before .before .before .before .before .before .before .before .before .before .before .before .before .past .ensures .gives (c .before .before .before .before .before .before .before .before .before .before .before .before .before .before .before .before .before .before .before .before .before .before .before .before .before .before .before .before .before .before .before .pre .1 .1))) .0) (c .before .before .before .before .before .before .before .before .before .before .before .before .before .before .before .inside .ensures) (c .before .before .before .before .before .before .before .before .before .before .before .before .procedure .ensures _) (c .before .before .before .before .before .scan .ensures)) (c .ahead2 .ensures .0), c .ahead2 .ensures .1)
 
-scan-onward-requires : (t : ℕ) → scan-lts.Need-onward-requires (K-scan t) (scan-at t) scan.Post scan-Inv-loop scan-μ-loop
-scan-onward-requires t c κs = (scan-rest (c .before .before .before .before .before .loop .inv .2) (c .before .before .before .before .before .before .before .before .before .before .before .before .before .before .before .pre .1 .0), c .before .before .before .before .loop-test .taken, ⊎-elim (λ y. no-procedure (c .before .before .before .before .before .loop .inv .3 (c .before .before .before .before .loop-test .taken)) (λ e. omega arith) (λ e. omega arith)) (λ y. no-procedure (c .before .before .before .before .before .loop .inv .3 (c .before .before .before .before .loop-test .taken)) (λ e. omega arith) (λ e. omega arith)) (c .before .before .if1 .came))
+scan-statement-requires : (t : ℕ) → scan-lts.Need-statement-requires (K-scan t) (scan-at t) scan.Post scan-Inv-loop scan-μ-loop
+scan-statement-requires t c κs = (stmt-ready (c .before .before .before .before .before .loop .inv .2) (c .before .before .before .before .loop-test .taken) (c .before .before .before .before .before .before .before .before .before .before .before .before .before .before .before .pre .1 .0) ((c .before .before .before .before .before .loop .inv .3 (c .before .before .before .before .loop-test .taken)) .from) (omega (arith, (c .before .before .before .before .before .loop .inv .3 (c .before .before .before .before .loop-test .taken)) .upto)), (⊎-elim (λ y. no-procedure (c .before .before .before .before .before .loop .inv .3 (c .before .before .before .before .loop-test .taken)) (λ e. omega arith) (λ e. omega arith)) (λ y. no-procedure (c .before .before .before .before .before .loop .inv .3 (c .before .before .before .before .loop-test .taken)) (λ e. omega arith) (λ e. omega arith)) (c .before .before .if1 .came)))
+
+scan-add-ahead : (t : ℕ) → scan-lts.Need-add-ahead (K-scan t) (scan-at t) scan.Post scan-Inv-loop scan-μ-loop
+scan-add-ahead t c = omega (arith, scan-fits (c .before .before .before .before .before .before .before .before .before .before .loop .inv .2) (c .before .before .before .before .before .before .before .before .before .loop-test .taken) (c .before .before .before .before .before .before .before .before .before .before .before .before .before .before .before .before .before .before .before .before .pre .1 .0), c .before .before .before .before .before .before .before .before .before .before .before .before .before .before .before .before .before .before .before .before .fits .to)
+
+scan-ahead-requires-3 : (t : ℕ) → scan-lts.Need-ahead-requires-3 (K-scan t) (scan-at t) scan.Post scan-Inv-loop scan-μ-loop
+scan-ahead-requires-3 t c κs = scan-some (scan-stmt (c .before .before .before .before .before .before .before .before .before .before .loop .inv .2) (c .before .before .before .before .before .before .before .before .before .loop-test .taken) (⊎-elim (λ y. no-procedure (c .before .before .before .before .before .before .before .before .before .before .loop .inv .3 (c .before .before .before .before .before .before .before .before .before .loop-test .taken)) (λ e. omega arith) (λ e. omega arith)) (λ y. no-procedure (c .before .before .before .before .before .before .before .before .before .before .loop .inv .3 (c .before .before .before .before .before .before .before .before .before .loop-test .taken)) (λ e. omega arith) (λ e. omega arith)) (c .before .before .before .before .before .before .before .if1 .came)) (c .before .before .before .before .statement .ensures) (stated-kept (c .before .before .before .before .before .before .before .before .before .before .loop .inv .2) (c .before .before .before .before .before .before .before .before .before .loop-test .taken) (c .before .before .before .before .before .before .before .before .before .before .before .before .before .before .before .before .before .before .before .before .pre .1 .0) ((c .before .before .before .before .before .before .before .before .before .before .loop .inv .3 (c .before .before .before .before .before .before .before .before .before .loop-test .taken)) .from) (omega (arith, (c .before .before .before .before .before .before .before .before .before .before .loop .inv .3 (c .before .before .before .before .before .before .before .before .before .loop-test .taken)) .upto)) (λ i. c .before .before .before .before .before .before .before .before .before .before .before .before .before .before .before .before .before .before .before .shared-slice-known .given i .fits) (c .before .before .before .before .statement .ensures))) (c .before .before .before .before .before .before .before .before .before .before .before .before .before .before .before .before .before .before .before .before .pre .1 .0)
 
 scan-loop-less-2 : (t : ℕ) → scan-lts.Need-loop-less-2 (K-scan t) (scan-at t) scan.Post scan-Inv-loop scan-μ-loop
-scan-loop-less-2 t c = omega (arith, (c .before .before .before .before .before .before .before .before .before .before .loop-test .taken), c .before .before .before .before .before .onward .ensures .1 .0)
+scan-loop-less-2 t c = omega (arith, (c .before .before .before .before .before .before .before .before .before .before .loop-test .taken), c .ahead3 .ensures .0 .ahead)
 
 scan-loop-again-2 : (t : ℕ) → scan-lts.Need-loop-again-2 (K-scan t) (scan-at t) scan.Post scan-Inv-loop scan-μ-loop
-scan-loop-again-2 t c = (c .before .before .before .before .before .onward .kept .1 .1 .1 .1 .1 .0 ∙ c .before .before .before .before .before .before .before .before .before .before .before .loop .inv .0, c .before .before .before .before .before .onward .kept .1 .1 .1 .1 .1 .1 .0 ∙ c .before .before .before .before .before .before .before .before .before .before .before .loop .inv .1, scan-then (c .before .before .before .before .before .before .before .before .before .before .before .loop .inv .2) (c .before .before .before .before .before .onward .ensures .0), c .before .before .before .before .before .onward .ensures .1 .1)
+scan-loop-again-2 t c = (c .before .before .before .before .before .statement .kept .1 .1 .1 .1 .1 .0 ∙ c .before .before .before .before .before .before .before .before .before .before .before .loop .inv .0, c .before .before .before .before .before .statement .kept .1 .1 .1 .1 .1 .1 .0 ∙ c .before .before .before .before .before .before .before .before .before .before .before .loop .inv .1, scan-past (scan-stmt (c .before .before .before .before .before .before .before .before .before .before .before .loop .inv .2) (c .before .before .before .before .before .before .before .before .before .before .loop-test .taken) (⊎-elim (λ y. no-procedure (c .before .before .before .before .before .before .before .before .before .before .before .loop .inv .3 (c .before .before .before .before .before .before .before .before .before .before .loop-test .taken)) (λ e. omega arith) (λ e. omega arith)) (λ y. no-procedure (c .before .before .before .before .before .before .before .before .before .before .before .loop .inv .3 (c .before .before .before .before .before .before .before .before .before .before .loop-test .taken)) (λ e. omega arith) (λ e. omega arith)) (c .before .before .before .before .before .before .before .before .if1 .came)) (c .before .before .before .before .before .statement .ensures) (stated-kept (c .before .before .before .before .before .before .before .before .before .before .before .loop .inv .2) (c .before .before .before .before .before .before .before .before .before .before .loop-test .taken) (c .before .before .before .before .before .before .before .before .before .before .before .before .before .before .before .before .before .before .before .before .before .pre .1 .0) ((c .before .before .before .before .before .before .before .before .before .before .before .loop .inv .3 (c .before .before .before .before .before .before .before .before .before .before .loop-test .taken)) .from) (omega (arith, (c .before .before .before .before .before .before .before .before .before .before .before .loop .inv .3 (c .before .before .before .before .before .before .before .before .before .before .loop-test .taken)) .upto)) (λ i. c .before .before .before .before .before .before .before .before .before .before .before .before .before .before .before .before .before .before .before .before .shared-slice-known .given i .fits) (c .before .before .before .before .before .statement .ensures))) (c .ahead3 .ensures .0), c .ahead3 .ensures .1)
 
 scan-same-length : (t : ℕ) → scan-lts.Need-same-length (K-scan t) (scan-at t) scan.Post scan-Inv-loop scan-μ-loop
 scan-same-length t c = c .before .loop .inv .0
@@ -115,7 +121,9 @@ pub +scan-spec : {M : Type 1} → statement M
     (scan-ahead-requires-2 t)
     (scan-loop-less t)
     (scan-loop-again t)
-    (scan-onward-requires t)
+    (scan-statement-requires t)
+    (scan-add-ahead t)
+    (scan-ahead-requires-3 t)
     (scan-loop-less-2 t)
     (scan-loop-again-2 t)
     (scan-same-length t)

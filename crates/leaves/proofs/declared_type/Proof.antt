@@ -6,6 +6,7 @@ use Rattle.words.specs.Told.{gives, after}
 use Rattle.words.specs.Refusals.{refused}
 use Rattle.strings.specs.Table.{stringAt, namesOf}
 use Rattle.table.specs.Rows.{Row, rowsOf}
+use Rattle.runs.specs.Laws.{holds-keeps}
 use Rattle.lookup.specs.Lookup.{declaredType}
 use Rattle.leaves.specs.Leaves.{asked, lastByte, declaredTypeAt}
 use Rattle.leaves.specs.Entries.{tellRows, Known, Ready}
@@ -44,7 +45,7 @@ returns c = answers-after (λ (rs : List Row). gives (declaredType rs (lastByte 
 
 returns-2 : tie.Need-returns-2
 unfolding declaredTypeAt asked after
-returns-2 c = answers-after (λ (rs : List Row). gives (declaredType rs (lastByte (stringAt (c .before .before .before .before .before .before .before .before .before .args .bytes .now) (c .before .before .before .before .before .before .before .before .before .args .ends .now) (c .before .before .before .before .before .before .before .before .before .args .name))) (c .before .before .before .before .before .before .before .before .before .args .scope) (c .before .before .before .before .before .before .before .before .before .args .name))) (c .before .before .before .before .before .open .ensures .0) (ap gives (c .declared-type .ensures (rowsOf (c .before .before .before .n .given .0 .0) (c .before .before .before .before .before .before .before .before .before .args .rows .now)) (known (c .before .before .before) .passing .holds) ∙ ap (λ (l : ℕ). declaredType (rowsOf (c .before .before .before .n .given .0 .0) (c .before .before .before .before .before .before .before .before .before .args .rows .now)) l (c .before .before .before .before .before .before .before .before .before .args .scope) (c .before .before .before .before .before .before .before .before .before .args .name)) (c .before .last-byte .ensures)) ∙ ap (λ (o : Opened). after (tellRows (c .before .before .before .before .before .before .before .before .before .args .rows .now) o) (λ (rs : List Row). gives (declaredType rs (lastByte (stringAt (c .before .before .before .before .before .before .before .before .before .args .bytes .now) (c .before .before .before .before .before .before .before .before .before .args .ends .now) (c .before .before .before .before .before .before .before .before .before .args .name))) (c .before .before .before .before .before .before .before .before .before .args .scope) (c .before .before .before .before .before .before .before .before .before .args .name)))) (sym (c .before .before .before .n .given .1)))
+returns-2 c = answers-after (λ (rs : List Row). gives (declaredType rs (lastByte (stringAt (c .before .before .before .before .before .before .before .before .before .args .bytes .now) (c .before .before .before .before .before .before .before .before .before .args .ends .now) (c .before .before .before .before .before .before .before .before .before .args .name))) (c .before .before .before .before .before .before .before .before .before .args .scope) (c .before .before .before .before .before .before .before .before .before .args .name))) (c .before .before .before .before .before .open .ensures .0) (ap gives (c .declared-type .ensures (rowsOf (c .before .before .before .n .given .0 .0) (c .before .before .before .before .before .before .before .before .before .args .rows .now)) (holds-keeps (known (c .before .before .before) .passing .holds)) ∙ ap (λ (l : ℕ). declaredType (rowsOf (c .before .before .before .n .given .0 .0) (c .before .before .before .before .before .before .before .before .before .args .rows .now)) l (c .before .before .before .before .before .before .before .before .before .args .scope) (c .before .before .before .before .before .before .before .before .before .args .name)) (c .before .last-byte .ensures)) ∙ ap (λ (o : Opened). after (tellRows (c .before .before .before .before .before .before .before .before .before .args .rows .now) o) (λ (rs : List Row). gives (declaredType rs (lastByte (stringAt (c .before .before .before .before .before .before .before .before .before .args .bytes .now) (c .before .before .before .before .before .before .before .before .before .args .ends .now) (c .before .before .before .before .before .before .before .before .before .args .name))) (c .before .before .before .before .before .before .before .before .before .args .scope) (c .before .before .before .before .before .before .before .before .before .args .name)))) (sym (c .before .before .before .n .given .1)))
 
 pub declared-type-spec : {M : Type 1} → statement M
 declared-type-spec =

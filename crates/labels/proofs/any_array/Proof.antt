@@ -1,4 +1,5 @@
 -- There is an array where the first keys of kinds 133 and 134 have different places. Assumes nothing.
+use mathlib.Core.Path.{_∙_}
 use native.Mathlib.Omega.{arith}
 use Rattle.runs.specs.Laws.{keeps-table}
 use Rattle.labels.specs.Arrays.{any-array, keeps-small}

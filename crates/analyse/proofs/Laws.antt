@@ -20,12 +20,12 @@ use Rattle.reader.specs.Program.{acceptedOf}
 use Rattle.table.specs.Rows.{Holds}
 use Rattle.table.specs.Laws.{pick-true, pick-false}
 use Rattle.table.specs.Images.{holds-fits, holds-image}
+use Rattle.runs.specs.Laws.{keeps-fits, keeps-count, keeps-table}
 use Rattle.steps.specs.State.{State, running, stopped}
 use Rattle.steps.specs.declared.Counts.{Counts}
-use Rattle.steps.specs.Held.{Fit, Held, countsOf, rowsLeft, notesLeft, Left}
+use Rattle.steps.specs.Held.{Fit, Held, Settles, countsOf, rowsLeft, notesLeft, Left}
 use Rattle.steps.specs.Refused.{zeroing, Numbered}
-use Rattle.steps.specs.Laws.{stops-some}
-use Rattle.steps.specs.Compose.{then}
+use Rattle.steps.specs.Laws.{settled-held, stops-some}
 use Rattle.collect.specs.Collect.{given, collected, analysed}
 use Rattle.collect.specs.Passed.{Passed}
 use Rattle.reader.specs.Whole.{Whole}
@@ -53,9 +53,9 @@ use Rattle.analyse.proofs.Stops.{Zeroing, analysed-zeroing}
 ends-of : {N D : ℕ} {s : Counts} {b d : List ℕ} (st : State) → Held N D st s b d → Zeroing st → Ends N D st
 unfolding Ends
 ends-of (running rows notes) H z =
-    let h : Holds rows _ _ = H .inside .1 in
+    let K = H .inside .1 in
     let f = H .inside .2 in
-    (h .table, omega (arith, holds-fits (h .filled), h .filled .count, H .rows-long), f .wide, omega (arith, holds-fits f, f .count, H .notes-long))
+    (keeps-table K, omega (arith, keeps-fits K, keeps-count K, H .rows-long), f .wide, omega (arith, holds-fits f, f .count, H .notes-long))
 ends-of (stopped k) H z = z
 
 module _ {bytes ends erased ws marks : List ℕ} (P : Passed bytes ends erased ws marks) where
@@ -64,20 +64,20 @@ module _ {bytes ends erased ws marks : List ℕ} (P : Passed bytes ends erased w
   good-ok (running rows notes) g = g .ok
   good-ok (stopped k) g = tt
 
-  pub check-ready : {c : Counts} {b d : List ℕ} → Kept marks (length ends) c b d → ReadyRows bytes ends b c × Fit c (length b) (length d)
-  check-ready {c} {b} K =
-      let named : c .stop ≡ 0 → NamesHeld marks c b = λ h. names-held (K .state) (K .held) (good-ok (K .state) (K .good)) h in
-      (record { strings = P .named .strings; held = subst (λ (ns : List ℕ). c .stop ≡ 0 → NamesHeld ns c b) (P .named .names) named }, K .fit)
+  pub check-ready : {c : Counts} {b b′ d : List ℕ} → Kept marks (length ends) c b d → Settles c b b′ → ReadyRows bytes ends b′ c × Fit c (length b′) (length d)
+  check-ready {c} {b} {b′} K S =
+      let named : c .stop ≡ 0 → NamesHeld marks c b′ = λ h. names-held (K .state) (K .held) (good-ok (K .state) (K .good)) S h in
+      (record { strings = P .named .strings; held = subst (λ (ns : List ℕ). c .stop ≡ 0 → NamesHeld ns c b′) (P .named .names) named }, omega (arith, K .fit .0, S .long), K .fit .1)
 
   -- begun, collected, compared and finished
-  pub tabled : {next : ℕ} {s c e r : Counts} {b d b₀ d₀ b₁ d₁ d₂ b₃ d₃ : List ℕ} → Held (length b) (length d) (running [] []) s b₀ d₀
-      → Collects ws marks bytes ends erased 0 0 next s c b₀ d₀ b₁ d₁ → Checks bytes ends c e b₁ d₁ d₂ → ((N D : ℕ) (st : State) → Held N D st e b₁ d₂ → Left N D st r b₃ d₃)
+  pub tabled : {next : ℕ} {s c e r : Counts} {b d b₀ d₀ b₁ d₁ b₂ d₂ b₃ d₃ : List ℕ} → Held (length b) (length d) (running [] []) s b₀ d₀
+      → Collects ws marks bytes ends erased 0 0 next s c b₀ d₀ b₁ d₁ → Settles c b₁ b₂ → Checks bytes ends c e b₂ d₁ d₂ → ((N D : ℕ) (st : State) → Held N D st e b₂ d₂ → Left N D st r b₃ d₃)
       → Tabled bytes ends erased ws r b d b₃ d₃
   unfolding analysed collected
-  tabled {e = e} {b = b} {d = d} {b₁ = b₁} {d₂ = d₂} H C K L = record { left = λ p a. L _ _ _ (held p a); ends-in = λ p a. ends-of _ (held p a) (analysed-zeroing (length b) (length d) bytes ends erased p) }
+  tabled {e = e} {b = b} {d = d} {b₂ = b₂} {d₂ = d₂} H C S K L = record { left = λ p a. L _ _ _ (held p a); ends-in = λ p a. ends-of _ (held p a) (analysed-zeroing (length b) (length d) bytes ends erased p) }
     where
-      held : (p : Program) → acceptedOf (namesOf bytes ends) ws erased ≡ gives p → Held (length b) (length d) (analysed (given (some (length b)) (some (length d)) bytes ends erased) p) e b₁ d₂
-      held p a = then (C .does p (length ws) (passed-whole P p a .stands) .1) (K .does erased) .after (length b) (length d) (running [] []) H
+      held : (p : Program) → acceptedOf (namesOf bytes ends) ws erased ≡ gives p → Held (length b) (length d) (analysed (given (some (length b)) (some (length d)) bytes ends erased) p) e b₂ d₂
+      held p a = K .does erased .after (length b) (length d) _ (settled-held S _ (C .does p (length ws) (passed-whole P p a .stands) .1 .after (length b) (length d) (running [] []) H))
 
 -- ---- the refusal of a stopped run
 

@@ -58,6 +58,7 @@ fn tables(
         memo,
     );
     let c = m.counts;
+    steps::settle(rows, c);
     let d = collisions::collisions(bytes, ends, rows, notes, c);
     steps::finish(rows, notes, d)
 }

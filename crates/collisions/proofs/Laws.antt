@@ -16,10 +16,13 @@ use Rattle.lent.specs.Rules.{isMarked}
 use Rattle.table.specs.Rows.{Row, width, noteWidth, rank, find, Holds}
 use Rattle.table.specs.Laws.{rank-mono, rank-le}
 use Rattle.table.specs.Images.{word-at}
+use Rattle.runs.specs.Runs.{rowOf, rowIn, Keeps}
+use Rattle.runs.specs.Laws.{holds-keeps, keeps-same}
+use Rattle.runs.specs.Places.{row-word}
 use Rattle.table.specs.declared.Found.{Found}
 use Rattle.table.specs.declared.Found.the-variants.{At, Nothing}
 use Rattle.entries.specs.Entries.{entryKey}
-use Rattle.lookup.specs.Answers.{rowAt, argumentsOf}
+use Rattle.lookup.specs.Answers.{argumentsOf}
 use Rattle.lookup.specs.Builtins.{Builtin, builtin, isBuiltin, isSome}
 use Rattle.lookup.specs.declared.Arguments.{Arguments}
 use Rattle.lookup.specs.declared.Arguments.the-variants.{Unknown, Takes}
@@ -30,7 +33,7 @@ use Rattle.steps.specs.Held.{Fit, Held, Sized, Does, Notes, pushing, noting}
 use Rattle.steps.specs.Compose.{same, nothing-does, each-next, notes-does, when-yes, stays-asking, stopped-does, each-append}
 use Rattle.collect.specs.Diagnostics.{arrayAndProc, arrayAndBuiltin}
 use Rattle.collect.specs.Collect.{Given, given, anyArray, collides, collision, checkNameCollisions}
-use Rattle.labels.specs.Arrays.{holds-small, arraysFrom, arraysTo, take-quiet, drop-quiet, array-between}
+use Rattle.labels.specs.Arrays.{keeps-small, arraysFrom, arraysTo, take-quiet, drop-quiet, array-between}
 use Rattle.collisions.specs.Collisions.{Ready, Checks, headAt, wordAt, NamedAt, Collides}
 
 -- ---- a builtin's name
@@ -59,15 +62,15 @@ module _ (name : List ℕ) where
 -- ---- one array
 
 module _ {bytes ends b : List ℕ} {count i : ℕ} {s r : Counts} {d d′ : List ℕ} {f : Found}
-    (told : (rows : List Row) → Holds rows count b → rowAt rows f ≡ find (entryKey 135 (payOf (headAt b i)) 0) rows) where
-  pub collides-proc : (j : ℕ) → f ≡ At j → j < count → Notes (pushing (arrayAndProc (wordAt b i 3) (payOf (headAt b i)) (wordAt b j 2) (wordAt b j 3))) s r d d′ → Collides bytes ends b count i s r d d′
+    (told : (rows : List Row) → Keeps rows count b → rowIn b f ≡ find (entryKey 135 (payOf (headAt b i)) 0) rows) where
+  pub collides-proc : (j : ℕ) → f ≡ At j → Notes (pushing (arrayAndProc (wordAt b i 3) (payOf (headAt b i)) (wordAt b j 2) (wordAt b j 3))) s r d d′ → Collides bytes ends b count i s r d d′
   unfolding collides pushing
-  collides-proc j e h F = record {
+  collides-proc j e F = record {
     does = λ rows H erased.
-        let there : find (entryKey 135 (payOf (headAt b i)) 0) rows ≡ some (getD rows j []) = sym (told rows H) ∙ ap (rowAt rows) e in
-        let two : wordAt b j 2 ≡ getD (getD rows j []) 2 0 = word-at (H .filled) j 2 h (omega arith) in
-        let three : wordAt b j 3 ≡ getD (getD rows j []) 3 0 = word-at (H .filled) j 3 h (omega arith) in
-        rw (there, sym two, sym three) F;
+        let there : find (entryKey 135 (payOf (headAt b i)) 0) rows ≡ some (rowOf b j) = sym (told rows (holds-keeps H)) ∙ ap (rowIn b) e in
+        let two : getD (rowOf b j) 2 0 ≡ wordAt b j 2 = row-word b j 2 (omega arith) in
+        let three : getD (rowOf b j) 3 0 ≡ wordAt b j 3 = row-word b j 3 (omega arith) in
+        rw (there, two, three) F;
   }
 
   pub collides-none : f ≡ Nothing → {x : Bool} → x ≡ isBuiltin (stringAt bytes ends (payOf (headAt b i))) → Notes (noting x (arrayAndBuiltin (wordAt b i 3) (payOf (headAt b i)))) s r d d′
@@ -75,7 +78,7 @@ module _ {bytes ends b : List ℕ} {count i : ℕ} {s r : Counts} {d d′ : List
   unfolding collides noting
   collides-none e {x} q F = record {
     does = λ rows H erased.
-        let there : find (entryKey 135 (payOf (headAt b i)) 0) rows ≡ none = sym (told rows H) ∙ ap (rowAt rows) e in
+        let there : find (entryKey 135 (payOf (headAt b i)) 0) rows ≡ none = sym (told rows (holds-keeps H)) ∙ ap (rowIn b) e in
         rw (there, sym q) F;
   }
 
@@ -99,14 +102,14 @@ quiet G rows (x ∷ xs) e st = go (eqb (kindOf (getD x 0 0)) 133) e (λ f. quiet
         absurd (omega arith)
     go false f ih = ih f
 
--- a step that the rows decide, where the run goes on
-asking-does : {f : List Row → Sized} {s r : Counts} {b d b′ d′ : List ℕ} → s .stop ≡ 0 → Fit r (length b′) (length d′) → ((rows : List Row) → Holds rows (s .rows) b → Does (f rows) s r b d b′ d′)
+-- a step that the rows decide, where the run goes on and its rows are in one run
+asking-does : {f : List Row → Sized} {s r : Counts} {b d b′ d′ : List ℕ} {there : List Row} → Holds there (s .rows) b → s .stop ≡ 0 → Fit r (length b′) (length d′) → ((rows : List Row) → Holds rows (s .rows) b → Does (f rows) s r b d b′ d′)
     → Does (λ N D. asking (λ rows. f rows N D)) s r b d b′ d′
 unfolding asking
-asking-does {f} {s} {r} {b} {d} {b′} {d′} go fit F = record { fit = fit; after = by }
+asking-does {f} {s} {r} {b} {d} {b′} {d′} T go fit F = record { fit = fit; after = by }
   where
     by : (N D : ℕ) (st : State) → Held N D st s b d → Held N D (asking (λ rows. f rows N D) st) r b′ d′
-    by N D (running rows notes) H = F rows (H .inside .1) .after N D (running rows notes) H
+    by N D (running rows notes) H = F rows (subst (λ (l : List Row). Holds l (s .rows) b) (keeps-same (holds-keeps T) (H .inside .1)) T) .after N D (running rows notes) H
     by N D (stopped k) H =
         let z : k ≡ 0 = sym (H .inside .0) ∙ go in
         absurd (omega (arith, H .inside .1))
@@ -150,7 +153,7 @@ module _ {bytes ends b d : List ℕ} {s : Counts} where
     array-at rows H h =
         let p = U .bounds .from-is rows H in
         let q = U .bounds .to-is rows H in
-        (omega (arith, q, rank-le arraysTo rows), array-between rows (H .table) (holds-small W H) i (omega (arith, p, U .low)) (omega (arith, q)))
+        (omega (arith, q, rank-le arraysTo rows), array-between rows (H .table) (keeps-small W (holds-keeps H)) i (omega (arith, p, U .low)) (omega (arith, q)))
 
     pub named-at : Ready bytes ends b s → s .stop ≡ 0 → s .rows * width ≤ length b → i < to → NamedAt bytes ends b (s .rows) i
     named-at R go fit h =
@@ -186,12 +189,12 @@ module _ {bytes ends b d : List ℕ} {s : Counts} where
     unfolding checkNameCollisions
     upto-end h R go =
         let w = R .held go in
-        record { does = λ erased. asking-does go (U .done (w .rows) (w .holds) erased .fit) (λ rows H. all erased rows H) }
+        record { does = λ erased. asking-does (w .holds) go (U .done (w .rows) (w .holds) erased .fit) (λ rows H. all erased rows H) }
       where
         left-quiet : (rows : List Row) → Holds rows (s .rows) b → anyArray (drop i rows) ≡ false
         left-quiet rows H =
             let e : i ≡ rank arraysTo rows = omega (arith, h, U .high, U .bounds .to-is rows H) in
-            ap (λ (n : ℕ). anyArray (drop n rows)) e ∙ drop-quiet 0 rows (H .table) (holds-small W H)
+            ap (λ (n : ℕ). anyArray (drop n rows)) e ∙ drop-quiet 0 rows (H .table) (keeps-small W (holds-keeps H))
 
         all : (erased : List ℕ) (rows : List Row) → Holds rows (s .rows) b → Does (λ N D. each (collision (given (some N) (some D) bytes ends erased) rows) rows) s t b d b d′
         all erased rows H =

@@ -12,7 +12,7 @@ use Rattle.table.specs.Rows.{Row}
 use Rattle.table.specs.Each.{each-at}
 use Rattle.steps.specs.State.{State, running, stopped}
 use Rattle.steps.specs.declared.Counts.{Counts}
-use Rattle.steps.specs.Held.{Held}
+use Rattle.steps.specs.Held.{Held, Settles}
 use Rattle.collisions.specs.Collisions.{ArraysNamed, NamesHeld}
 
 pub arrays-named : (names : List ℕ) (rows : List Row) → AllOk names rows → ArraysNamed names rows
@@ -23,8 +23,8 @@ abbrev pub OkIn : List ℕ → State → Type 0
 OkIn names (running rows notes) = AllOk names rows
 OkIn names (stopped k) = Unit {0}
 
-pub names-held : {N D : ℕ} {names : List ℕ} {s : Counts} {b d : List ℕ} (st : State) → Held N D st s b d → OkIn names st → s .stop ≡ 0 → NamesHeld names s b
-names-held {names = names} (running rows notes) H o go = record { rows = rows; holds = H .inside .1; named = arrays-named names rows o }
-names-held (stopped k) H o go =
+pub names-held : {N D : ℕ} {names : List ℕ} {s : Counts} {b b′ d : List ℕ} (st : State) → Held N D st s b d → OkIn names st → Settles s b b′ → s .stop ≡ 0 → NamesHeld names s b′
+names-held {names = names} (running rows notes) H o S go = record { rows = rows; holds = S .flat go rows (H .inside .1); named = arrays-named names rows o }
+names-held (stopped k) H o S go =
     let z : k ≡ 0 = sym (H .inside .0) ∙ go in
     absurd (omega (arith, H .inside .1))

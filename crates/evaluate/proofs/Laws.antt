@@ -15,6 +15,7 @@ use Rattle.expr.specs.declared.Step.the-variants.{Read, Wrong, Deep}
 use Rattle.expr.proofs.Complete.{stands}
 use Rattle.reader.specs.Answered.{answer-read, answer-wrong, answer-deep}
 use Rattle.table.specs.Rows.{Row, rowsOf}
+use Rattle.runs.specs.Laws.{holds-keeps}
 use Rattle.lent.specs.Lent.{checked, told as toldRows, lentRows, Lent}
 use Rattle.lent.specs.LentLaws.{checked-sound}
 use Rattle.lent.specs.declared.Checked.{Checked}
@@ -71,12 +72,12 @@ module _ (ns ws : List ℕ) (at : ℕ) (buf : List ℕ) where
     lent = checked-sound ns n buf (sym e ∙ q)
 
     pub rows-ready : Words32 buf → Ready ws at buf n
-    rows-ready W = record { strings = strings ns; expr = R .expr; end = R .end; stands = stands maxDepth (R .reads); rows = rowsOf n buf; holds = lent .holds; consts = lent-consts lent W }
+    rows-ready W = record { strings = strings ns; expr = R .expr; end = R .end; stands = stands maxDepth (R .reads); rows = rowsOf n buf; holds = holds-keeps (lent .holds); consts = lent-consts lent W }
 
     pub rows-fine : {f : Answered} → Folds ws at buf n f → Tells at (record { answer = Folded (f .fold); at = f .next }) (evalOf ns ws at buf)
     unfolding toldAs movedOf underOf lentRows after
     rows-fine {f} E =
-        let i = E (strings ns) (R .expr) (R .end) (stands maxDepth (R .reads)) (rowsOf n buf) (lent .holds) in
+        let i = E (strings ns) (R .expr) (R .end) (stands maxDepth (R .reads)) (rowsOf n buf) (holds-keeps (lent .holds)) in
         let d : evalOf ns ws at buf ≡ gives (record { outcome = outcomeOf (constEval (rowsOf n buf) (R .expr)); end = R .end }) =
         read-is R ∙ ap (λ (c : Checked). after (toldRows buf c) (λ (rows : List Row). gives (record { outcome = outcomeOf (constEval rows (R .expr)); end = R .end }))) (sym e ∙ q) in
         tells-as (record { told = rw (i .answer, i .past) refl; moved = i .past }) (sym d)

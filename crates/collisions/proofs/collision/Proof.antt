@@ -73,7 +73,7 @@ same-length : tie.Need-same-length
 same-length c = search needs
 
 returns : tie.Need-returns
-returns c = collides-proc (c .before .before .before .before .before .before .before .before .before .find-entry .ensures .1) _ (c .before .before .before .before .before .before .before .j .given .1) (in-table (c .before .before .before .before .before .before .before .j .given .1) (c .before .before .before .before .before .before .before .before .before .find-entry .ensures .0)) (c .before .before .push .ensures)
+returns c = collides-proc (c .before .before .before .before .before .before .before .before .before .find-entry .ensures .1) _ (c .before .before .before .before .before .before .before .j .given .1) (c .before .before .push .ensures)
 
 same-length-2 : tie.Need-same-length-2
 same-length-2 c = search needs

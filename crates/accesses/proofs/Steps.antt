@@ -22,6 +22,8 @@ use Rattle.plans.specs.Items.{Item, exprItem, exprsItem, treeItem, StandsAll, w
 use Rattle.plans.proofs.Front.{WordsAt, CallAt, StmtAt, FrontAt, overAt, wordAt, rawAt, rawsAt, parenAt, callAt, stmtAt, front-at, at-raw, at-raws, at-paren, at-call, at-stmt, items-inside}
 use Rattle.plans.proofs.Walk.{head-kind, fields}
 use Rattle.table.specs.Rows.{Row, Holds}
+use Rattle.runs.specs.Runs.{Keeps}
+use Rattle.runs.specs.Laws.{holds-keeps}
 use Rattle.entries.specs.Entries.{has}
 use Rattle.resolve.specs.Tables.{Tables, nowhere, places, element}
 use Rattle.resolve.specs.FromRows.{tablesOf}
@@ -291,9 +293,9 @@ whole-moved C T σ d =
     }
 
 -- what is asked of the rows
-pub not-procedure : (f : ℕ) {count : ℕ} {buf : List ℕ} {b : Bool} → ((rs : List Row) → Holds rs count buf → b ≡ has rs 135 f 0) → b ≡ false → (rs : List Row) → Holds rs count buf → tablesOf rs .procedure f ≡ false
+pub not-procedure : (f : ℕ) {count : ℕ} {buf : List ℕ} {b : Bool} → ((rs : List Row) → Keeps rs count buf → b ≡ has rs 135 f 0) → b ≡ false → (rs : List Row) → Holds rs count buf → tablesOf rs .procedure f ≡ false
 unfolding tablesOf
-not-procedure f g e rs H = sym (g rs H) ∙ e
+not-procedure f g e rs H = sym (g rs (holds-keeps H)) ∙ e
 
 pub array-head : (scope f : ℕ) {count w : ℕ} {buf : List ℕ} {b : Bool} → w ≡ wordOf (pick b 18 21) 0 → ((rs : List Row) → Holds rs count buf → b ≡ tablesOf rs .array scope f) → ((rs : List Row) → Holds rs count buf → tablesOf rs .procedure f ≡ false)
     → (rs : List Row) → Holds rs count buf → w ≡ calledHead (tablesOf rs) scope f

@@ -6,7 +6,7 @@ ghost use Prim.Native.Nat.{_*_, _≤_, _<_};
 ghost use lib.ListN.{length};
 ghost use Rattle.table.specs.Rows.{Row, width, Holds};
 ghost use Rattle.table.specs.Answers.{Within};
-ghost use Rattle.lookup.specs.Answers.{rowAt};
+ghost use Rattle.runs.specs.Runs.{rowIn};
 ghost use Rattle.resolve.specs.Tables.{places, element};
 ghost use Rattle.resolve.specs.FromRows.{isScalar, byRef, tablesOf};
 ghost use Rattle.resolve.specs.Scopes.{FirstScope};
@@ -38,7 +38,7 @@ pub fn by_ref(b: &[u32], count: usize, f: u32, i: u32) -> bool
 // Whether a parameter's row was found, and it is such a parameter's.
 fn takes(b: &[u32], count: usize, found: Found) -> bool
     requires { ⌜ (count * width ≤ length (now b)) × Within count found ⌝ }
-    ensures { λ r. ⌜ ((rows : List Row) → Holds rows count (now (b .entry)) → r ≡ byRef (rowAt rows found)) ⌝ }
+    ensures { λ r. ⌜ ((rows : List Row) → Holds rows count (now (b .entry)) → r ≡ byRef (rowIn (now (b .entry)) found)) ⌝ }
 {
     match found {
         Found::At(j) => {

@@ -2,6 +2,7 @@
 use Prim.Native.Nat.{ℕ}
 use native.Mathlib.Omega.{arith}
 use mathlib.Core.Path.{sym, ap, _∙_}
+use Rattle.runs.specs.Laws.{holds-keeps}
 use Rattle.entries.specs.Entries.{has}
 use Rattle.resolve.proofs.Arrays.{own-array, no-array, shared-array, from-first}
 use borrow.Author.Needs.{needs}
@@ -18,7 +19,7 @@ has-requires : tie.Need-has-requires
 has-requires c κs = search needs
 
 returns-2 : tie.Need-returns-2
-returns-2 c = λ rows H. own-array rows (c .before .before .before .before .before .args .scope) (c .before .before .before .before .before .args .f) (sym (c .before .has .ensures rows H) ∙ c .if2 .taken)
+returns-2 c = λ rows H. own-array rows (c .before .before .before .before .before .args .scope) (c .before .before .before .before .before .args .f) (sym (c .before .has .ensures rows (holds-keeps H)) ∙ c .if2 .taken)
 
 sub-shares : tie.Need-sub-shares
 sub-shares c = search needs
@@ -29,12 +30,12 @@ shares-requires c κs = search needs
 returns-3 : tie.Need-returns-3
 returns-3 c = λ rows H.
     let F = c .before .before .before .before .before .first-scope .ensures rows H in
-    c .shares .ensures rows H ∙ shared-array rows (c .before .before .before .before .before .before .before .args .scope) (c .before .before .before .before .before .before .before .args .f) (omega (arith, c .before .before .before .before .if1 .left)) (sym (c .before .before .before .has .ensures rows H) ∙ c .before .before .if2 .left) (ap (λ (i : ℕ). has rows 133 (c .before .before .before .before .before .before .before .args .f) i) (sym (c .before .if3 .taken)) ∙ F .there (omega (arith, c .before .if3 .taken)))
+    c .shares .ensures rows (holds-keeps H) ∙ shared-array rows (c .before .before .before .before .before .before .before .args .scope) (c .before .before .before .before .before .before .before .args .f) (omega (arith, c .before .before .before .before .if1 .left)) (sym (c .before .before .before .has .ensures rows (holds-keeps H)) ∙ c .before .before .if2 .left) (ap (λ (i : ℕ). has rows 133 (c .before .before .before .before .before .before .before .args .f) i) (sym (c .before .if3 .taken)) ∙ F .there (omega (arith, c .before .if3 .taken)))
 
 returns-4 : tie.Need-returns-4
 returns-4 c = λ rows H.
     let F = c .before .before .before .before .first-scope .ensures rows H in
-    no-array rows (c .before .before .before .before .before .before .args .scope) (c .before .before .before .before .before .before .args .f) (sym (c .before .before .has .ensures rows H) ∙ c .before .if2 .left) (F .below 0 (omega (arith, c .if3 .left)))
+    no-array rows (c .before .before .before .before .before .before .args .scope) (c .before .before .before .before .before .before .args .f) (sym (c .before .before .has .ensures rows (holds-keeps H)) ∙ c .before .if2 .left) (F .below 0 (omega (arith, c .if3 .left)))
 
 pub is-array-spec : {M : Type 1} → statement M
 is-array-spec =

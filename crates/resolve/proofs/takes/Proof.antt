@@ -4,8 +4,8 @@ use Prim.Native.Nat.{ℕ, _<_}
 use native.Mathlib.Omega.{arith}
 use Rattle.table.specs.Answers.{Within}
 use Rattle.table.specs.declared.Found.{Found}
-use Rattle.table.specs.Images.{word-at}
-use Rattle.lookup.specs.Answers.{rowAt}
+use Rattle.runs.specs.Runs.{rowIn}
+use Rattle.runs.specs.Places.{row-word}
 use Rattle.resolve.specs.FromRows.{isScalar, byRef}
 use borrow.Author.Needs.{needs}
 use Rattle.resolve.proofs.takes.Statement.{statement}
@@ -46,10 +46,10 @@ enum-told : tie.Need-enum-told
 enum-told c = search needs
 
 returns : tie.Need-returns
-returns c = λ rows H. let j : ℕ = c .before .before .before .before .found .given .0 .0 in c .is-scalar .ensures ∙ ap₂ isScalar (word-at (H .filled) j 3 (in-table (c .before .before .before .before)) (omega arith)) (word-at (H .filled) j 4 (in-table (c .before .before .before .before)) (omega arith)) ∙ ap (λ (f : Found). byRef (rowAt rows f)) (sym (c .before .before .before .before .found .given .1))
+returns c = λ rows H. let f = c .before .before .before .before in let b = f .before .before .before .args .b .now in let j : ℕ = f .found .given .0 .0 in c .is-scalar .ensures ∙ sym (ap₂ isScalar (row-word b j 3 (omega arith)) (row-word b j 4 (omega arith))) ∙ ap (λ (x : Found). byRef (rowIn b x)) (sym (f .found .given .1))
 
 returns-2 : tie.Need-returns-2
-returns-2 c = λ rows H. ap (λ (f : Found). byRef (rowAt rows f)) (sym (c .enum-told .given .1))
+returns-2 c = λ rows H. ap (λ (f : Found). byRef (rowIn (c .before .before .before .args .b .now) f)) (sym (c .enum-told .given .1))
 
 pub takes-spec : {M : Type 1} → statement M
 takes-spec =

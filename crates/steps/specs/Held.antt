@@ -5,7 +5,7 @@ use mathlib.Core.List.{List}
 use mathlib.Core.Option.{some}
 use Prim.Native.Nat.{ℕ, _*_, _≤_, _<_}
 use lib.ListN.{length}
-use Rattle.table.specs.Rows.{Row, width, noteWidth, zeros, image, Filled}
+use Rattle.table.specs.Rows.{Row, width, noteWidth, zeros, image, Filled, Holds}
 use Rattle.table.specs.declared.Put.{Put}
 use Rattle.table.specs.declared.Put.the-variants.{Full, Done}
 use Rattle.runs.specs.Runs.{Keeps}
@@ -26,6 +26,11 @@ pub record Held (N D : ℕ) (st : State) (s : Counts) (b d : List ℕ) : Type 0 
   pub rows-long : length b ≡ N
   pub notes-long : length d ≡ D
   pub inside : Inside st s b d
+
+-- the rows put in order: where the run goes on, they lie in one run
+pub record Settles (s : Counts) (b b′ : List ℕ) : Type 0 where
+  pub long : length b′ ≡ length b
+  pub flat : s .stop ≡ 0 → (rows : List Row) → Keeps rows (s .rows) b → Holds rows (s .rows) b′
 
 -- fresh buffers are zeros; of others nothing is known
 abbrev pub Fresh : Bool → List ℕ → List ℕ → Type 0

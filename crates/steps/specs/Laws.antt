@@ -22,7 +22,7 @@ use Rattle.table.specs.declared.Put.the-variants.{Full, Done}
 use Rattle.steps.specs.State.{State, running, stopped, stop, fits, change, enter, push}
 use Rattle.steps.specs.declared.Counts.{Counts}
 use Rattle.steps.specs.Refused.{zeroing, Numbered}
-use Rattle.steps.specs.Held.{Fit, Held, Fresh, Notes, Rows, Counted, changing, entering, pushing, noting, rowsPut, notesPut, countsOf, rowsLeft, notesLeft, Left}
+use Rattle.steps.specs.Held.{Fit, Held, Settles, Fresh, Notes, Rows, Counted, changing, entering, pushing, noting, rowsPut, notesPut, countsOf, rowsLeft, notesLeft, Left}
 
 -- a run that goes on is not stopped
 going : {A : Type 0} (k : ℕ) → 0 ≡ k → 0 < k → A
@@ -173,20 +173,26 @@ module _ (s : Counts) (number : ℕ) where
       by b d N D (running rows notes) H = record { rows-long = H .rows-long; notes-long = H .notes-long; inside = (refl, h) }
       by b d N D (stopped k) H = going k (sym go ∙ H .inside .0) (H .inside .1)
 
+-- what was held is held, its rows in order
+pub settled-held : {N D : ℕ} {s : Counts} {b b′ d : List ℕ} → Settles s b b′ → (st : State) → Held N D st s b d → Held N D st s b′ d
+settled-held S (running rows notes) H =
+    record { rows-long = S .long ∙ H .rows-long; notes-long = H .notes-long; inside = (H .inside .0, holds-keeps (S .flat (H .inside .0) rows (H .inside .1)), H .inside .2) }
+settled-held S (stopped k) H = record { rows-long = S .long ∙ H .rows-long; notes-long = H .notes-long; inside = H .inside }
+
 module _ {N D : ℕ} {s : Counts} {b d : List ℕ} where
   -- a run that goes on leaves what it holds, its rows in one run
-  pub left-running : (st : State) → Held N D st s b d → s .stop ≡ 0 → (b′ : List ℕ) → length b′ ≡ length b → ((rows : List Row) → Keeps rows (s .rows) b → Holds rows (s .rows) b′) → Left N D st s b′ d
+  pub left-running : (st : State) → Held N D st s b d → s .stop ≡ 0 → {b′ : List ℕ} → Settles s b b′ → Left N D st s b′ d
   unfolding countsOf rowsLeft notesLeft
-  left-running (running rows notes) H go b′ len settled =
-      let S : Holds rows (s .rows) b′ = settled rows (H .inside .1) in
+  left-running (running rows notes) H go {b′} S =
+      let T : Holds rows (s .rows) b′ = S .flat go rows (H .inside .1) in
       record {
         answer = ap (λ (k : ℕ). record { stop = k; rows = s .rows; notes = s .notes }) (H .inside .0)
-            ∙ ap (λ (k : ℕ). record { stop = 0; rows = k; notes = s .notes }) (sym (S .filled .count))
+            ∙ ap (λ (k : ℕ). record { stop = 0; rows = k; notes = s .notes }) (sym (T .filled .count))
             ∙ ap (λ (k : ℕ). record { stop = 0; rows = length rows; notes = k }) (sym (H .inside .2 .count));
-        rows = S .filled .words ∙ ap (λ (n : ℕ). image width n rows) (len ∙ H .rows-long);
+        rows = T .filled .words ∙ ap (λ (n : ℕ). image width n rows) (S .long ∙ H .rows-long);
         notes = H .inside .2 .words ∙ ap (λ (n : ℕ). image noteWidth n notes) (H .notes-long);
       }
-  left-running (stopped k) H go b′ len settled = going k (sym go ∙ H .inside .0) (H .inside .1)
+  left-running (stopped k) H go S = going k (sym go ∙ H .inside .0) (H .inside .1)
 
   -- a stopped one zeros
   pub left-stopped : (st : State) → Held N D st s b d → (s .stop ≡ 0 → ⊥) → (b′ d′ : List ℕ) → b′ ≡ zeros (length b) → d′ ≡ zeros (length d)

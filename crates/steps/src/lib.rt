@@ -11,7 +11,7 @@ ghost use Rattle.table.specs.Rows.{Row, width, noteWidth, remove};
 ghost use Rattle.entries.specs.Entries.{row, entryKey};
 ghost use Rattle.steps.specs.State.{State, running, stop as stopWith};
 ghost use Rattle.steps.specs.Refused.{zeroing, Numbered};
-ghost use Rattle.steps.specs.Held.{Held, Fresh, Notes, Rows, Counted, changing, entering, pushing, noting, rowsPut, notesPut, Left};
+ghost use Rattle.steps.specs.Held.{Held, Settles, Fresh, Notes, Rows, Counted, changing, entering, pushing, noting, rowsPut, notesPut, Left};
 
 // The number that stopped the run, or 0, and how many rows and diagnostics there are.
 pub struct Counts {
@@ -48,13 +48,23 @@ pub fn begin_in(b: &mut [u32], d: &mut [u32], fresh: bool) -> Counts
     begin(b, d)
 }
 
+// The rows put in order, where the run goes on.
+pub fn settle(b: &mut [u32], s: Counts)
+    requires { ⌜ s .rows * width ≤ length (now b) ⌝ }
+    ensures { λ _. ⌜ Settles s (now (b .entry)) (now (b .exit)) ⌝ }
+{
+    if s.stop == 0 {
+        runs::settle(b, s.rows);
+    }
+}
+
 // The end of a run: its rows are put in order; one that was stopped leaves zeros to the last word of both buffers.
 pub fn finish(b: &mut [u32], d: &mut [u32], s: Counts) -> Counts
     requires { ⌜ s .rows * width ≤ length (now b) ⌝ }
     ensures { λ r. ⌜ ((N D : ℕ) (st : State) → Held N D st s (now (b .entry)) (now (d .entry)) → Left N D st r (now (b .exit)) (now (d .exit))) ⌝ }
 {
+    settle(b, s);
     if s.stop == 0 {
-        runs::settle(b, s.rows);
         return s;
     }
     table::empty(b);

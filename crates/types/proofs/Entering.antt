@@ -21,7 +21,7 @@ use Rattle.steps.specs.declared.Counts.{Counts}
 use Rattle.steps.specs.Held.{Held, Rows}
 use Rattle.steps.specs.Compose.{stays-each, stays-enter}
 use Rattle.collect.specs.Collect.{FieldInfo, fieldRows}
-use Rattle.types.specs.Types.{SomeFields, FieldIs, Upto, codeOf, fieldCode, sized, sizedBy, keeps, Keeps, Enters}
+use Rattle.types.specs.Types.{SomeFields, FieldIs, Upto, codeOf, fieldCode, sized, sizedBy, keeps, KeepsField, Enters}
 use Rattle.types.specs.declared.FieldAt.{FieldAt}
 use Rattle.types.specs.declared.Kept.{Kept}
 use Rattle.types.proofs.Alike.{Alike, alike-refl, alike-field, Small, small-left, small-right, code-alike, sized-alike, AlikeIn, change-alike, Entering}
@@ -140,7 +140,7 @@ module _ {ws : List ℕ} {at n owner : ℕ} {s : Counts} {b₀ : List ℕ} where
 
   pub entering-next : {c c′ : Kept} {a i : ℕ} {b b′ : List ℕ} → EnteringMid ws at n owner s b₀ c a i b → i < n → (f : FieldAt) → FieldIs ws a f → (code : ℕ)
       → ((rows : List Row) → Keeps rows (c .counts .rows) b → Upto ws at i (λ fs. code ≡ codeOf rows owner fs (f .name) (f .head) (f .arg)))
-      → Keeps owner code (f .name) (f .head) (f .arg) c c′ b b′ → EnteringMid ws at n owner s b₀ c′ (f .next) (i + 1) b′
+      → KeepsField owner code (f .name) (f .head) (f .arg) c c′ b b′ → EnteringMid ws at n owner s b₀ c′ (f .next) (i + 1) b′
   entering-next {c} {c′} {a} {i} {b} {b′} C h f F code U K =
       record {
         fit = K .rows .fit;

@@ -18,7 +18,7 @@ use Rattle.steps.specs.State.{State, Step, nothing, each, stop, enter, push}
 use Rattle.steps.specs.declared.Counts.{Counts}
 use Rattle.steps.specs.Held.{Held, Sized, Notes, Rows, Counted, entering, pushing}
 use Rattle.steps.specs.RowSteps.{rows-same}
-use Rattle.types.specs.Types.{typeCode, noteOf, grown, sized, looks, Looks, Keeps}
+use Rattle.types.specs.Types.{typeCode, noteOf, grown, sized, looks, Looks, KeepsField}
 use Rattle.types.specs.declared.Summed.{Summed}
 use Rattle.types.specs.declared.Kept.{Kept}
 
@@ -100,7 +100,7 @@ module _ (owner code name head arg : ℕ) (s : Kept) (b : List ℕ) where
   abbrev Row′ : List Row
   Row′ = fieldRow owner (s .fields) name (s .words) head arg ∷ []
 
-  pub keep-none : s .words ≤ 65535 → s .counts .rows * width ≤ length b → (code ≡ 0 → ⊥) → Keeps owner code name head arg s s b b
+  pub keep-none : s .words ≤ 65535 → s .counts .rows * width ≤ length b → (code ≡ 0 → ⊥) → KeepsField owner code name head arg s s b b
   unfolding sized each
   keep-none few fit n =
       record {
@@ -112,7 +112,7 @@ module _ (owner code name head arg : ℕ) (s : Kept) (b : List ℕ) where
 
   pub keep-some : code ≡ 0 → (more w : ℕ) → ((rows : List Row) → Keeps rows (s .counts .rows) b → more ≡ typeWords rows head arg) → w ≡ grown (s .words) more → w ≤ 65535
       → {t : Counts} {b′ : List ℕ} → Rows (entering (fieldRow owner (s .fields) name (s .words) head arg)) (s .counts) t b b′
-      → Keeps owner code name head arg s (record { counts = t; fields = s .fields + 1; words = w }) b b′
+      → KeepsField owner code name head arg s (record { counts = t; fields = s .fields + 1; words = w }) b b′
   unfolding sized each entering
   keep-some z more w told e few R =
       record {

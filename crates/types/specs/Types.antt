@@ -124,7 +124,7 @@ pub record Checks (ws : List ℕ) (at n line owner : ℕ) (s : Counts) (r : Summ
       → Held N D (checks D rows line owner 0 [] (rowsOf fieldDecl v) (running rows notes)) (r .counts) b d′ × (r .words ≡ total rows owner 0 [] (rowsOf fieldDecl v))
 
 -- one field entered, where it is kept
-pub record Keeps (owner code name head arg : ℕ) (s r : Kept) (b b′ : List ℕ) : Type 0 where
+pub record KeepsField (owner code name head arg : ℕ) (s r : Kept) (b b′ : List ℕ) : Type 0 where
   pub few : r .words ≤ 65535
   pub more : r .fields ≡ pick (eqb code 0) (s .fields + 1) (s .fields)
   pub size : (rows : List Row) → Keeps rows (s .counts .rows) b → r .words ≡ sized rows (s .words) code head arg

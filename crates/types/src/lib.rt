@@ -13,7 +13,7 @@ ghost use Rattle.tree.specs.Tree.{row as oneRow};
 ghost use Rattle.tree.specs.Stands.{SomeTree};
 ghost use Rattle.steps.specs.Held.{Fit, Notes, pushing};
 ghost use Rattle.collect.specs.Code.{CollectsAny};
-ghost use Rattle.types.specs.Types.{SomeType, SomeFields, FieldIs, Upto, typeCode, said as saidOf, codeOf, noteOf, grown as grownOf, Looks, Checks, Keeps, Enters, Defines};
+ghost use Rattle.types.specs.Types.{SomeType, SomeFields, FieldIs, Upto, typeCode, said as saidOf, codeOf, noteOf, grown as grownOf, Looks, Checks, KeepsField, Enters, Defines};
 
 // A field of a TYPE: its name, its type, and the place past it.
 pub struct FieldAt {
@@ -200,7 +200,7 @@ fn grown(words: u32, more: u32) -> u32
 // A field entered where it is kept.
 fn keep(b: &mut [u32], s: Kept, code: u32, owner: u32, f: FieldAt) -> Kept
     requires { ⌜ (s .counts .rows * width ≤ length (now b)) × (s .words ≤ 65535) × (s .fields < 16777216) × (owner < 16777216) × (f .arg < 16777216) ⌝ }
-    ensures { λ r. ⌜ Keeps owner code (f .name) (f .head) (f .arg) s r (now (b .entry)) (now (b .exit)) ⌝ }
+    ensures { λ r. ⌜ KeepsField owner code (f .name) (f .head) (f .arg) s r (now (b .entry)) (now (b .exit)) ⌝ }
 {
     if code != 0 {
         return s;

@@ -17,6 +17,7 @@ use Rattle.strings.specs.Table.{sound, namesOf}
 use Rattle.table.specs.Rows.{Row, noteWidth, zeros, image, rowsOf, find, Filled}
 use Rattle.entries.specs.Entries.{entryKey}
 use Rattle.lookup.specs.Builtins.{isBuiltin}
+use Rattle.runs.specs.Laws.{holds-keeps}
 use Rattle.lent.specs.Lent.{checked, lentRows}
 use Rattle.lent.specs.LentLaws.{checked-sound}
 use Rattle.lent.specs.declared.Checked.{Checked}
@@ -83,7 +84,7 @@ module _ {bytes ends buf : List ℕ} {n : ℕ} (L : LentReady bytes ends buf n) 
 
   module _ (d : List ℕ) {d₁ d₂ : List ℕ} {t : Counts} (l : length d₁ ≡ length d) (E : Filled noteWidth [] 0 d₁) (C : Checks bytes ends fresh t buf d₁ d₂) where
     after-run : Held (length buf) (length d) (checkNameCollisions (given (some (length buf)) (some (length d)) bytes ends []) (running (rowsOf n buf) [])) t buf d₂
-    after-run = C .does [] .after (length buf) (length d) (running (rowsOf n buf) []) (record { rows-long = refl; notes-long = l; inside = (refl, L .lent .holds, E) })
+    after-run = C .does [] .after (length buf) (length d) (running (rowsOf n buf) []) (record { rows-long = refl; notes-long = l; inside = (refl, holds-keeps (L .lent .holds), E) })
 
     pub over-fine : t .stop ≡ 0 → Tells d (Noted (t .notes)) d₂ (overOf bytes ends buf (length d) n)
     unfolding overOf saidOf endOf toldAs counted leftOf

@@ -12,7 +12,7 @@ statements-requires : tie.Need-statements-requires
 statements-requires c κs = (start-ready (c .before .before .before .before .before .before .before .before .before .before .before .before .before .before .before .before .before .pre .0) (c .before .before .before .before .before .before .begin .ensures), c .before .before .before .before .before .before .before .before .before .before .before .before .before .before .before .before .before .pre .1)
 
 finish-requires : tie.Need-finish-requires
-finish-requires c κs = search needs
+finish-requires c κs = c .before .before .before .before .before .before .before .statements .ensures .kept .fit .0
 
 same-length : tie.Need-same-length
 same-length c = search needs

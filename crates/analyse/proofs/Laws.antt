@@ -67,7 +67,7 @@ module _ {bytes ends erased ws marks : List ℕ} (P : Passed bytes ends erased w
   pub check-ready : {c : Counts} {b b′ d : List ℕ} → Kept marks (length ends) c b d → Settles c b b′ → ReadyRows bytes ends b′ c × Fit c (length b′) (length d)
   check-ready {c} {b} {b′} K S =
       let named : c .stop ≡ 0 → NamesHeld marks c b′ = λ h. names-held (K .state) (K .held) (good-ok (K .state) (K .good)) S h in
-      (record { strings = P .named .strings; held = subst (λ (ns : List ℕ). c .stop ≡ 0 → NamesHeld ns c b′) (P .named .names) named }, omega (arith, K .fit .0, S .long), K .fit .1)
+      (record { strings = P .named .strings; held = subst (λ (ns : List ℕ). c .stop ≡ 0 → NamesHeld ns c b′) (P .named .names) named }, (omega (arith, K .fit .0, S .long), K .fit .1))
 
   -- begun, collected, compared and finished
   pub tabled : {next : ℕ} {s c e r : Counts} {b d b₀ d₀ b₁ d₁ b₂ d₂ b₃ d₃ : List ℕ} → Held (length b) (length d) (running [] []) s b₀ d₀

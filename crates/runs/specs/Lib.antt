@@ -2,4 +2,5 @@
 pub mod Runs
 pub mod Union
 pub mod Places
+pub mod Parts
 pub mod Laws

@@ -1,0 +1,145 @@
+-- Laws of a buffer that has two runs of rows: each run by itself, both made one, and what is put into one of them. Assumes nothing.
+use mathlib.Core.Path.{_≡_, refl, sym, ap, _∙_, subst}
+use mathlib.Core.List.{List, [], _∷_, _++_, append-assoc, append-nil}
+use mathlib.Core.Option.{Option, none, some}
+use Prim.Native.Nat.{ℕ, zero, suc, _+_, _-_, _*_, _≤_, _<_}
+use native.Mathlib.Omega.{arith}
+use native.Mathlib.Nat.{le-of-eq, le-refl}
+use lib.ListN.{length, take, drop, getD, length-append, length-drop, take-append-drop, List·getD-append}
+use lib.Seq.{take-all, take-at, drop-at, length-take-le, getD-append-add, take-append-le, drop-append-le, take-append-add, drop-append-add}
+use Rattle.words.specs.Word.{flatten}
+use Rattle.table.specs.Rows.{Row, width, keyOf, key, Wide, Table, Filled, Holds, rank, find, insert, insertAll, zeros, image}
+use Rattle.table.specs.Answers.{foundAt, Within}
+use Rattle.table.specs.Buffers.{found-row, found-none}
+use Rattle.table.specs.Images.{table-wide, length-flatten, take-rows, drop-rows, image-append, image-splice, holds-fits, holds-full, key-of-row}
+use Rattle.table.specs.declared.Found.{Found}
+use Rattle.table.specs.declared.Found.the-variants.{At, Nothing}
+use Rattle.merge.specs.Merge.{Apart}
+use Rattle.merge.specs.Laws.{count-more, all-table, insert-first, apart-insert}
+use Rattle.runs.specs.Runs.{rowOf, rowIn, Runs}
+use Rattle.runs.specs.Places.{row-filled}
+use Rattle.runs.specs.Union.{all-none, all-append, apart-append, table-front, table-back, table-append, insert-late, insert-at, apart-other, apart-none}
+
+wide-append : (w : ℕ) (a c : List Row) → Wide w a → Wide w c → Wide w (a ++ c)
+wide-append w [] c t u = u
+wide-append w (r ∷ rs) c t u = (t .0, wide-append w rs c (t .1) u)
+
+-- the words from a place on, as a part
+pub rest-part : (l : List ℕ) (at : ℕ) → take (length l - at) (drop at l) ≡ drop at l
+rest-part l at = take-all (length l - at) (drop at l) (le-of-eq (length-drop at l))
+
+-- what is found in a part of the buffer, where that part's rows are the buffer's first
+pub found-part : {rows : List Row} {n : ℕ} {part : List ℕ} (buf : List ℕ) → Holds rows n part → ((i : ℕ) → i < n → rowOf buf i ≡ getD rows i [])
+    → (k : ℕ) (r : Found) → Within n r → r ≡ foundAt (rank k rows) (find k rows) → rowIn buf r ≡ find k rows
+found-part {rows} {n} {part} buf H f k (At i) w e = ap (λ (r : Row). some r) (f i w) ∙ sym (found-row rows n part H k i e)
+found-part {rows} {n} {part} buf H f k Nothing w e = sym (found-none rows n part H k e)
+
+-- ---- each run by itself
+
+module _ {first late : List Row} {m n : ℕ} {buf : List ℕ} (R : Runs first late m n buf) where
+  pub runs-count : m + length late ≡ n
+  runs-count = omega (arith, R .split, R .filled .count, length-append first late)
+
+  pub first-words : take (m * width) buf ≡ flatten first
+  first-words = take-rows (R .filled) m (omega (arith, runs-count)) ∙ ap flatten (take-at first late m (R .split))
+
+  pub late-words : drop (m * width) buf ≡ flatten late ++ zeros (length buf - n * width)
+  late-words = drop-rows (R .filled) m (omega (arith, runs-count)) ∙ ap (λ (l : List Row). flatten l ++ zeros (length buf - n * width)) (drop-at first late m (R .split))
+
+  pub first-holds : Holds first m (take (m * width) buf)
+  first-holds = holds-full first m (take (m * width) buf) (R .first-table) (R .split) first-words
+
+  pub late-holds : Holds late (n - m) (drop (m * width) buf)
+  unfolding image
+  late-holds =
+      let z : length buf - n * width ≡ length (drop (m * width) buf) - length late * width = omega (arith, length-drop (m * width) buf, runs-count) in
+      record {
+        filled = record {
+          words = late-words ∙ ap (λ (k : ℕ). flatten late ++ zeros k) z;
+          count = omega (arith, runs-count);
+          wide = table-wide 0 late (R .late-table);
+        };
+        table = R .late-table;
+      }
+
+  pub row-first : (i : ℕ) → i < m → rowOf buf i ≡ getD first i []
+  row-first i h = row-filled (R .filled) i (omega (arith, runs-count)) ∙ List·getD-append first late [] i (omega (arith, R .split))
+
+  pub row-late : (i : ℕ) → i < n - m → rowOf buf (m + i) ≡ getD late i []
+  row-late i h =
+      let e : m + i ≡ length first + i = omega (arith, R .split) in
+      row-filled (R .filled) (m + i) (omega arith) ∙ ap (λ (j : ℕ). getD (first ++ late) j []) e ∙ getD-append-add first late i []
+
+  pub key-first : (i : ℕ) → i < m → keyOf (getD buf (i * width) 0) (getD buf (i * width + 1) 0) ≡ key (getD first i [])
+  key-first i h = key-of-row (R .filled) i (omega (arith, runs-count)) ∙ ap key (List·getD-append first late [] i (omega (arith, R .split)))
+
+  pub key-late : m < n → keyOf (getD buf (m * width) 0) (getD buf (m * width + 1) 0) ≡ key (getD late 0 [])
+  key-late h =
+      let e : m ≡ length first + 0 = omega (arith, R .split) in
+      key-of-row (R .filled) m h ∙ ap (λ (j : ℕ). key (getD (first ++ late) j [])) e ∙ ap key (getD-append-add first late 0 [])
+
+  -- the table that both together are
+  pub both-count : length (insertAll late first) ≡ n
+  both-count = count-more first late (R .late-table) (R .apart) ∙ omega (arith, R .split, runs-count)
+
+  pub both-table : Table 0 (insertAll late first)
+  both-table = all-table late first (table-wide 0 late (R .late-table)) (R .first-table)
+
+-- two runs from two parts
+pub runs-parts : {first late : List Row} {m l : ℕ} {front tail : List ℕ} → Holds first m front → length front ≡ m * width → Holds late l tail → Apart late first
+    → Runs first late m (m + l) (front ++ tail)
+runs-parts {first} {late} {m} {l} {front} {tail} F w L a =
+    let all : take m first ≡ first = take-all m first (le-of-eq (F .filled .count)) in
+    let none : take 0 late ≡ [] = refl in
+    let f : front ≡ flatten first = sym (take-all (m * width) front (le-of-eq w)) ∙ take-rows (F .filled) m (le-refl m) ∙ ap flatten all in
+    let t : tail ≡ flatten late ++ zeros (length tail - l * width) = drop-rows (L .filled) 0 (omega arith) in
+    let z : length tail - l * width ≡ length (front ++ tail) - (m + l) * width = omega (arith, length-append front tail) in
+    record {
+      filled = record {
+        words = ap (λ (x : List ℕ). x ++ tail) f ∙ ap (λ (x : List ℕ). flatten first ++ x) (t ∙ ap (λ (k : ℕ). flatten late ++ zeros k) z)
+            ∙ image-append width (length (front ++ tail)) (m + l) first late (omega (arith, F .filled .count, L .filled .count));
+        count = length-append first late ∙ omega (arith, F .filled .count, L .filled .count);
+        wide = wide-append width first late (F .filled .wide) (L .filled .wide);
+      };
+      split = F .filled .count;
+      first-table = F .table;
+      late-table = L .table;
+      apart = a;
+    }
+
+-- a table is two runs, wherever it is split
+pub holds-runs : {rows : List Row} {n : ℕ} {buf : List ℕ} → Holds rows n buf → (m : ℕ) → m ≤ n → Runs (take m rows) (drop m rows) m n buf
+holds-runs {rows} {n} {buf} H m h =
+    let e : rows ≡ take m rows ++ drop m rows = sym (take-append-drop m rows) in
+    let t : Table 0 (take m rows ++ drop m rows) = subst (Table 0) e (H .table) in
+    record {
+      filled = subst (λ (l : List Row). Filled width l n buf) e (H .filled);
+      split = length-take-le m rows (omega (arith, H .filled .count));
+      first-table = table-front 0 (take m rows) (drop m rows) t;
+      late-table = table-back 0 (take m rows) (drop m rows) t;
+      apart = apart-append 0 (take m rows) (drop m rows) t;
+    }
+
+pub parts-all : {rows : List Row} (m : ℕ) → Table 0 rows → rows ≡ insertAll (drop m rows) (take m rows)
+parts-all {rows} m t =
+    let e : rows ≡ take m rows ++ drop m rows = sym (take-append-drop m rows) in
+    e ∙ sym (all-append 0 (take m rows) (drop m rows) (subst (Table 0) e t))
+
+-- ---- made one
+
+-- no row is in the first run
+pub runs-short : (first late : List Row) {rows : List Row} {m n : ℕ} {buf : List ℕ} → Runs first late m n buf → rows ≡ insertAll late first → m ≡ 0 → Holds rows n buf
+runs-short [] late {rows} {m} {n} {buf} R e z = subst (λ (l : List Row). Holds l n buf) (sym (e ∙ all-none 0 late (R .late-table))) (record { filled = R .filled; table = R .late-table })
+runs-short (r ∷ rs) late R e z = absurd (omega (arith, R .split))
+
+-- none is in the late one
+pub runs-none : (first late : List Row) {m n : ℕ} {buf : List ℕ} → Runs first late m n buf → m ≡ n → Holds (insertAll late first) n buf
+unfolding insertAll
+runs-none first [] {m} {n} {buf} R e = record { filled = subst (λ (l : List Row). Filled width l n buf) (append-nil first) (R .filled); table = R .first-table }
+runs-none first (x ∷ xs) R e = absurd (omega (arith, runs-count R))
+
+-- the late ones come after
+pub runs-order : {first late : List Row} {m n : ℕ} {buf : List ℕ} → Runs first late m n buf → (j : ℕ) → suc j ≡ m → key (getD first j []) < key (getD late 0 []) → Holds (insertAll late first) n buf
+runs-order {first} {late} {m} {n} {buf} R j e h =
+    let t : Table 0 (first ++ late) = table-append 0 0 first late (R .first-table) (R .late-table) j (e ∙ sym (R .split)) h in
+    subst (λ (l : List Row). Holds l n buf) (sym (all-append 0 first late t)) (record { filled = R .filled; table = t })

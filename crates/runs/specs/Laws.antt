@@ -7,7 +7,9 @@ use lib.ListN.{length, take, drop, getD}
 use lib.Seq.{take-at, drop-at}
 use Rattle.words.specs.Word.{flatten}
 use mathlib.Core.Option.{some}
-use borrow.Author.Tests.{leb-true}
+use mathlib.Core.Bool.{false}
+use lib.Dec.{ltb}
+use borrow.Author.Tests.{leb-true, ltb-false}
 use Rattle.table.specs.Rows.{Row, width, Table, Wide, Filled, Holds, rank, find, insert, insertAll, remove, image}
 use Rattle.table.specs.Laws.{pick-true, insert-table}
 use Rattle.table.specs.Answers.{foundAt, Within, Inserted, Removed}
@@ -20,6 +22,7 @@ use Rattle.table.specs.Images.{holds-fits, holds-image}
 use Rattle.runs.specs.Runs.{rowOf, rowIn, firstRun, Runs, Keeps, PutIn, TakenOut}
 use Rattle.runs.specs.Places.{rows-filled, row-filled, each-of, each-all}
 use Rattle.runs.specs.Parts.{runs-count, row-first, row-late, both-count, both-table, holds-runs, parts-all, runs-short}
+use Rattle.runs.specs.Union.{remove-none}
 
 -- a table in one run
 pub holds-keeps : {rows : List Row} {n : ℕ} {buf : List ℕ} → Holds rows n buf → Keeps rows n buf
@@ -60,3 +63,19 @@ keeps-same {n = n} H K =
     let f : H .first ≡ K .first = sym (take-at (H .first) (H .late) (firstRun n) (H .runs .split)) ∙ ap (take (firstRun n)) e ∙ take-at (K .first) (K .late) (firstRun n) (K .runs .split) in
     let l : H .late ≡ K .late = sym (drop-at (H .first) (H .late) (firstRun n) (H .runs .split)) ∙ ap (drop (firstRun n)) e ∙ drop-at (K .first) (K .late) (firstRun n) (K .runs .split) in
     H .all ∙ ap (λ (x : List Row). insertAll (H .late) x) f ∙ ap (λ (x : List Row). insertAll x (K .first)) l ∙ sym (K .all)
+
+-- ---- what the functions here use
+
+-- its runs, with the number of rows in the first under the code's name
+pub keeps-runs : {rows : List Row} {n : ℕ} {buf : List ℕ} (K : Keeps rows n buf) (m : ℕ) → m ≡ firstRun n → Runs (K .first) (K .late) m n buf
+keeps-runs {n = n} {buf} K m e = subst (λ (j : ℕ). Runs (K .first) (K .late) j n buf) (sym e) (K .runs)
+
+-- rows taken out of one run
+pub out-holds : {rows : List Row} {n : ℕ} {buf after : List ℕ} {m : ℕ} → Holds rows n buf → (lo hi : ℕ) → lo ≤ hi → Removed lo hi rows (length buf) m after → TakenOut (remove lo hi rows) m after
+out-holds {rows} {n} {buf} {after} {m} H lo hi h R = record { answer = R .answer; after = holds-keeps (removed-holds rows n buf H lo hi m h after R) }
+
+-- none to take out
+pub out-none : {rows : List Row} {n : ℕ} {buf : List ℕ} → Keeps rows n buf → (lo hi : ℕ) → lo ≤ hi → ltb (rank lo rows) (rank hi rows) ≡ false → TakenOut (remove lo hi rows) n buf
+out-none {rows} {n} {buf} K lo hi h e =
+    let same : remove lo hi rows ≡ rows = remove-none 0 lo hi rows (keeps-table K) h (ltb-false (rank lo rows) (rank hi rows) e) in
+    record { answer = sym (ap length same ∙ keeps-count K); after = subst (λ (l : List Row). Keeps l n buf) (sym same) K }

@@ -1,24 +1,29 @@
 -- Laws of a buffer that has two runs of rows: each run by itself, both made one, and what is put into one of them. Assumes nothing.
 use mathlib.Core.Path.{_≡_, refl, sym, ap, _∙_, subst}
+use mathlib.Core.Bool.{true, false}
+use mathlib.Core.Logic.{_⊎_, inl, inr}
 use mathlib.Core.List.{List, [], _∷_, _++_, append-assoc, append-nil}
 use mathlib.Core.Option.{Option, none, some}
 use Prim.Native.Nat.{ℕ, zero, suc, _+_, _-_, _*_, _≤_, _<_}
 use native.Mathlib.Omega.{arith}
 use native.Mathlib.Nat.{le-of-eq, le-refl}
-use lib.ListN.{length, take, drop, getD, length-append, length-drop, take-append-drop, List·getD-append}
+use lib.Dec.{ltb}
+use lib.ListN.{length, take, drop, getD, length-append, length-drop, take-append-drop, List·getD-append, length-replicate, replicate-append-replicate}
 use lib.Seq.{take-all, take-at, drop-at, length-take-le, getD-append-add, take-append-le, drop-append-le, take-append-add, drop-append-add}
+use borrow.Author.Tests.{ltb-true, ltb-false, lt-ltb, le-ltb}
 use Rattle.words.specs.Word.{flatten}
 use Rattle.table.specs.Rows.{Row, width, keyOf, key, Wide, Table, Filled, Holds, rank, find, insert, insertAll, zeros, image}
+use Rattle.table.specs.Laws.{order, rank-mono}
 use Rattle.table.specs.Answers.{foundAt, Within}
 use Rattle.table.specs.Buffers.{found-row, found-none}
-use Rattle.table.specs.Images.{table-wide, length-flatten, take-rows, drop-rows, image-append, image-splice, holds-fits, holds-full, key-of-row}
+use Rattle.table.specs.Images.{table-wide, length-flatten, take-rows, drop-rows, drop-tail, drop-zeros, image-append, image-splice, holds-fits, holds-full, key-of-row}
 use Rattle.table.specs.declared.Found.{Found}
 use Rattle.table.specs.declared.Found.the-variants.{At, Nothing}
 use Rattle.merge.specs.Merge.{Apart}
 use Rattle.merge.specs.Laws.{count-more, all-table, insert-first, apart-insert}
 use Rattle.runs.specs.Runs.{rowOf, rowIn, Runs}
 use Rattle.runs.specs.Places.{row-filled}
-use Rattle.runs.specs.Union.{all-none, all-append, apart-append, table-front, table-back, table-append, insert-late, insert-at, apart-other, apart-none}
+use Rattle.runs.specs.Union.{find-rest, find-among, find-below, find-beyond, rank-both, all-none, all-append, apart-append, table-front, table-back, table-append, insert-late, insert-at, apart-other, apart-none}
 
 wide-append : (w : ℕ) (a c : List Row) → Wide w a → Wide w c → Wide w (a ++ c)
 wide-append w [] c t u = u
@@ -33,6 +38,19 @@ pub found-part : {rows : List Row} {n : ℕ} {part : List ℕ} (buf : List ℕ) 
     → (k : ℕ) (r : Found) → Within n r → r ≡ foundAt (rank k rows) (find k rows) → rowIn buf r ≡ find k rows
 found-part {rows} {n} {part} buf H f k (At i) w e = ap (λ (r : Row). some r) (f i w) ∙ sym (found-row rows n part H k i e)
 found-part {rows} {n} {part} buf H f k Nothing w e = sym (found-none rows n part H k e)
+
+find-empty : (k : ℕ) (rows : List Row) → length rows ≡ 0 → find k rows ≡ none
+unfolding find
+find-empty k [] e = refl
+find-empty k (r ∷ rs) e = absurd (omega arith)
+
+-- the same added on both sides
+same-order : (a b c d n : ℕ) → c ≡ n + a → d ≡ n + b → ltb a b ≡ ltb c d
+same-order a b c d n e f = go (order a b)
+  where
+    go : (a < b) ⊎ (b ≤ a) → ltb a b ≡ ltb c d
+    go (inl h) = lt-ltb a b h ∙ sym (lt-ltb c d (omega arith))
+    go (inr h) = le-ltb a b h ∙ sym (le-ltb c d (omega arith))
 
 -- ---- each run by itself
 
@@ -62,6 +80,10 @@ module _ {first late : List Row} {m n : ℕ} {buf : List ℕ} (R : Runs first la
         table = R .late-table;
       }
 
+  -- as the code lends it
+  pub late-part : Holds late (n - m) (take (length buf - m * width) (drop (m * width) buf))
+  late-part = subst (Holds late (n - m)) (sym (rest-part buf (m * width))) late-holds
+
   pub row-first : (i : ℕ) → i < m → rowOf buf i ≡ getD first i []
   row-first i h = row-filled (R .filled) i (omega (arith, runs-count)) ∙ List·getD-append first late [] i (omega (arith, R .split))
 
@@ -84,6 +106,56 @@ module _ {first late : List Row} {m n : ℕ} {buf : List ℕ} (R : Runs first la
 
   pub both-table : Table 0 (insertAll late first)
   both-table = all-table late first (table-wide 0 late (R .late-table)) (R .first-table)
+
+  -- ---- a key in one of the runs, by what stands at its ends
+
+  pub none-first : (k : ℕ) → m ≡ 0 → find k first ≡ none
+  none-first k e = find-empty k first (R .split ∙ e)
+
+  pub beyond-first : (k x : ℕ) → 0 < m → x ≡ keyOf (getD buf ((m - 1) * width) 0) (getD buf ((m - 1) * width + 1) 0) → x < k → find k first ≡ none
+  beyond-first k x h e l = find-beyond 0 k first (R .first-table) (m - 1) (omega (arith, R .split)) (subst (λ (y : ℕ). y < k) (e ∙ key-first (m - 1) (omega arith)) l)
+
+  pub none-late : (k : ℕ) → m ≡ n → find k late ≡ none
+  none-late k e = find-empty k late (omega (arith, runs-count))
+
+  pub below-late : (k x : ℕ) → m < n → x ≡ keyOf (getD buf (m * width) 0) (getD buf (m * width + 1) 0) → k < x → find k late ≡ none
+  below-late k x h e l = find-below 0 k late (R .late-table) (subst (λ (y : ℕ). k < y) (e ∙ key-late h) l)
+
+  pub found-late : (k i : ℕ) → i < n - m → At i ≡ foundAt (rank k late) (find k late) → some (rowOf buf (m + i)) ≡ find k late
+  found-late k i h e = ap (λ (r : Row). some r) (row-late i h) ∙ sym (found-row late (n - m) (drop (m * width) buf) late-holds k i e)
+
+  -- a key in both
+  pub both-first : (k : ℕ) (r : Row) → some r ≡ find k first → some r ≡ find k (insertAll late first)
+  both-first k r e = e ∙ sym (find-rest k first late (apart-none k first late r (R .apart) (sym e)))
+
+  pub both-late : (k : ℕ) → none ≡ find k first → find k late ≡ find k (insertAll late first)
+  both-late k e = go (find k late) refl
+    where
+      go : (o : Option Row) → find k late ≡ o → find k late ≡ find k (insertAll late first)
+      go none f = f ∙ e ∙ sym (find-rest k first late f)
+      go (some r) f = f ∙ sym (find-among 0 k first late r (R .late-table) f)
+
+  -- whether a key is between two
+  pub between-first : (lo hi : ℕ) → lo ≤ hi → ltb (rank lo first) (rank hi first) ≡ true → ltb (rank lo (insertAll late first)) (rank hi (insertAll late first)) ≡ true
+  between-first lo hi h e =
+      lt-ltb (rank lo (insertAll late first)) (rank hi (insertAll late first)) (
+      omega (arith, rank-both 0 lo first late (R .late-table) (R .apart), rank-both 0 hi first late (R .late-table) (R .apart), rank-mono lo hi late h, ltb-true (rank lo first) (rank hi first) e))
+
+  pub between-late : (lo hi : ℕ) → lo ≤ hi → ltb (rank lo first) (rank hi first) ≡ false
+      → ltb (rank lo late) (rank hi late) ≡ ltb (rank lo (insertAll late first)) (rank hi (insertAll late first))
+  between-late lo hi h e =
+      let f : rank hi first ≡ rank lo first = omega (arith, ltb-false (rank lo first) (rank hi first) e, rank-mono lo hi first h) in
+      same-order (rank lo late) (rank hi late) (rank lo (insertAll late first)) (rank hi (insertAll late first)) (rank lo first)
+      (rank-both 0 lo first late (R .late-table) (R .apart)) (rank-both 0 hi first late (R .late-table) (R .apart) ∙ ap (λ (x : ℕ). x + rank hi late) f)
+
+-- rows, and however many zeros
+rest-zeros : (rows : List Row) (n k : ℕ) (buf : List ℕ) → Table 0 rows → length rows ≡ n → buf ≡ flatten rows ++ zeros k → Holds rows n buf
+unfolding image
+rest-zeros rows n k buf t c e =
+    let l : length buf ≡ length rows * width + k =
+    ap length e ∙ length-append (flatten rows) (zeros k) ∙ omega (arith, length-flatten width rows (table-wide 0 rows t), length-replicate {A = ℕ} k 0) in
+    let z : k ≡ length buf - length rows * width = omega arith in
+    record { filled = record { words = e ∙ ap (λ (j : ℕ). flatten rows ++ zeros j) z; count = c; wide = table-wide 0 rows t }; table = t }
 
 -- two runs from two parts
 pub runs-parts : {first late : List Row} {m l : ℕ} {front tail : List ℕ} → Holds first m front → length front ≡ m * width → Holds late l tail → Apart late first
@@ -138,8 +210,34 @@ unfolding insertAll
 runs-none first [] {m} {n} {buf} R e = record { filled = subst (λ (l : List Row). Filled width l n buf) (append-nil first) (R .filled); table = R .first-table }
 runs-none first (x ∷ xs) R e = absurd (omega (arith, runs-count R))
 
--- the late ones come after
-pub runs-order : {first late : List Row} {m n : ℕ} {buf : List ℕ} → Runs first late m n buf → (j : ℕ) → suc j ≡ m → key (getD first j []) < key (getD late 0 []) → Holds (insertAll late first) n buf
-runs-order {first} {late} {m} {n} {buf} R j e h =
-    let t : Table 0 (first ++ late) = table-append 0 0 first late (R .first-table) (R .late-table) j (e ∙ sym (R .split)) h in
-    subst (λ (l : List Row). Holds l n buf) (sym (all-append 0 first late t)) (record { filled = R .filled; table = t })
+module _ {first late : List Row} {m n : ℕ} {buf : List ℕ} (R : Runs first late m n buf) where
+  -- the late ones come after
+  pub runs-order : (x y : ℕ) → 0 < m → m < n → x ≡ keyOf (getD buf ((m - 1) * width) 0) (getD buf ((m - 1) * width + 1) 0)
+      → y ≡ keyOf (getD buf (m * width) 0) (getD buf (m * width + 1) 0) → x < y → Holds (insertAll late first) n buf
+  runs-order x y h l e f q =
+      let k : key (getD first (m - 1) []) < key (getD late 0 []) = omega (arith, e ∙ key-first R (m - 1) (omega arith), f ∙ key-late R l) in
+      let t : Table 0 (first ++ late) = table-append 0 0 first late (R .first-table) (R .late-table) (m - 1) (omega (arith, R .split)) k in
+      subst (λ (a : List Row). Holds a n buf) (sym (all-append 0 first late t)) (record { filled = R .filled; table = t })
+
+  -- the late ones copied to the beginning of zeros
+  pub late-copied : (k : ℕ) (put after : List ℕ) → put ≡ take (n * width - m * width) (drop (m * width) buf) → after ≡ take 0 (zeros k) ++ (put ++ drop (0 + length put) (zeros k))
+      → Holds late (n - m) after
+  unfolding image
+  late-copied k put after p a =
+      let len : length (flatten late) ≡ length late * width = length-flatten width late (table-wide 0 late (R .late-table)) in
+      let w : put ≡ flatten late = p ∙ ap (take (n * width - m * width)) (late-words R)
+      ∙ take-at (flatten late) (zeros (length buf - n * width)) (n * width - m * width) (omega (arith, len, runs-count R)) in
+      let q : 0 + length put ≡ length late * width = omega (arith, ap length w, len) in
+      let d : after ≡ flatten late ++ zeros (k - length late * width) =
+      a ∙ ap (λ (l : List ℕ). l ++ drop (0 + length put) (zeros k)) w ∙ ap (λ (j : ℕ). flatten late ++ drop j (zeros k)) q ∙ ap (λ (l : List ℕ). flatten late ++ l) (drop-zeros (length late * width) k) in
+      rest-zeros late (n - m) (k - length late * width) after (R .late-table) (omega (arith, runs-count R)) d
+
+  -- the first ones, with zeros where the late ones were
+  pub late-cleared : (after : List ℕ) → after ≡ take (m * width) buf ++ (zeros (n * width - m * width) ++ drop (n * width) buf) → Holds first m after
+  late-cleared after a =
+      let s : n * width ≡ n * width + 0 = omega arith in
+      let z : drop (n * width) buf ≡ zeros (length buf - (n * width + 0)) = ap (λ (k : ℕ). drop k buf) s ∙ drop-tail (R .filled) 0 in
+      rest-zeros first m (n * width - m * width + (length buf - (n * width + 0))) after (R .first-table) (R .split) (
+      a ∙ ap (λ (l : List ℕ). l ++ (zeros (n * width - m * width) ++ drop (n * width) buf)) (first-words R)
+      ∙ ap (λ (l : List ℕ). flatten first ++ (zeros (n * width - m * width) ++ l)) z
+      ∙ ap (λ (l : List ℕ). flatten first ++ l) (replicate-append-replicate (n * width - m * width) (length buf - (n * width + 0)) 0))

@@ -28,7 +28,7 @@ same-length c = search needs
 
 -- src/lib.rt:123:1
 returns-2 : tie.Need-returns-2
-returns-2 c = λ rows K. subst (λ (l : List Row). Holds l ((c .before .before .before .before .before .before .before .args .count)) _) (sym (K .all)) (c .before .before .join .ensures (K .first) (K .late) (keeps-runs K (c .before .before .before .before .first-run .result) (c .before .before .before .before .first-run .ensures)))
+returns-2 c = λ rows K. subst (λ (l : List Row). Holds l ((c .before .before .before .before .before .before .before .args .count)) (c .before .before .join .last .0)) (sym (K .all)) (c .before .before .join .ensures (K .first) (K .late) (keeps-runs K (c .before .before .before .before .first-run .result) (c .before .before .before .before .first-run .ensures)))
 
 pub settle-spec : {M : Type 1} → statement M
 settle-spec = tie.close (tie.spec returns first-run-requires join-requires same-length returns-2)

@@ -4,3 +4,4 @@ pub mod Union
 pub mod Places
 pub mod Parts
 pub mod Laws
+pub mod Entering

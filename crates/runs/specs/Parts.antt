@@ -25,7 +25,7 @@ use Rattle.runs.specs.Runs.{rowOf, rowIn, Runs}
 use Rattle.runs.specs.Places.{row-filled}
 use Rattle.runs.specs.Union.{find-rest, find-among, find-below, find-beyond, rank-both, all-none, all-append, apart-append, table-front, table-back, table-append, insert-late, insert-at, apart-other, apart-none}
 
-wide-append : (w : ℕ) (a c : List Row) → Wide w a → Wide w c → Wide w (a ++ c)
+pub wide-append : (w : ℕ) (a c : List Row) → Wide w a → Wide w c → Wide w (a ++ c)
 wide-append w [] c t u = u
 wide-append w (r ∷ rs) c t u = (t .0, wide-append w rs c (t .1) u)
 

@@ -8,10 +8,11 @@ use Prim.Native.Nat.{ℕ, zero, suc, _+_, _≤_, _<_}
 use native.Mathlib.Omega.{arith}
 use native.Mathlib.Nat.{le-of-suc-le-suc, not-suc-le-zero}
 use lib.Dec.{eqb}
-use lib.ListN.{length, take, drop, getD, take-append-drop}
+use lib.ListN.{length, take, drop, getD, length-append, length-drop, take-append-drop}
+use lib.Seq.{length-take-le}
 use borrow.Author.Tests.{eqb-true, eqb-false}
 use Rattle.table.specs.Rows.{Row, key, Table, rank, find, insert, insertAll, remove}
-use Rattle.table.specs.Laws.{order, order₃, table-above, rank-lt, rank-ge, rank-high, rank-mono, rank-above, find-eq, find-ne, find-above, find-miss, insert-lt, insert-eq, insert-gt, insert-old, find-insert-same, find-insert-other, remove-splice}
+use Rattle.table.specs.Laws.{order, order₃, table-above, rank-lt, rank-ge, rank-high, rank-mono, rank-above, find-eq, find-ne, find-above, find-hit, find-miss, insert-lt, insert-eq, insert-gt, insert-old, find-insert-same, find-insert-other, remove-splice}
 use Rattle.merge.specs.Merge.{Apart}
 use Rattle.merge.specs.Laws.{none-head, none-tail, less, insert-first, insert-more, insert-apart}
 
@@ -45,6 +46,13 @@ pub apart-none : (k : ℕ) (rows more : List Row) (r : Row) → Apart more rows 
 unfolding Apart find
 apart-none k rows [] r a f = refl
 apart-none k rows (x ∷ xs) r a f = find-ne k x xs (λ e. found-clash (ap (λ (n : ℕ). find n rows) (sym e) ∙ a .0) f) ∙ apart-none k rows xs r (a .1) f
+
+pub none-apart : (k : ℕ) (rows more : List Row) (r : Row) → Apart more rows → find k more ≡ some r → find k rows ≡ none
+none-apart k rows more r a f = go (find k rows) refl
+  where
+    go : (o : Option Row) → find k rows ≡ o → find k rows ≡ none
+    go none e = e
+    go (some x) e = found-clash (apart-none k rows more x a e) f
 
 -- below the first key, above the last
 pub find-below : (b k : ℕ) (rows : List Row) → Table b rows → k < key (getD rows 0 []) → find k rows ≡ none
@@ -193,6 +201,27 @@ pub insert-at : (b : ℕ) (rows : List Row) (r : Row) → Table b rows → (i : 
 insert-at b rows r t i h e =
     let p : rank (key r) rows ≡ i = rank-at b rows t i (key r) h e in
     insert-old r rows (omega arith) (ap (λ (n : ℕ). key (getD rows n [])) p ∙ e) ∙ ap (λ (n : ℕ). take n rows ++ (r ∷ drop (suc n) rows)) p
+
+pub insert-at-length : (b : ℕ) (rows : List Row) (r : Row) → Table b rows → (i : ℕ) → i < length rows → key (getD rows i []) ≡ key r → length (insert r rows) ≡ length rows
+insert-at-length b rows r t i h e =
+    ap length (insert-at b rows r t i h e) ∙ length-append (take i rows) (r ∷ drop (suc i) rows)
+    ∙ omega (arith, length-take-le i rows (omega arith), length-drop (suc i) rows)
+
+pub find-at : (b k : ℕ) (rows : List Row) → Table b rows → (i : ℕ) → i < length rows → key (getD rows i []) ≡ k → find k rows ≡ some (getD rows i [])
+find-at b k rows t i h e =
+    let p : rank k rows ≡ i = rank-at b rows t i k h e in
+    find-hit k rows (omega arith) (ap (λ (n : ℕ). key (getD rows n [])) p ∙ e) ∙ ap (λ (n : ℕ). some (getD rows n [])) p
+
+-- at most one more
+pub insert-most : (r : Row) (rows : List Row) → length (insert r rows) ≤ length rows + 1
+unfolding insert
+insert-most r [] = omega arith
+insert-most r (x ∷ xs) = go (insert-most r xs) (order₃ (key x) (key r))
+  where
+    go : length (insert r xs) ≤ length xs + 1 → (key x < key r) ⊎ ((key x ≡ key r) ⊎ (key r < key x)) → length (insert r (x ∷ xs)) ≤ suc (length xs) + 1
+    go ih (inl q) = rw (insert-lt r x xs q) (omega arith)
+    go ih (inr (inl q)) = rw (insert-eq r x xs q) (omega arith)
+    go ih (inr (inr q)) = rw (insert-gt r x xs q) (omega arith)
 
 -- ---- rows taken out
 

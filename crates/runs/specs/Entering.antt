@@ -11,19 +11,41 @@ use native.Mathlib.Nat.{le-of-eq}
 use lib.ListN.{length, take, drop, getD, length-append, length-drop, drop-of-length-le}
 use lib.Seq.{length-take-le, take-append-le, drop-append-le, take-append-add, drop-append-add}
 use borrow.Author.Tests.{le-leb, lt-leb, leb-false}
-use Rattle.table.specs.Rows.{Row, width, key, Wide, Table, Filled, Holds, find, insert, insertAll, image}
+use Rattle.table.specs.Rows.{Row, width, keyOf, key, Wide, Table, Filled, Holds, find, insert, insertAll, image}
 use Rattle.table.specs.Laws.{order, pick-true, pick-false, insert-table}
 use Rattle.table.specs.Each.{find-key}
-use Rattle.table.specs.Answers.{Fits, Inserted}
+use Rattle.table.specs.Answers.{Fits, Fit, Within, Inserted}
 use Rattle.table.specs.Images.{table-wide, take-rows, drop-rows, length-image, image-splice, holds-fits}
 use Rattle.table.specs.Buffers.{inserted-holds, room-full}
+use Rattle.table.specs.declared.Found.{Found}
+use Rattle.table.specs.declared.Found.the-variants.{At, Nothing}
+use Rattle.table.specs.declared.Put.{Put}
 use Rattle.table.specs.declared.Put.the-variants.{Full, Done}
 use Rattle.merge.specs.Merge.{Apart}
 use Rattle.merge.specs.Laws.{count-more, insert-first, apart-insert}
-use Rattle.runs.specs.Runs.{rowOf, firstRun, Runs, Keeps, PutIn}
+use Rattle.runs.specs.Runs.{rowOf, rowIn, firstRun, Runs, Keeps, PutIn}
 use Rattle.runs.specs.Union.{apart-none, none-apart, insert-late, insert-at, insert-at-length, insert-most, find-at, apart-other}
-use Rattle.runs.specs.Parts.{wide-append, runs-count, first-holds, late-part, row-first, row-late, both-first, runs-parts}
+use Rattle.runs.specs.Parts.{restOf, putRest, wide-append, runs-count, first-holds, late-part, row-first, row-late, both-first, runs-parts}
 use Rattle.runs.specs.Laws.{holds-keeps, keeps-fits, keeps-count, keeps-runs}
+
+-- ---- the words from a place on, lent and given back
+
+pub rest-back : (l tail : List ℕ) (at : ℕ) → putRest l at tail ≡ take at l ++ tail
+rest-back l tail at =
+    let gone : drop (length l - at) (drop at l) ≡ [] = drop-of-length-le (drop at l) {i = length l - at} (le-of-eq (length-drop at l)) in
+    ap (λ (x : List ℕ). take at l ++ (tail ++ x)) gone ∙ ap (λ (x : List ℕ). take at l ++ x) (append-nil tail)
+
+pub rest-length : (l : List ℕ) (at : ℕ) → length (restOf l at) ≡ length l - at
+rest-length l at = length-take-le (length l - at) (drop at l) (le-of-eq (sym (length-drop at l)))
+
+pub rest-kept : (l tail : List ℕ) (at : ℕ) → at ≤ length l → length tail ≡ length (restOf l at) → length (putRest l at tail) ≡ length l
+rest-kept l tail at h e = ap length (rest-back l tail at) ∙ length-append (take at l) tail ∙ omega (arith, length-take-le at l h, rest-length l at)
+
+-- what fits there fits
+pub rest-fit : (l : List ℕ) (m n : ℕ) → n * width ≤ length l → m ≤ n → (r : Put) (c : ℕ) → r ≡ Done c → Fit width (length (restOf l (m * width))) r → (m + c) * width ≤ length l
+rest-fit l m n h k r c q f =
+    let g : c * width ≤ length (restOf l (m * width)) = subst (Fit width (length (restOf l (m * width)))) q f in
+    omega (arith, rest-length l (m * width))
 
 -- ---- in the place of another
 
@@ -103,6 +125,10 @@ put-full {new} n after h =
           absurd (omega arith);
     }
 
+pub key-words : (row : Row) (k : ℕ) → k ≡ keyOf (getD row 0 0) (getD row 1 0) → k ≡ key row
+unfolding key
+key-words row k e = e
+
 module _ {rows : List Row} {n : ℕ} {buf : List ℕ} (K : Keeps rows n buf) (row : Row) (w : length row ≡ width) where
   -- the row with its key is replaced, in either run
   pub keeps-set : (i : ℕ) → i < n → some (rowOf buf i) ≡ find (key row) rows → Keeps (insert row rows) n (take (i * width) buf ++ (row ++ drop (i * width + width) buf))
@@ -134,14 +160,23 @@ module _ {rows : List Row} {n : ℕ} {buf : List ℕ} (K : Keeps rows n buf) (ro
             all = ap (insert row) (K .all) ∙ insert-late 0 (K .first) (K .late) row (K .runs .late-table);
           }
 
+  -- as the code finds it, and writes over it
+  pub put-set : (k : ℕ) → k ≡ key row → (r : Found) (i : ℕ) → r ≡ At i → Within n r → rowIn buf r ≡ find k rows → (after : List ℕ)
+      → after ≡ take (i * width) buf ++ (row ++ drop (i * width + length row) buf) → length after ≡ length buf → PutIn (insert row rows) (length buf) (Done n) after
+  put-set k e r i q h f after a l =
+      let g : some (rowOf buf i) ≡ find (key row) rows = ap (rowIn buf) (sym q) ∙ f ∙ ap (λ (j : ℕ). find j rows) e in
+      let b : take (i * width) buf ++ (row ++ drop (i * width + width) buf) ≡ after = ap (λ (j : ℕ). take (i * width) buf ++ (row ++ drop (i * width + j) buf)) (sym w) ∙ sym a in
+      put-done (length buf) l (subst (Keeps (insert row rows) n) b (keeps-set i (subst (Within n) q h) g))
+
   -- no row has the key, so none of the first run has
-  pub keeps-none : none ≡ find (key row) rows → find (key row) (K .first) ≡ none
-  keeps-none f = go (find (key row) (K .first)) refl
+  pub keeps-none : (k : ℕ) → k ≡ key row → (r : Found) → r ≡ Nothing → rowIn buf r ≡ find k rows → find (key row) (K .first) ≡ none
+  keeps-none k e r q f = go (find (key row) (K .first)) refl
     where
       go : (o : Option Row) → find (key row) (K .first) ≡ o → find (key row) (K .first) ≡ none
-      go none q = q
-      go (some r) q =
-          let g : some r ≡ none = both-first (K .runs) (key row) r (sym q) ∙ ap (find (key row)) (sym (K .all)) ∙ sym f in
+      go none p = p
+      go (some x) p =
+          let g : some x ≡ none =
+          both-first (K .runs) (key row) x (sym p) ∙ ap (find (key row)) (sym (K .all)) ∙ ap (λ (j : ℕ). find j rows) (sym e) ∙ sym f ∙ ap (rowIn buf) q in
           let z : _≡_ {A = ℕ} 0 1 = cc in
           absurd (omega arith)
 
@@ -157,48 +192,40 @@ module _ {rows : List Row} {n : ℕ} {buf : List ℕ} (K : Keeps rows n buf) (ro
         ∙ count-more (K .first) (insert row (K .late)) (insert-table 0 row (K .late) (K .runs .late-table) w zero-le) (apart-insert (K .first) (K .late) row f (K .runs .apart))
         ∙ omega (arith, K .runs .split)
 
-    part : List ℕ
-    part = take (length buf - m * width) (drop (m * width) buf)
-
-    part-length : length part ≡ length buf - m * width
-    unfolding part
-    part-length = length-take-le (length buf - m * width) (drop (m * width) buf) (le-of-eq (sym (length-drop (m * width) buf)))
-
-    late-in : (c : ℕ) (tail : List ℕ) → Inserted row (K .late) (length part) (Done c) tail → Holds (insert row (K .late)) c tail
-    unfolding part
-    late-in c tail I = inserted-holds (K .late) (n - m) part (late-part (keeps-runs K m e)) row w c tail I
-
-    -- the row is in the late run
-    pub late-runs : (c : ℕ) (tail after : List ℕ) → Inserted row (K .late) (length (take (length buf - m * width) (drop (m * width) buf))) (Done c) tail
-        → after ≡ take (m * width) buf ++ (tail ++ drop (length buf - m * width) (drop (m * width) buf)) → Runs (K .first) (insert row (K .late)) m (m + c) after
-    unfolding part
-    late-runs c tail after I a =
-        let gone : drop (length buf - m * width) (drop (m * width) buf) ≡ [] = drop-of-length-le (drop (m * width) buf) {i = length buf - m * width} (le-of-eq (length-drop (m * width) buf)) in
-        let b : after ≡ take (m * width) buf ++ tail = a ∙ ap (λ (l : List ℕ). take (m * width) buf ++ (tail ++ l)) gone ∙ ap (λ (l : List ℕ). take (m * width) buf ++ l) (append-nil tail) in
-        subst (Runs (K .first) (insert row (K .late)) m (m + c)) (sym b) (
-        runs-parts (first-holds (keeps-runs K m e)) (length-take-le (m * width) buf (omega (arith, keeps-fits K))) (late-in c tail I) (apart-insert (K .first) (K .late) row f (K .runs .apart)))
-
-    -- and has fewer rows than a block
-    pub late-kept : (c : ℕ) (tail after : List ℕ) → Inserted row (K .late) (length (take (length buf - m * width) (drop (m * width) buf))) (Done c) tail
-        → after ≡ take (m * width) buf ++ (tail ++ drop (length buf - m * width) (drop (m * width) buf)) → length after ≡ length buf → (c ≡ 64 → ⊥)
-        → PutIn (insert row rows) (length buf) (Done (m + c)) after
-    late-kept c tail after I a l h =
-        let R : Runs (K .first) (insert row (K .late)) m (m + c) after = late-runs c tail after I a in
-        let s : m ≡ firstRun (m + c) = omega (arith, h, insert-most row (K .late), runs-count R, runs-count (K .runs)) in
-        put-done (length buf) l (record {
-          first = K .first;
-          late = insert row (K .late);
-          runs = subst (λ (j : ℕ). Runs (K .first) (insert row (K .late)) j (m + c) after) s R;
-          all = new-is;
-        })
-
-    -- or was joined to the first
+    -- the late run was joined to the first
     pub late-joined : (k : ℕ) (after : List ℕ) → length after ≡ length buf → Holds (insertAll (insert row (K .late)) (K .first)) k after → PutIn (insert row rows) (length buf) (Done k) after
     late-joined k after l H = put-done (length buf) l (holds-keeps (subst (λ (x : List Row). Holds x k after) (sym new-is) H))
 
-    -- or has no room
-    pub late-full : (tail after : List ℕ) → Inserted row (K .late) (length (take (length buf - m * width) (drop (m * width) buf))) Full tail → PutIn (insert row rows) (length buf) Full after
-    unfolding part
-    late-full tail after I =
-        let over : length part < length (insert row (K .late)) * width = leb-false (length (insert row (K .late)) * width) (length part) (room-full (length part) row (K .late) tail I) in
-        put-full (length buf) after (omega (arith, part-length, new-count))
+    -- what was done to the late run, as a table of its own
+    module _ (r : Put) (tail : List ℕ) (I : (rs : List Row) → Holds rs (n - m) (restOf buf (m * width)) → Inserted row rs (length (restOf buf (m * width))) r tail) where
+      done : Inserted row (K .late) (length (restOf buf (m * width))) r tail
+      done = I (K .late) (late-part (keeps-runs K m e))
+
+      -- the row is in
+      pub late-runs : (c : ℕ) → r ≡ Done c → Runs (K .first) (insert row (K .late)) m (m + c) (putRest buf (m * width) tail)
+      late-runs c q =
+          let R : Runs (K .first) (K .late) m n buf = keeps-runs K m e in
+          let D : Inserted row (K .late) (length (restOf buf (m * width))) (Done c) tail = subst (λ (x : Put). Inserted row (K .late) (length (restOf buf (m * width))) x tail) q done in
+          let H : Holds (insert row (K .late)) c tail = inserted-holds (K .late) (n - m) (restOf buf (m * width)) (late-part R) row w c tail D in
+          subst (Runs (K .first) (insert row (K .late)) m (m + c)) (sym (rest-back buf tail (m * width))) (
+          runs-parts (first-holds R) (length-take-le (m * width) buf (omega (arith, keeps-fits K))) H (apart-insert (K .first) (K .late) row f (K .runs .apart)))
+
+      -- and fewer than a block are
+      pub late-kept : (c : ℕ) → r ≡ Done c → length (putRest buf (m * width) tail) ≡ length buf → (c ≡ 64 → ⊥) → PutIn (insert row rows) (length buf) (Done (m + c)) (putRest buf (m * width) tail)
+      late-kept c q l h =
+          let R : Runs (K .first) (insert row (K .late)) m (m + c) (putRest buf (m * width) tail) = late-runs c q in
+          let s : m ≡ firstRun (m + c) = omega (arith, h, insert-most row (K .late), runs-count R, runs-count (K .runs)) in
+          put-done (length buf) l (record {
+            first = K .first;
+            late = insert row (K .late);
+            runs = subst (λ (j : ℕ). Runs (K .first) (insert row (K .late)) j (m + c) (putRest buf (m * width) tail)) s R;
+            all = new-is;
+          })
+
+      -- it has no room
+      pub late-full : r ≡ Full → (after : List ℕ) → PutIn (insert row rows) (length buf) Full after
+      late-full q after =
+          let part : List ℕ = restOf buf (m * width) in
+          let D : Inserted row (K .late) (length part) Full tail = subst (λ (x : Put). Inserted row (K .late) (length part) x tail) q done in
+          let over : length part < length (insert row (K .late)) * width = leb-false (length (insert row (K .late)) * width) (length part) (room-full (length part) row (K .late) tail D) in
+          put-full (length buf) after (omega (arith, rest-length buf (m * width), new-count))

@@ -29,8 +29,14 @@ pub wide-append : (w : ℕ) (a c : List Row) → Wide w a → Wide w c → Wide 
 wide-append w [] c t u = u
 wide-append w (r ∷ rs) c t u = (t .0, wide-append w rs c (t .1) u)
 
--- the words from a place on, as a part
-pub rest-part : (l : List ℕ) (at : ℕ) → take (length l - at) (drop at l) ≡ drop at l
+-- the words from a place on, as the code lends them, and others in their place
+abbrev pub restOf : List ℕ → ℕ → List ℕ
+restOf l at = take (length l - at) (drop at l)
+
+abbrev pub putRest : List ℕ → ℕ → List ℕ → List ℕ
+putRest l at tail = take at l ++ (tail ++ drop (length l - at) (drop at l))
+
+pub rest-part : (l : List ℕ) (at : ℕ) → restOf l at ≡ drop at l
 rest-part l at = take-all (length l - at) (drop at l) (le-of-eq (length-drop at l))
 
 -- what is found in a part of the buffer, where that part's rows are the buffer's first
@@ -81,7 +87,7 @@ module _ {first late : List Row} {m n : ℕ} {buf : List ℕ} (R : Runs first la
       }
 
   -- as the code lends it
-  pub late-part : Holds late (n - m) (take (length buf - m * width) (drop (m * width) buf))
+  pub late-part : Holds late (n - m) (restOf buf (m * width))
   late-part = subst (Holds late (n - m)) (sym (rest-part buf (m * width))) late-holds
 
   pub row-first : (i : ℕ) → i < m → rowOf buf i ≡ getD first i []

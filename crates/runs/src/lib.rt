@@ -5,10 +5,11 @@ use table::Put;
 use table::WIDTH;
 ghost use mathlib.Core.Path.{_≡_};
 ghost use mathlib.Core.List.{List};
+ghost use mathlib.Core.Option.{none};
 ghost use Prim.Native.Nat.{ℕ, _+_, _*_, _≤_};
 ghost use lib.ListN.{length};
 ghost use lib.Dec.{ltb};
-ghost use Rattle.table.specs.Rows.{Row, width, rank, find as findRow, insert as insertRow, insertAll, remove as removeRows, Holds};
+ghost use Rattle.table.specs.Rows.{Row, width, key, rank, find as findRow, insert as insertRow, insertAll, remove as removeRows, Holds};
 ghost use Rattle.table.specs.Answers.{Within, Fit};
 ghost use Rattle.runs.specs.Runs.{rowIn, Runs, firstRun, Keeps, PutIn, TakenOut};
 
@@ -131,13 +132,46 @@ pub fn settle(b: &mut [u32], count: usize)
     join(b, m, count);
 }
 
+// Puts the row into the late run, in the place of the one there with its key; none of the first m rows has it.
+fn put_late(b: &mut [u32], m: usize, count: usize, row: &[u32]) -> Put
+    requires { ⌜ (count * width ≤ length (now b)) × (m ≤ count) × (length (now row) ≡ width) ⌝ }
+    ensures room { λ r. ⌜ Fit width (length (now (b .entry))) r ⌝ }
+    ensures after { λ r. ⌜ ((rows : List Row) (K : Keeps rows count (now (b .entry))) → m ≡ firstRun count → findRow (key (now (row .entry))) (K .first) ≡ none
+        → PutIn (insertRow (now (row .entry)) rows) (length (now (b .entry))) r (now (b .exit))) ⌝ }
+{
+    let put = table::insert(&mut b[m * WIDTH..], count - m, row);
+    match put {
+        Put::Full => Put::Full,
+        Put::Done(c) => {
+            if c == 64 {
+                join(b, m, m + c);
+                return Put::Done(m + c);
+            }
+            Put::Done(m + c)
+        }
+    }
+}
+
 // Puts the row in, in the place of the one with its key where there is one.
 pub fn insert(b: &mut [u32], count: usize, row: &[u32]) -> Put
     requires { ⌜ (count * width ≤ length (now b)) × (length (now row) ≡ width) ⌝ }
     ensures room { λ r. ⌜ Fit width (length (now (b .entry))) r ⌝ }
     ensures after { λ r. ⌜ ((rows : List Row) → Keeps rows count (now (b .entry)) → PutIn (insertRow (now (row .entry)) rows) (length (now (b .entry))) r (now (b .exit))) ⌝ }
 {
-    table::insert(b, count, row)
+    if count < 64 {
+        return put_late(b, 0, count, row);
+    }
+    let k = table::key_of(row[0], row[1]);
+    match find_long(b, count, k) {
+        Found::At(i) => {
+            table::put_words(b, i * WIDTH, row);
+            Put::Done(count)
+        }
+        Found::Nothing => {
+            let m = first_run(count);
+            put_late(b, m, count, row)
+        }
+    }
 }
 
 // Takes out the rows whose keys are at least lo and below hi, and returns how many are left.

@@ -1,26 +1,20 @@
 -- What other crates use of a buffer that keeps a table. Assumes nothing.
-use mathlib.Core.Path.{_≡_, refl, sym, ap, _∙_, subst}
-use mathlib.Core.List.{List, [], _∷_, _++_}
-use Prim.Native.Nat.{ℕ, zero, suc, _+_, _-_, _*_, _≤_, _<_, _%_}
+use mathlib.Core.Path.{_≡_, sym, ap, _∙_, subst}
+use mathlib.Core.List.{List, _++_}
+use Prim.Native.Nat.{ℕ, _+_, _*_, _≤_, _<_}
 use native.Mathlib.Omega.{arith}
-use lib.ListN.{length, take, drop, getD}
+use lib.ListN.{length, take, drop}
 use lib.Seq.{take-at, drop-at}
-use Rattle.words.specs.Word.{flatten}
-use mathlib.Core.Option.{some}
 use mathlib.Core.Bool.{false}
 use lib.Dec.{ltb}
-use borrow.Author.Tests.{leb-true, ltb-false}
-use Rattle.table.specs.Rows.{Row, width, Table, Wide, Filled, Holds, rank, find, insert, insertAll, remove, image}
-use Rattle.table.specs.Laws.{pick-true, insert-table}
-use Rattle.table.specs.Answers.{foundAt, Within, Inserted, Removed}
-use Rattle.table.specs.Buffers.{found-row, found-none, removed-holds}
-use Rattle.table.specs.declared.Found.{Found}
-use Rattle.table.specs.declared.Found.the-variants.{At, Nothing}
-use Rattle.table.specs.declared.Put.{Put}
+use borrow.Author.Tests.{ltb-false}
+use Rattle.table.specs.Rows.{Row, width, Table, Holds, rank, insertAll, remove}
+use Rattle.table.specs.Answers.{Removed}
+use Rattle.table.specs.Buffers.{removed-holds}
 use Rattle.table.specs.Each.{Each}
-use Rattle.table.specs.Images.{holds-fits, holds-image}
-use Rattle.runs.specs.Runs.{rowOf, rowIn, firstRun, Runs, Keeps, PutIn, TakenOut}
-use Rattle.runs.specs.Places.{rows-filled, row-filled, each-of, each-all}
+use Rattle.table.specs.Images.{holds-fits}
+use Rattle.runs.specs.Runs.{rowOf, firstRun, Runs, Keeps, TakenOut}
+use Rattle.runs.specs.Places.{rows-filled, each-of, each-all}
 use Rattle.runs.specs.Parts.{runs-count, row-first, row-late, both-count, both-table, holds-runs, parts-all, runs-short}
 use Rattle.runs.specs.Union.{remove-none}
 

@@ -2,28 +2,28 @@
 use mathlib.Core.Path.{_≡_, refl, sym, ap, _∙_, subst}
 use mathlib.Core.Bool.{true, false}
 use mathlib.Core.Logic.{_⊎_, inl, inr}
-use mathlib.Core.List.{List, [], _∷_, _++_, append-assoc, append-nil}
+use mathlib.Core.List.{List, [], _∷_, _++_, append-nil}
 use mathlib.Core.Option.{Option, none, some}
-use Prim.Native.Nat.{ℕ, zero, suc, _+_, _-_, _*_, _≤_, _<_}
+use Prim.Native.Nat.{ℕ, _+_, _-_, _*_, _≤_, _<_}
 use native.Mathlib.Omega.{arith}
 use native.Mathlib.Nat.{le-of-eq, le-refl}
 use lib.Dec.{ltb}
 use lib.ListN.{length, take, drop, getD, length-append, length-drop, take-append-drop, List·getD-append, length-replicate, replicate-append-replicate}
-use lib.Seq.{take-all, take-at, drop-at, length-take-le, getD-append-add, take-append-le, drop-append-le, take-append-add, drop-append-add}
+use lib.Seq.{take-all, take-at, drop-at, length-take-le, getD-append-add}
 use borrow.Author.Tests.{ltb-true, ltb-false, lt-ltb, le-ltb}
 use Rattle.words.specs.Word.{flatten}
-use Rattle.table.specs.Rows.{Row, width, keyOf, key, Wide, Table, Filled, Holds, rank, find, insert, insertAll, zeros, image}
+use Rattle.table.specs.Rows.{Row, width, keyOf, key, Wide, Table, Filled, Holds, rank, find, insertAll, zeros, image}
 use Rattle.table.specs.Laws.{order, rank-mono}
 use Rattle.table.specs.Answers.{foundAt, Within}
 use Rattle.table.specs.Buffers.{found-row, found-none}
-use Rattle.table.specs.Images.{table-wide, length-flatten, take-rows, drop-rows, drop-tail, drop-zeros, image-append, image-splice, holds-fits, holds-full, key-of-row}
+use Rattle.table.specs.Images.{table-wide, length-flatten, take-rows, drop-rows, drop-tail, drop-zeros, image-append, holds-full, key-of-row}
 use Rattle.table.specs.declared.Found.{Found}
 use Rattle.table.specs.declared.Found.the-variants.{At, Nothing}
 use Rattle.merge.specs.Merge.{Apart}
-use Rattle.merge.specs.Laws.{count-more, all-table, insert-first, apart-insert}
+use Rattle.merge.specs.Laws.{count-more, all-table}
 use Rattle.runs.specs.Runs.{rowOf, rowIn, Runs}
 use Rattle.runs.specs.Places.{row-filled}
-use Rattle.runs.specs.Union.{find-rest, find-among, find-below, find-beyond, rank-both, all-none, all-append, apart-append, table-front, table-back, table-append, insert-late, insert-at, apart-other, apart-none}
+use Rattle.runs.specs.Union.{find-rest, find-among, find-below, find-beyond, rank-both, all-none, all-append, apart-append, table-front, table-back, table-append, apart-none}
 
 pub wide-append : (w : ℕ) (a c : List Row) → Wide w a → Wide w c → Wide w (a ++ c)
 wide-append w [] c t u = u
@@ -58,6 +58,15 @@ same-order a b c d n e f = go (order a b)
     go (inl h) = lt-ltb a b h ∙ sym (lt-ltb c d (omega arith))
     go (inr h) = le-ltb a b h ∙ sym (le-ltb c d (omega arith))
 
+-- rows, and however many zeros
+rest-zeros : (rows : List Row) (n k : ℕ) (buf : List ℕ) → Table 0 rows → length rows ≡ n → buf ≡ flatten rows ++ zeros k → Holds rows n buf
+unfolding image
+rest-zeros rows n k buf t c e =
+    let l : length buf ≡ length rows * width + k =
+    ap length e ∙ length-append (flatten rows) (zeros k) ∙ omega (arith, length-flatten width rows (table-wide 0 rows t), length-replicate {A = ℕ} k 0) in
+    let z : k ≡ length buf - length rows * width = omega arith in
+    record { filled = record { words = e ∙ ap (λ (j : ℕ). flatten rows ++ zeros j) z; count = c; wide = table-wide 0 rows t }; table = t }
+
 -- ---- each run by itself
 
 module _ {first late : List Row} {m n : ℕ} {buf : List ℕ} (R : Runs first late m n buf) where
@@ -74,17 +83,7 @@ module _ {first late : List Row} {m n : ℕ} {buf : List ℕ} (R : Runs first la
   first-holds = holds-full first m (take (m * width) buf) (R .first-table) (R .split) first-words
 
   pub late-holds : Holds late (n - m) (drop (m * width) buf)
-  unfolding image
-  late-holds =
-      let z : length buf - n * width ≡ length (drop (m * width) buf) - length late * width = omega (arith, length-drop (m * width) buf, runs-count) in
-      record {
-        filled = record {
-          words = late-words ∙ ap (λ (k : ℕ). flatten late ++ zeros k) z;
-          count = omega (arith, runs-count);
-          wide = table-wide 0 late (R .late-table);
-        };
-        table = R .late-table;
-      }
+  late-holds = rest-zeros late (n - m) (length buf - n * width) (drop (m * width) buf) (R .late-table) (omega (arith, runs-count)) late-words
 
   -- as the code lends it
   pub late-part : Holds late (n - m) (restOf buf (m * width))
@@ -154,21 +153,11 @@ module _ {first late : List Row} {m n : ℕ} {buf : List ℕ} (R : Runs first la
       same-order (rank lo late) (rank hi late) (rank lo (insertAll late first)) (rank hi (insertAll late first)) (rank lo first)
       (rank-both 0 lo first late (R .late-table) (R .apart)) (rank-both 0 hi first late (R .late-table) (R .apart) ∙ ap (λ (x : ℕ). x + rank hi late) f)
 
--- rows, and however many zeros
-rest-zeros : (rows : List Row) (n k : ℕ) (buf : List ℕ) → Table 0 rows → length rows ≡ n → buf ≡ flatten rows ++ zeros k → Holds rows n buf
-unfolding image
-rest-zeros rows n k buf t c e =
-    let l : length buf ≡ length rows * width + k =
-    ap length e ∙ length-append (flatten rows) (zeros k) ∙ omega (arith, length-flatten width rows (table-wide 0 rows t), length-replicate {A = ℕ} k 0) in
-    let z : k ≡ length buf - length rows * width = omega arith in
-    record { filled = record { words = e ∙ ap (λ (j : ℕ). flatten rows ++ zeros j) z; count = c; wide = table-wide 0 rows t }; table = t }
-
 -- two runs from two parts
 pub runs-parts : {first late : List Row} {m l : ℕ} {front tail : List ℕ} → Holds first m front → length front ≡ m * width → Holds late l tail → Apart late first
     → Runs first late m (m + l) (front ++ tail)
 runs-parts {first} {late} {m} {l} {front} {tail} F w L a =
     let all : take m first ≡ first = take-all m first (le-of-eq (F .filled .count)) in
-    let none : take 0 late ≡ [] = refl in
     let f : front ≡ flatten first = sym (take-all (m * width) front (le-of-eq w)) ∙ take-rows (F .filled) m (le-refl m) ∙ ap flatten all in
     let t : tail ≡ flatten late ++ zeros (length tail - l * width) = drop-rows (L .filled) 0 (omega arith) in
     let z : length tail - l * width ≡ length (front ++ tail) - (m + l) * width = omega (arith, length-append front tail) in

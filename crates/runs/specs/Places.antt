@@ -1,7 +1,7 @@
 -- The rows of a filled buffer, one by one, by their places. By induction on the rows. Assumes nothing.
-use mathlib.Core.Path.{_≡_, refl, sym, ap, _∙_, subst}
+use mathlib.Core.Path.{_≡_, refl, sym, ap, _∙_}
 use mathlib.Core.List.{List, [], _∷_, _++_, append-assoc}
-use Prim.Native.Nat.{ℕ, zero, suc, _+_, _-_, _*_, _≤_, _<_}
+use Prim.Native.Nat.{ℕ, zero, suc, _+_, _-_, _*_, _<_}
 use native.Mathlib.Omega.{arith}
 use native.Mathlib.Nat.{le-of-suc-le-suc, not-suc-le-zero}
 use lib.ListN.{length, take, drop, getD}
@@ -9,7 +9,7 @@ use lib.Seq.{getD-take, getD-drop, take-at, drop-at, drop-drop}
 use Rattle.words.specs.Word.{flatten}
 use Rattle.table.specs.Rows.{Row, width, insert, insertAll, Wide, Filled, rowsOf, zeros}
 use Rattle.table.specs.Each.{Each, each-insert}
-use Rattle.table.specs.Images.{holds-words, holds-fits}
+use Rattle.table.specs.Images.{holds-words}
 use Rattle.runs.specs.Runs.{rowOf}
 
 -- word j of the row at a place

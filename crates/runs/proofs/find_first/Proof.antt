@@ -1,3 +1,4 @@
+-- `find_first` looks at the last row of the first run, and then into that run alone. Assumes nothing.
 use mathlib.Core.Path.{sym}
 use native.Mathlib.Omega.{arith}
 use native.Mathlib.Nat.{le-of-eq}
@@ -6,42 +7,30 @@ use Rattle.runs.specs.Parts.{none-first, beyond-first, first-holds, row-
 use borrow.Author.Needs.{needs}
 use Rattle.runs.proofs.find_first.Statement.{statement}
 use Rattle.runs.proofs.find_first.Tie as tie
-use Rattle.runs.proofs.find_first.Reads as reads
-use Rattle.runs.proofs.find_first.Lts as lts
-use Rattle.table.proofs.find.Reads as find-reads
-use Rattle.table.proofs.key_at.Reads as key-at-reads
 
--- src/lib.rt:29:9
 returns : tie.Need-returns
-returns c = (tt, λ first late n R. sym (none-first R ((c .before .before .args .k)) (c .if1 .taken)))
+returns c = (tt, λ first late n R. sym (none-first R (c .before .before .args .k) (c .if1 .taken)))
 
--- src/lib.rt:31:25
 sub-key-at : tie.Need-sub-key-at
 sub-key-at c = search needs
 
--- src/lib.rt:31:8
 key-at-requires : tie.Need-key-at-requires
 key-at-requires c κs = search needs
 
--- src/lib.rt:32:9
 returns-2 : tie.Need-returns-2
-returns-2 c = (tt, λ first late n R. sym (beyond-first R ((c .before .before .before .before .args .k)) (c .before .key-at .result) (omega (arith, c .before .before .if1 .left)) (c .before .key-at .ensures) (c .if2 .taken)))
+returns-2 c = (tt, λ first late n R. sym (beyond-first R (c .before .before .before .before .args .k) (c .before .key-at .result) (omega (arith, c .before .before .if1 .left)) (c .before .key-at .ensures) (c .if2 .taken)))
 
--- src/lib.rt:34:22
 mul-find : tie.Need-mul-find
 mul-find c = search needs
 
--- src/lib.rt:34:17
 slice-aggregate-find : tie.Need-slice-aggregate-find
 slice-aggregate-find c = sym (length-take-le _ _ (c .before .before .before .before .before .pre))
 
--- src/lib.rt:34:5
 find-requires : tie.Need-find-requires
 find-requires c κs = le-of-eq (sym (length-take-le _ _ (c .before .before .before .before .before .pre)))
 
--- src/lib.rt:23:1
 returns-3 : tie.Need-returns-3
-returns-3 c = (c .find .ensures .0, λ first late n R. found-part ((c .before .before .before .before .before .before .args .b .now)) (first-holds R) (row-first R) ((c .before .before .before .before .before .before .args .k)) (c .find .result) (c .find .ensures .0) (c .find .ensures .1 first (first-holds R)))
+returns-3 c = (c .find .ensures .0, λ first late n R. found-part (c .before .before .before .before .before .before .args .b .now) (first-holds R) (row-first R) (c .before .before .before .before .before .before .args .k) (c .find .result) (c .find .ensures .0) (c .find .ensures .1 first (first-holds R)))
 
 pub find-first-spec : {M : Type 1} → statement M
 find-first-spec =

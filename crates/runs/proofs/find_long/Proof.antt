@@ -1,8 +1,8 @@
-use mathlib.Core.Path.{_≡_, sym, ap, _∙_, subst}
+-- `find_long` finds the key in the first run or else in the late one: what the table of both finds. Assumes nothing.
+use mathlib.Core.Path.{sym, ap, _∙_, subst}
+use Prim.Native.Nat.{_<_}
 use native.Mathlib.Omega.{arith}
-use Prim.Native.Nat.{ℕ, _-_, _<_}
-use mathlib.Core.List.{List}
-use Rattle.table.specs.Rows.{Row, find}
+use Rattle.table.specs.Rows.{find}
 use Rattle.table.specs.Answers.{Within}
 use Rattle.runs.specs.Runs.{rowIn}
 use Rattle.runs.specs.Laws.{keeps-runs}
@@ -10,48 +10,47 @@ use Rattle.runs.specs.Parts.{both-first, both-late}
 use borrow.Author.Needs.{needs}
 use Rattle.runs.proofs.find_long.Statement.{statement}
 use Rattle.runs.proofs.find_long.Tie as tie
-use Rattle.runs.proofs.find_long.Reads as reads
-use Rattle.runs.proofs.find_long.Lts as lts
-use Rattle.runs.proofs.find_first.Reads as find-first-reads
-use Rattle.runs.proofs.find_late.Reads as find-late-reads
-use Rattle.runs.proofs.first_run.Reads as first-run-reads
 
--- src/lib.rt:61:9
 first-run-requires : tie.Need-first-run-requires
 first-run-requires c κs = search needs
 
--- src/lib.rt:62:11
 find-first-requires : tie.Need-find-first-requires
 find-first-requires c κs = search needs
 
--- src/lib.rt:63:19
 enum-known-i : tie.Need-enum-known-i
 enum-known-i c = search needs
 
--- src/lib.rt:64:27
 enum-told : tie.Need-enum-told
 enum-told c = search needs
 
--- src/lib.rt:64:27
 find-late-requires : tie.Need-find-late-requires
 find-late-requires c κs = search needs
 
--- src/lib.rt:56:1
 returns : tie.Need-returns
-returns c = let w : c .before .i .given .0 .0 < c .before .before .before .before .first-run .result = subst (Within (c .before .before .before .before .first-run .result)) (c .before .i .given .1) (c .before .before .before .find-first .ensures .0) in (
-      omega (arith, w, c .before .before .before .before .first-run .ensures),
+returns c =
+    let i = c .before .i .given in
+    let f = c .before .before .before in
+    let m = f .before .first-run in
+    let a = f .before .before .before .args in
+    let w : i .0 .0 < m .result = subst (Within (m .result)) (i .1) (f .find-first .ensures .0) in (
+      omega (arith, w, m .ensures),
       λ rows K.
-          let R = keeps-runs K (c .before .before .before .before .first-run .result) (c .before .before .before .before .first-run .ensures) in
-          both-first R ((c .before .before .before .before .before .before .args .k)) _ (ap (rowIn ((c .before .before .before .before .before .before .args .b .now))) (sym (c .before .i .given .1)) ∙ c .before .before .before .find-first .ensures .1 (K .first) (K .late) ((c .before .before .before .before .before .before .args .count)) R) ∙ ap (find ((c .before .before .before .before .before .before .args .k))) (sym (K .all)),
+          let R = keeps-runs K (m .result) (m .ensures) in
+          both-first R (a .k) _ (ap (rowIn (a .b .now)) (sym (i .1)) ∙ f .find-first .ensures .1 (K .first) (K .late) (a .count) R) ∙ ap (find (a .k)) (sym (K .all)),
     )
 
--- src/lib.rt:56:1
 returns-2 : tie.Need-returns-2
-returns-2 c = (c .find-late .ensures .0, λ rows K.
-    let R = keeps-runs K (c .before .before .before .before .first-run .result) (c .before .before .before .before .first-run .ensures) in
-    c .find-late .ensures .1 (K .first) (K .late) R
-    ∙ both-late R ((c .before .before .before .before .before .before .args .k)) (ap (rowIn ((c .before .before .before .before .before .before .args .b .now))) (sym (c .before .enum-told .given .1)) ∙ c .before .before .before .find-first .ensures .1 (K .first) (K .late) ((c .before .before .before .before .before .before .args .count)) R)
-    ∙ ap (find ((c .before .before .before .before .before .before .args .k))) (sym (K .all)))
+returns-2 c =
+    let f = c .before .before .before in
+    let m = f .before .first-run in
+    let a = f .before .before .before .args in (
+      c .find-late .ensures .0,
+      λ rows K.
+          let R = keeps-runs K (m .result) (m .ensures) in
+          c .find-late .ensures .1 (K .first) (K .late) R
+          ∙ both-late R (a .k) (ap (rowIn (a .b .now)) (sym (c .before .enum-told .given .1)) ∙ f .find-first .ensures .1 (K .first) (K .late) (a .count) R)
+          ∙ ap (find (a .k)) (sym (K .all)),
+    )
 
 pub find-long-spec : {M : Type 1} → statement M
 find-long-spec =

@@ -30,9 +30,9 @@ returns c =
     let m = f .before .before .first-run in
     let s = f .before .before .before .before in
     λ rows K.
-        let R = keeps-runs K (m .result) (m .ensures) in
-        sym (ap (λ (l : List Row). ltb (rank (s .args .lo) l) (rank (s .args .hi) l)) (K .all)
-        ∙ between-first R (s .args .lo) (s .args .hi) (s .pre .1) (sym (f .any-in .ensures (K .first) (first-holds R)) ∙ c .if1 .taken))
+    let R = keeps-runs K (m .result) (m .ensures) in
+    sym (ap (λ (l : List Row). ltb (rank (s .args .lo) l) (rank (s .args .hi) l)) (K .all)
+    ∙ between-first R (s .args .lo) (s .args .hi) (s .pre .1) (sym (f .any-in .ensures (K .first) (first-holds R)) ∙ c .if1 .taken))
 
 mul-any-in-2 : tie.Need-mul-any-in-2
 mul-any-in-2 c = search needs
@@ -61,10 +61,10 @@ returns-2 c =
     let m = f .before .before .first-run in
     let s = f .before .before .before .before in
     λ rows K.
-        let R = keeps-runs K (m .result) (m .ensures) in
-        c .any-in2 .ensures (K .late) (late-part R)
-        ∙ between-late R (s .args .lo) (s .args .hi) (s .pre .1) (sym (f .any-in .ensures (K .first) (first-holds R)) ∙ c .before .before .if1 .left)
-        ∙ ap (λ (l : List Row). ltb (rank (s .args .lo) l) (rank (s .args .hi) l)) (sym (K .all))
+    let R = keeps-runs K (m .result) (m .ensures) in
+    c .any-in2 .ensures (K .late) (late-part R)
+    ∙ between-late R (s .args .lo) (s .args .hi) (s .pre .1) (sym (f .any-in .ensures (K .first) (first-holds R)) ∙ c .before .before .if1 .left)
+    ∙ ap (λ (l : List Row). ltb (rank (s .args .lo) l) (rank (s .args .hi) l)) (sym (K .all))
 
 pub any-between-spec : {M : Type 1} → statement M
 any-between-spec =

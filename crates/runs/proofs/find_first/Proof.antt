@@ -18,7 +18,9 @@ key-at-requires : tie.Need-key-at-requires
 key-at-requires c κs = search needs
 
 returns-2 : tie.Need-returns-2
-returns-2 c = (tt, λ first late n R. sym (beyond-first R (c .before .before .before .before .args .k) (c .before .key-at .result) (omega (arith, c .before .before .if1 .left)) (c .before .key-at .ensures) (c .if2 .taken)))
+returns-2 c =
+    let k = c .before in
+    (tt, λ first late n R. sym (beyond-first R (k .before .before .before .args .k) (k .key-at .result) (omega (arith, k .before .if1 .left)) (k .key-at .ensures) (c .if2 .taken)))
 
 mul-find : tie.Need-mul-find
 mul-find c = search needs
@@ -30,7 +32,9 @@ find-requires : tie.Need-find-requires
 find-requires c κs = le-of-eq (sym (length-take-le _ _ (c .before .before .before .before .before .pre)))
 
 returns-3 : tie.Need-returns-3
-returns-3 c = (c .find .ensures .0, λ first late n R. found-part (c .before .before .before .before .before .before .args .b .now) (first-holds R) (row-first R) (c .before .before .before .before .before .before .args .k) (c .find .result) (c .find .ensures .0) (c .find .ensures .1 first (first-holds R)))
+returns-3 c =
+    let a = c .before .before .before .before .before .before .args in
+    (c .find .ensures .0, λ first late n R. found-part (a .b .now) (first-holds R) (row-first R) (a .k) (c .find .result) (c .find .ensures .0) (c .find .ensures .1 first (first-holds R)))
 
 pub find-first-spec : {M : Type 1} → statement M
 find-first-spec =

@@ -31,8 +31,8 @@ returns-3 c =
     let k = c .before .before .before in
     let s = k .before .before .before .before .before in
     λ first late R.
-        runs-order R (k .key-at .result) (c .before .key-at2 .result) (omega (arith, k .before .before .before .if1 .left)) (omega (arith, k .before .before .if2 .left, s .pre .1)) (k .key-at .ensures)
-        (c .before .key-at2 .ensures) (c .if3 .taken)
+    runs-order R (k .key-at .result) (c .before .key-at2 .result) (omega (arith, k .before .before .before .if1 .left)) (omega (arith, k .before .before .if2 .left, s .pre .1)) (k .key-at .ensures)
+    (c .before .key-at2 .ensures) (c .if3 .taken)
 
 slice-aggregate-put-words : tie.Need-slice-aggregate-put-words
 slice-aggregate-put-words c = search needs
@@ -87,8 +87,8 @@ returns-4 c =
     let s = p .before .before .before .before .before .before .before .before .before .before .before .before in
     let e : s .args .m + (s .args .count - s .args .m) ≡ s .args .count = omega (arith, s .pre .1) in
     λ first late R.
-        subst (λ (n : ℕ). Holds (insertAll late first) n (g .last .0)) e
-        (g .ensures .1 first late (late-cleared R (q .clear .last .0) (q .clear .ensures)) (late-copied R 384 _ (p .put-words .last .0) refl (p .put-words .ensures)) (R .apart))
+    subst (λ (n : ℕ). Holds (insertAll late first) n (g .last .0)) e
+    (g .ensures .1 first late (late-cleared R (q .clear .last .0) (q .clear .ensures)) (late-copied R 384 _ (p .put-words .last .0) refl (p .put-words .ensures)) (R .apart))
 
 pub join-spec : {M : Type 1} → statement M
 join-spec =

@@ -24,7 +24,7 @@ returns-2 c =
     let j = c .before .before .join in
     let m = c .before .before .before .before in
     λ rows K.
-        subst (λ (l : List Row). Holds l (m .before .before .before .args .count) (j .last .0)) (sym (K .all)) (j .ensures (K .first) (K .late) (keeps-runs K (m .first-run .result) (m .first-run .ensures)))
+    subst (λ (l : List Row). Holds l (m .before .before .before .args .count) (j .last .0)) (sym (K .all)) (j .ensures (K .first) (K .late) (keeps-runs K (m .first-run .result) (m .first-run .ensures)))
 
 pub settle-spec : {M : Type 1} → statement M
 settle-spec = tie.close (tie.spec returns first-run-requires join-requires same-length returns-2)

@@ -3,19 +3,19 @@ use mathlib.Core.Path.{_≡_, refl, sym, ap, _∙_, subst}
 use mathlib.Core.Logic.{_⊎_, inl, inr}
 use mathlib.Core.List.{List, [], _∷_, _++_, append-assoc, append-nil}
 use mathlib.Core.Option.{none}
-use Prim.Native.Nat.{ℕ, zero, suc, _+_, _-_, _*_, _≤_, _<_, zero-le}
+use Prim.Native.Nat.{ℕ, zero, suc, _+_, _-_, _*_, _≤_, _<_}
 use native.Mathlib.Omega.{arith}
 use native.Mathlib.Numerals.{add-one}
 use native.Mathlib.Nat.{le-of-suc-le-suc, not-suc-le-zero, le-of-eq, le-refl}
 use lib.ListN.{length, take, drop, getD, length-append, length-drop, take-append-drop}
 use lib.Seq.{slice, take-all, take-suc, drop-cons, take-at, drop-at, take-take, take-append-le, length-take-le, length-slice}
 use Rattle.words.specs.Word.{flatten}
-use Rattle.table.specs.Rows.{width, Row, keyOf, key, Table, rank, find, insert, insertAll, zeros, image, Wide, Holds}
-use Rattle.table.specs.Laws.{order, order₃, rank-lt, rank-ge, find-ne, ne-lt, table-down, insert-lt, insert-eq, insert-gt, insert-table}
+use Rattle.table.specs.Rows.{width, Row, keyOf, key, Table, rank, find, insert, insertAll, zeros, image, Holds}
+use Rattle.table.specs.Laws.{order, order₃, rank-lt, rank-ge, find-ne, ne-lt, table-down, insert-lt, insert-eq, insert-gt}
 use Rattle.table.specs.Each.{Each, each-insert, each-at, wide-each}
-use Rattle.table.specs.Images.{flatten-append, flatten-split, table-wide, length-flatten, length-flatten-take, image-append, take-rows, drop-rows, drop-tail, key-of-row}
+use Rattle.table.specs.Images.{flatten-append, flatten-split, table-wide, holds-full, length-flatten-take, image-append, take-rows, drop-rows, drop-tail, key-of-row}
 use Rattle.merge.specs.Merge.{Apart, Merging}
-use Rattle.merge.specs.Laws.{none-head, none-tail}
+use Rattle.merge.specs.Laws.{none-head, none-tail, all-table}
 
 -- every key is below k
 abbrev Below : ℕ → List Row → Type 0
@@ -115,19 +115,6 @@ unfolding Apart
 apart-at rows [] a j h = absurd (not-suc-le-zero h)
 apart-at rows (x ∷ xs) a zero h = a .0
 apart-at rows (x ∷ xs) a (suc j) h = apart-at rows xs (a .1) j (le-of-suc-le-suc h)
-
-all-table : (more rows : List Row) → Wide width more → Table 0 rows → Table 0 (insertAll more rows)
-unfolding insertAll
-all-table [] rows w t = t
-all-table (r ∷ rs) rows w t = all-table rs (insert r rows) (w .1) (insert-table 0 r rows t (w .0) zero-le)
-
--- the words of rows, and no more, are a buffer that holds them
-holds-full : (rows : List Row) (n : ℕ) (l : List ℕ) → Table 0 rows → length rows ≡ n → l ≡ flatten rows → Holds rows n l
-unfolding image
-holds-full rows n l t c e =
-    let z : length (flatten rows) - length rows * width ≡ 0 = omega (arith, length-flatten width rows (table-wide 0 rows t)) in
-    let whole : flatten rows ≡ flatten rows ++ zeros (length (flatten rows) - length rows * width) = rw z (sym (append-nil (flatten rows))) in
-    record { filled = record { words = rw e whole; count = c; wide = table-wide 0 rows t }; table = t }
 
 -- ---- the words
 

@@ -3,11 +3,11 @@ use mathlib.Core.Path.{_≡_, refl, sym, ap, _∙_}
 use mathlib.Core.Logic.{_⊎_, inl, inr}
 use mathlib.Core.List.{List, [], _∷_}
 use mathlib.Core.Option.{none}
-use Prim.Native.Nat.{ℕ, suc, _+_, _<_}
+use Prim.Native.Nat.{ℕ, suc, _+_, _<_, zero-le}
 use native.Mathlib.Omega.{arith}
 use lib.ListN.{length}
-use Rattle.table.specs.Rows.{Row, key, Table, find, insert, insertAll}
-use Rattle.table.specs.Laws.{order₃, find-eq, find-ne, insert-lt, insert-eq, insert-gt, find-insert-other}
+use Rattle.table.specs.Rows.{Row, width, key, Table, Wide, find, insert, insertAll}
+use Rattle.table.specs.Laws.{order₃, find-eq, find-ne, insert-lt, insert-eq, insert-gt, insert-table, find-insert-other}
 use Rattle.merge.specs.Merge.{Apart}
 
 -- ---- a key that is not found
@@ -127,3 +127,10 @@ count-from b rows (x ∷ xs) t a =
 
 pub count-more : (rows more : List Row) → Table 0 more → Apart more rows → length (insertAll more rows) ≡ length rows + length more
 count-more rows more t a = count-from 0 rows more t a
+
+-- ---- they stay in order
+
+pub all-table : (more rows : List Row) → Wide width more → Table 0 rows → Table 0 (insertAll more rows)
+unfolding insertAll
+all-table [] rows w t = t
+all-table (r ∷ rs) rows w t = all-table rs (insert r rows) (w .1) (insert-table 0 r rows t (w .0) zero-le)

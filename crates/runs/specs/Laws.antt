@@ -1,57 +1,75 @@
 -- What other crates use of a buffer that keeps a table. Assumes nothing.
-use mathlib.Core.Path.{_≡_, refl, sym, ap, _∙_, subst}
-use mathlib.Core.List.{List, [], _∷_, _++_}
-use Prim.Native.Nat.{ℕ, zero, suc, _+_, _-_, _*_, _≤_, _<_}
+use mathlib.Core.Path.{_≡_, sym, ap, _∙_, subst}
+use mathlib.Core.List.{List, _++_}
+use Prim.Native.Nat.{ℕ, _+_, _*_, _≤_, _<_}
 use native.Mathlib.Omega.{arith}
-use lib.ListN.{length, take, drop, getD}
-use lib.Seq.{getD-drop}
-use Rattle.words.specs.Word.{flatten}
-use mathlib.Core.Option.{some}
-use borrow.Author.Tests.{leb-true}
-use Rattle.table.specs.Rows.{Row, width, Table, Wide, Filled, Holds, rank, find, insert, remove, image}
-use Rattle.table.specs.Laws.{pick-true, insert-table}
-use Rattle.table.specs.Answers.{foundAt, Within, Inserted, Removed}
-use Rattle.table.specs.Buffers.{found-row, found-none, removed-holds}
-use Rattle.table.specs.declared.Found.{Found}
-use Rattle.table.specs.declared.Found.the-variants.{At, Nothing}
-use Rattle.table.specs.declared.Put.{Put}
+use lib.ListN.{length, take, drop}
+use lib.Seq.{take-at, drop-at}
+use mathlib.Core.Bool.{false}
+use lib.Dec.{ltb}
+use borrow.Author.Tests.{ltb-false}
+use Rattle.table.specs.Rows.{Row, width, Table, Holds, rank, insertAll, remove}
+use Rattle.table.specs.Answers.{Removed}
+use Rattle.table.specs.Buffers.{removed-holds}
 use Rattle.table.specs.Each.{Each}
-use Rattle.table.specs.Images.{holds-fits, holds-image}
-use Rattle.runs.specs.Runs.{rowOf, rowIn, Keeps, PutIn, TakenOut}
-use Rattle.runs.specs.Places.{rows-filled, row-filled, each-of}
+use Rattle.table.specs.Images.{holds-fits}
+use Rattle.runs.specs.Runs.{rowOf, firstRun, Runs, Keeps, TakenOut}
+use Rattle.runs.specs.Places.{rows-filled, each-of, each-all}
+use Rattle.runs.specs.Parts.{runs-count, row-first, row-late, both-count, both-table, holds-runs, parts-all, runs-short}
+use Rattle.runs.specs.Union.{remove-none}
 
 -- a table in one run
 pub holds-keeps : {rows : List Row} {n : ℕ} {buf : List ℕ} → Holds rows n buf → Keeps rows n buf
-holds-keeps H = record { holds = H }
+holds-keeps {rows} {n} H = record {
+  first = take (firstRun n) rows;
+  late = drop (firstRun n) rows;
+  runs = holds-runs H (firstRun n) (omega arith);
+  all = parts-all (firstRun n) (H .table);
+}
 
 module _ {rows : List Row} {n : ℕ} {buf : List ℕ} (K : Keeps rows n buf) where
   pub keeps-fits : n * width ≤ length buf
-  keeps-fits = holds-fits (K .holds .filled)
+  keeps-fits = holds-fits (K .runs .filled)
 
   pub keeps-count : length rows ≡ n
-  keeps-count = K .holds .filled .count
+  keeps-count = ap length (K .all) ∙ both-count (K .runs)
 
   pub keeps-table : Table 0 rows
-  keeps-table = K .holds .table
+  keeps-table = subst (Table 0) (sym (K .all)) (both-table (K .runs))
 
   -- what holds of the rows of the buffer holds of the table's
   pub keeps-each : (P : Row → Type 0) → ((i : ℕ) → i < n → P (rowOf buf i)) → Each P rows
-  keeps-each P f = each-of P rows (λ i h. subst P (row-filled (K .holds .filled) i (omega (arith, keeps-count))) (f i (omega (arith, keeps-count))))
+  keeps-each P f =
+      let m : ℕ = firstRun n in
+      let c : m + length (K .late) ≡ n = runs-count (K .runs) in
+      let first : Each P (K .first) = each-of P (K .first) (λ i h. subst P (row-first (K .runs) i (omega (arith, K .runs .split))) (f i (omega (arith, K .runs .split)))) in
+      let late : Each P (K .late) = each-of P (K .late) (λ i h. subst P (row-late (K .runs) i (omega arith)) (f (m + i) (omega arith))) in
+      subst (Each P) (sym (K .all)) (each-all P (K .late) (K .first) late first)
+
+  -- fewer rows than a block are in one run
+  pub keeps-short : n < 64 → Holds rows n buf
+  keeps-short h = runs-short (K .first) (K .late) (K .runs) (K .all) (omega arith)
 
 -- a buffer keeps one table
 pub keeps-same : {r₁ r₂ : List Row} {n : ℕ} {buf : List ℕ} → Keeps r₁ n buf → Keeps r₂ n buf → r₁ ≡ r₂
-keeps-same H K = sym (rows-filled (H .holds .filled)) ∙ rows-filled (K .holds .filled)
+keeps-same {n = n} H K =
+    let e : H .first ++ H .late ≡ K .first ++ K .late = sym (rows-filled (H .runs .filled)) ∙ rows-filled (K .runs .filled) in
+    let f : H .first ≡ K .first = sym (take-at (H .first) (H .late) (firstRun n) (H .runs .split)) ∙ ap (take (firstRun n)) e ∙ take-at (K .first) (K .late) (firstRun n) (K .runs .split) in
+    let l : H .late ≡ K .late = sym (drop-at (H .first) (H .late) (firstRun n) (H .runs .split)) ∙ ap (drop (firstRun n)) e ∙ drop-at (K .first) (K .late) (firstRun n) (K .runs .split) in
+    H .all ∙ ap (λ (x : List Row). insertAll (H .late) x) f ∙ ap (λ (x : List Row). insertAll x (K .first)) l ∙ sym (K .all)
 
--- provisional
-pub found-keeps : {rows : List Row} {n : ℕ} {buf : List ℕ} (K : Keeps rows n buf) (k : ℕ) (r : Found) → Within n r → r ≡ foundAt (rank k rows) (find k rows) → rowIn buf r ≡ find k rows
-found-keeps {rows} {n} {buf} K k (At i) w e = ap (λ (r : Row). some r) (row-filled (K .holds .filled) i w) ∙ sym (found-row rows n buf (K .holds) k i e)
-found-keeps {rows} {n} {buf} K k Nothing w e = sym (found-none rows n buf (K .holds) k e)
+-- ---- what the functions here use
 
-pub put-keeps : {rows : List Row} {n : ℕ} {buf after : List ℕ} {row : Row} {r : Put} → Keeps rows n buf → length row ≡ width → Inserted row rows (length buf) r after → PutIn (insert row rows) (length buf) r after
-put-keeps {rows} {n} {buf} {after} {row} K w I = record {
-  answer = I .answer;
-  after = λ h. holds-keeps (subst (Holds (insert row rows) (length (insert row rows))) (sym (I .after ∙ ap (image width (length buf)) (pick-true (insert row rows) rows h))) (holds-image (length buf) (insert row rows) (insert-table 0 row rows (K .holds .table) w (omega arith)) (leb-true _ _ h)));
-}
+-- its runs, with the number of rows in the first under the code's name
+pub keeps-runs : {rows : List Row} {n : ℕ} {buf : List ℕ} (K : Keeps rows n buf) (m : ℕ) → m ≡ firstRun n → Runs (K .first) (K .late) m n buf
+keeps-runs {n = n} {buf} K m e = subst (λ (j : ℕ). Runs (K .first) (K .late) j n buf) (sym e) (K .runs)
 
-pub out-keeps : {rows : List Row} {n : ℕ} {buf after : List ℕ} {m : ℕ} → Keeps rows n buf → (lo hi : ℕ) → lo ≤ hi → Removed lo hi rows (length buf) m after → TakenOut (remove lo hi rows) m after
-out-keeps {rows} {n} {buf} {after} {m} K lo hi h R = record { answer = R .answer; after = holds-keeps (removed-holds rows n buf (K .holds) lo hi m h after R) }
+-- rows taken out of one run
+pub out-holds : {rows : List Row} {n : ℕ} {buf after : List ℕ} {m : ℕ} → Holds rows n buf → (lo hi : ℕ) → lo ≤ hi → Removed lo hi rows (length buf) m after → TakenOut (remove lo hi rows) m after
+out-holds {rows} {n} {buf} {after} {m} H lo hi h R = record { answer = R .answer; after = holds-keeps (removed-holds rows n buf H lo hi m h after R) }
+
+-- none to take out
+pub out-none : {rows : List Row} {n : ℕ} {buf : List ℕ} → Keeps rows n buf → (lo hi : ℕ) → lo ≤ hi → ltb (rank lo rows) (rank hi rows) ≡ false → TakenOut (remove lo hi rows) n buf
+out-none {rows} {n} {buf} K lo hi h e =
+    let same : remove lo hi rows ≡ rows = remove-none 0 lo hi rows (keeps-table K) h (ltb-false (rank lo rows) (rank hi rows) e) in
+    record { answer = sym (ap length same ∙ keeps-count K); after = subst (λ (l : List Row). Keeps l n buf) (sym same) K }

@@ -1,15 +1,15 @@
 -- The rows of a filled buffer, one by one, by their places. By induction on the rows. Assumes nothing.
-use mathlib.Core.Path.{_≡_, refl, sym, ap, _∙_, subst}
+use mathlib.Core.Path.{_≡_, refl, sym, ap, _∙_}
 use mathlib.Core.List.{List, [], _∷_, _++_, append-assoc}
-use Prim.Native.Nat.{ℕ, zero, suc, _+_, _-_, _*_, _≤_, _<_}
+use Prim.Native.Nat.{ℕ, zero, suc, _+_, _-_, _*_, _<_}
 use native.Mathlib.Omega.{arith}
 use native.Mathlib.Nat.{le-of-suc-le-suc, not-suc-le-zero}
 use lib.ListN.{length, take, drop, getD}
 use lib.Seq.{getD-take, getD-drop, take-at, drop-at, drop-drop}
 use Rattle.words.specs.Word.{flatten}
-use Rattle.table.specs.Rows.{Row, width, Wide, Filled, rowsOf, zeros}
-use Rattle.table.specs.Each.{Each}
-use Rattle.table.specs.Images.{holds-words, holds-fits}
+use Rattle.table.specs.Rows.{Row, width, insert, insertAll, Wide, Filled, rowsOf, zeros}
+use Rattle.table.specs.Each.{Each, each-insert}
+use Rattle.table.specs.Images.{holds-words}
 use Rattle.runs.specs.Runs.{rowOf}
 
 -- word j of the row at a place
@@ -58,3 +58,8 @@ pub each-of : (P : Row → Type 0) (rows : List Row) → ((i : ℕ) → i < leng
 unfolding Each
 each-of P [] f = tt
 each-of P (r ∷ rs) f = (f 0 (omega arith), each-of P rs (λ i h. f (suc i) (omega arith)))
+
+pub each-all : (P : Row → Type 0) (more rows : List Row) → Each P more → Each P rows → Each P (insertAll more rows)
+unfolding Each insertAll
+each-all P [] rows a b = b
+each-all P (r ∷ rs) rows a b = each-all P rs (insert r rows) (a .1) (each-insert P r rows (a .0) b)

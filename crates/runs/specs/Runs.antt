@@ -1,12 +1,13 @@
 -- What a buffer keeps while rows are entered. These are definitions, for contracts inside and proofs.
 use mathlib.Core.Path.{_≡_}
 use mathlib.Core.Bool.{true}
-use mathlib.Core.List.{List}
+use mathlib.Core.List.{List, _++_}
 use mathlib.Core.Option.{Option, none, some}
-use Prim.Native.Nat.{ℕ, _*_}
+use Prim.Native.Nat.{ℕ, _-_, _*_, _%_}
 use lib.ListN.{length, take, drop}
 use Rattle.words.specs.Word.{pick}
-use Rattle.table.specs.Rows.{Row, width, Holds}
+use Rattle.table.specs.Rows.{Row, width, Table, insertAll, Filled}
+use Rattle.merge.specs.Merge.{Apart}
 use Rattle.table.specs.Answers.{Fits}
 use Rattle.table.specs.declared.Found.{Found}
 use Rattle.table.specs.declared.Found.the-variants.{At, Nothing}
@@ -22,9 +23,24 @@ abbrev pub rowIn : List ℕ → Found → Option Row
 rowIn buf Nothing = none
 rowIn buf (At i) = some (rowOf buf i)
 
--- the buffer keeps this table of n rows
+-- the buffer has two runs of rows, one after the other, each in order; they share no key, and m of the n rows are in the first
+pub record Runs (first late : List Row) (m n : ℕ) (buf : List ℕ) : Type 0 where
+  pub filled : Filled width (first ++ late) n buf
+  pub split : length first ≡ m
+  pub first-table : Table 0 first
+  pub late-table : Table 0 late
+  pub apart : Apart late first
+
+-- how many of n rows the first run has: whole blocks of 64, so that a new row moves at most 63
+abbrev pub firstRun : ℕ → ℕ
+firstRun n = n - n % 64
+
+-- the buffer keeps this table of n rows: that of both runs
 pub record Keeps (rows : List Row) (n : ℕ) (buf : List ℕ) : Type 0 where
-  pub holds : Holds rows n buf
+  pub first : List Row
+  pub late : List Row
+  pub runs : Runs first late (firstRun n) n buf
+  pub all : rows ≡ insertAll late first
 
 -- rows put in, which leave the rows `new`: Full only where these do not fit, and then the buffer has no meaning any more
 pub record PutIn (new : List Row) (n : ℕ) (r : Put) (buf : List ℕ) : Type 0 where

@@ -1,14 +1,70 @@
-// Rows that are entered in any order (provisional: one run).
+// Rows that are entered in any order. The buffer has two runs, one after the other: new rows go into the late one, so that at most 63 rows move, and
+// when it has 64 rows the two are made one.
 use table::Found;
 use table::Put;
+use table::WIDTH;
 ghost use mathlib.Core.Path.{_≡_};
 ghost use mathlib.Core.List.{List};
-ghost use Prim.Native.Nat.{_*_, _≤_};
+ghost use mathlib.Core.Option.{none};
+ghost use Prim.Native.Nat.{ℕ, _+_, _*_, _≤_};
 ghost use lib.ListN.{length};
 ghost use lib.Dec.{ltb};
-ghost use Rattle.table.specs.Rows.{Row, width, rank, find as findRow, insert as insertRow, remove as removeRows, Holds};
+ghost use Rattle.table.specs.Rows.{Row, width, key, rank, find as findRow, insert as insertRow, insertAll, remove as removeRows, Holds};
 ghost use Rattle.table.specs.Answers.{Within, Fit};
-ghost use Rattle.runs.specs.Runs.{rowIn, Keeps, PutIn, TakenOut};
+ghost use Rattle.runs.specs.Runs.{rowIn, Runs, firstRun, Keeps, PutIn, TakenOut};
+
+// How many rows are in the first run: whole blocks of 64.
+fn first_run(count: usize) -> usize
+    ensures { λ r. ⌜ r ≡ firstRun count ⌝ }
+{
+    count - count % 64
+}
+
+// The row with the key k in the first run.
+fn find_first(b: &[u32], m: usize, k: u64) -> Found
+    requires { ⌜ m * width ≤ length (now b) ⌝ }
+    ensures within { λ r. ⌜ Within m r ⌝ }
+    ensures found { λ r. ⌜ ((first late : List Row) (n : ℕ) → Runs first late m n (now (b .entry)) → rowIn (now (b .entry)) r ≡ findRow k first) ⌝ }
+{
+    if m == 0 {
+        return Found::Nothing;
+    }
+    if table::key_at(b, m - 1) < k {
+        return Found::Nothing;
+    }
+    table::find(&b[..m * WIDTH], m, k)
+}
+
+// The row with the key k in the late run.
+fn find_late(b: &[u32], m: usize, count: usize, k: u64) -> Found
+    requires { ⌜ (count * width ≤ length (now b)) × (m ≤ count) ⌝ }
+    ensures within { λ r. ⌜ Within count r ⌝ }
+    ensures found { λ r. ⌜ ((first late : List Row) → Runs first late m count (now (b .entry)) → rowIn (now (b .entry)) r ≡ findRow k late) ⌝ }
+{
+    if m == count {
+        return Found::Nothing;
+    }
+    if k < table::key_at(b, m) {
+        return Found::Nothing;
+    }
+    match table::find(&b[m * WIDTH..], count - m, k) {
+        Found::At(i) => Found::At(m + i),
+        Found::Nothing => Found::Nothing,
+    }
+}
+
+// The row with the key k in either run.
+fn find_long(b: &[u32], count: usize, k: u64) -> Found
+    requires { ⌜ count * width ≤ length (now b) ⌝ }
+    ensures within { λ r. ⌜ Within count r ⌝ }
+    ensures found { λ r. ⌜ ((rows : List Row) → Keeps rows count (now (b .entry)) → rowIn (now (b .entry)) r ≡ findRow k rows) ⌝ }
+{
+    let m = first_run(count);
+    match find_first(b, m, k) {
+        Found::At(i) => Found::At(i),
+        Found::Nothing => find_late(b, m, count, k),
+    }
+}
 
 // The row with the key k.
 pub fn find(b: &[u32], count: usize, k: u64) -> Found
@@ -16,7 +72,20 @@ pub fn find(b: &[u32], count: usize, k: u64) -> Found
     ensures within { λ r. ⌜ Within count r ⌝ }
     ensures found { λ r. ⌜ ((rows : List Row) → Keeps rows count (now (b .entry)) → rowIn (now (b .entry)) r ≡ findRow k rows) ⌝ }
 {
-    table::find(b, count, k)
+    if count < 64 {
+        return table::find(b, count, k);
+    }
+    find_long(b, count, k)
+}
+
+// Whether a table of rows in one run has one whose key is at least lo and below hi.
+fn any_in(b: &[u32], count: usize, lo: u64, hi: u64) -> bool
+    requires { ⌜ count * width ≤ length (now b) ⌝ }
+    ensures { λ r. ⌜ ((rows : List Row) → Holds rows count (now (b .entry)) → r ≡ ltb (rank lo rows) (rank hi rows)) ⌝ }
+{
+    let from = table::lower_bound(b, count, lo);
+    let to = table::lower_bound(b, count, hi);
+    from < to
 }
 
 // Whether there is a row whose key is at least lo and below hi.
@@ -24,18 +93,31 @@ pub fn any_between(b: &[u32], count: usize, lo: u64, hi: u64) -> bool
     requires { ⌜ (count * width ≤ length (now b)) × (lo ≤ hi) ⌝ }
     ensures { λ r. ⌜ ((rows : List Row) → Keeps rows count (now (b .entry)) → r ≡ ltb (rank lo rows) (rank hi rows)) ⌝ }
 {
-    let from = table::lower_bound(b, count, lo);
-    let to = table::lower_bound(b, count, hi);
-    from < to
+    let m = first_run(count);
+    if any_in(&b[..m * WIDTH], m, lo, hi) {
+        return true;
+    }
+    any_in(&b[m * WIDTH..], count - m, lo, hi)
 }
 
-// Puts the row in, in the place of the one with its key where there is one.
-pub fn insert(b: &mut [u32], count: usize, row: &[u32]) -> Put
-    requires { ⌜ (count * width ≤ length (now b)) × (length (now row) ≡ width) ⌝ }
-    ensures room { λ r. ⌜ Fit width (length (now (b .entry))) r ⌝ }
-    ensures after { λ r. ⌜ ((rows : List Row) → Keeps rows count (now (b .entry)) → PutIn (insertRow (now (row .entry)) rows) (length (now (b .entry))) r (now (b .exit))) ⌝ }
+// The late rows go among the first m.
+fn join(b: &mut [u32], m: usize, count: usize)
+    requires { ⌜ (count * width ≤ length (now b)) × (m ≤ count) × (count ≤ m + 64) ⌝ }
+    ensures { λ _. ⌜ ((first late : List Row) → Runs first late m count (now (b .entry)) → Holds (insertAll late first) count (now (b .exit))) ⌝ }
 {
-    table::insert(b, count, row)
+    if m == 0 {
+        return;
+    }
+    if m == count {
+        return;
+    }
+    if table::key_at(b, m - 1) < table::key_at(b, m) {
+        return;
+    }
+    let mut late = [0u32; 384];
+    table::put_words(&mut late, 0, &b[m * WIDTH..count * WIDTH]);
+    table::clear(b, m * WIDTH, count * WIDTH);
+    merge::merge(b, m, &late, count - m);
 }
 
 // All rows in one run, in order.
@@ -46,6 +128,50 @@ pub fn settle(b: &mut [u32], count: usize)
     if count < 64 {
         return;
     }
+    let m = first_run(count);
+    join(b, m, count);
+}
+
+// Puts the row into the late run, in the place of the one there with its key; none of the first m rows has it.
+fn put_late(b: &mut [u32], m: usize, count: usize, row: &[u32]) -> Put
+    requires { ⌜ (count * width ≤ length (now b)) × (m ≤ count) × (length (now row) ≡ width) ⌝ }
+    ensures room { λ r. ⌜ Fit width (length (now (b .entry))) r ⌝ }
+    ensures after { λ r. ⌜ ((rows : List Row) (K : Keeps rows count (now (b .entry))) → m ≡ firstRun count → findRow (key (now (row .entry))) (K .first) ≡ none
+        → PutIn (insertRow (now (row .entry)) rows) (length (now (b .entry))) r (now (b .exit))) ⌝ }
+{
+    let put = table::insert(&mut b[m * WIDTH..], count - m, row);
+    match put {
+        Put::Full => Put::Full,
+        Put::Done(c) => {
+            if c == 64 {
+                join(b, m, m + c);
+                return Put::Done(m + c);
+            }
+            Put::Done(m + c)
+        }
+    }
+}
+
+// Puts the row in, in the place of the one with its key where there is one.
+pub fn insert(b: &mut [u32], count: usize, row: &[u32]) -> Put
+    requires { ⌜ (count * width ≤ length (now b)) × (length (now row) ≡ width) ⌝ }
+    ensures room { λ r. ⌜ Fit width (length (now (b .entry))) r ⌝ }
+    ensures after { λ r. ⌜ ((rows : List Row) → Keeps rows count (now (b .entry)) → PutIn (insertRow (now (row .entry)) rows) (length (now (b .entry))) r (now (b .exit))) ⌝ }
+{
+    if count < 64 {
+        return put_late(b, 0, count, row);
+    }
+    let k = table::key_of(row[0], row[1]);
+    match find_long(b, count, k) {
+        Found::At(i) => {
+            table::put_words(b, i * WIDTH, row);
+            Put::Done(count)
+        }
+        Found::Nothing => {
+            let m = first_run(count);
+            put_late(b, m, count, row)
+        }
+    }
 }
 
 // Takes out the rows whose keys are at least lo and below hi, and returns how many are left.
@@ -54,5 +180,9 @@ pub fn remove(b: &mut [u32], count: usize, lo: u64, hi: u64) -> usize
     ensures fewer { λ r. ⌜ r ≤ count ⌝ }
     ensures after { λ r. ⌜ ((rows : List Row) → Keeps rows count (now (b .entry)) → TakenOut (removeRows lo hi rows) r (now (b .exit))) ⌝ }
 {
-    table::remove(b, count, lo, hi)
+    if any_between(b, count, lo, hi) {
+        settle(b, count);
+        return table::remove(b, count, lo, hi);
+    }
+    count
 }

@@ -1,6 +1,6 @@
 -- Laws of a buffer that holds rows of w words, for any w: its parts, its words, its tail. By the lengths of the rows. Assumes nothing.
 use mathlib.Core.Path.{_≡_, refl, sym, ap, _∙_}
-use mathlib.Core.List.{List, [], _∷_, _++_, append-assoc}
+use mathlib.Core.List.{List, [], _∷_, _++_, append-assoc, append-nil}
 use Prim.Native.Nat.{ℕ, zero, suc, _+_, _-_, _*_, _≤_, _<_}
 use native.Mathlib.Omega.{arith}
 use native.Mathlib.Nat.{le-of-suc-le-suc, not-suc-le-zero, le-of-eq, le-refl, suc-mul, zero-mul, mul-le-mul-right}
@@ -169,3 +169,11 @@ key-of-row {rows} {n} {buf} F i h =
 
 pub holds-image : (n : ℕ) (rows : List Row) → Table 0 rows → length rows * width ≤ n → Holds rows (length rows) (image width n rows)
 holds-image n rows t h = record { filled = filled-image width n rows (table-wide 0 rows t) h; table = t }
+
+-- the words of rows, and no more, are a buffer that holds them
+pub holds-full : (rows : List Row) (n : ℕ) (l : List ℕ) → Table 0 rows → length rows ≡ n → l ≡ flatten rows → Holds rows n l
+unfolding image
+holds-full rows n l t c e =
+    let z : length (flatten rows) - length rows * width ≡ 0 = omega (arith, length-flatten width rows (table-wide 0 rows t)) in
+    let whole : flatten rows ≡ flatten rows ++ zeros (length (flatten rows) - length rows * width) = rw z (sym (append-nil (flatten rows))) in
+    record { filled = record { words = rw e whole; count = c; wide = table-wide 0 rows t }; table = t }

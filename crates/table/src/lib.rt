@@ -96,7 +96,7 @@ pub fn put_words(b: &mut [u32], at: usize, row: &[u32])
 }
 
 // Zeros from `from` up to `to`.
-fn clear(b: &mut [u32], from: usize, to: usize)
+pub fn clear(b: &mut [u32], from: usize, to: usize)
     requires { ⌜ (from ≤ to) × (to ≤ length (now b)) ⌝ }
     ensures { λ _. ⌜ now (b .exit) ≡ take from (now (b .entry)) ++ (zeros (to - from) ++ drop to (now (b .entry))) ⌝ }
 {

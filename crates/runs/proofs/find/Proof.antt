@@ -1,6 +1,7 @@
--- provisional
-use mathlib.Core.Path.{_≡_, sym, ap, _∙_}
-use Rattle.runs.specs.Laws.{found-keeps}
+-- Fewer rows than a block are one run; else `find_long` finds it. Assumes nothing.
+use Rattle.runs.specs.Laws.{keeps-short}
+use Rattle.runs.specs.Places.{row-filled}
+use Rattle.runs.specs.Parts.{found-part}
 use borrow.Author.Needs.{needs}
 use Rattle.runs.proofs.find.Statement.{statement}
 use Rattle.runs.proofs.find.Tie as tie
@@ -9,7 +10,19 @@ find-requires : tie.Need-find-requires
 find-requires c κs = search needs
 
 returns : tie.Need-returns
-returns c = (c .find .ensures .0, λ rows K. found-keeps K _ (c .find .result) (c .find .ensures .0) (c .find .ensures .1 rows (K .holds)))
+returns c =
+    let a = c .before .before .before .args in (
+      c .find .ensures .0,
+      λ rows K.
+          let H = keeps-short K (c .before .if1 .taken) in
+          found-part (a .b .now) H (row-filled (H .filled)) (a .k) (c .find .result) (c .find .ensures .0) (c .find .ensures .1 rows H),
+    )
+
+find-long-requires : tie.Need-find-long-requires
+find-long-requires c κs = search needs
+
+returns-2 : tie.Need-returns-2
+returns-2 c = search needs
 
 pub find-spec : {M : Type 1} → statement M
-find-spec = tie.close (tie.spec find-requires returns)
+find-spec = tie.close (tie.spec find-requires returns find-long-requires returns-2)

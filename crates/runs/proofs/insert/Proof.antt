@@ -1,17 +1,115 @@
--- provisional
-use Rattle.runs.specs.Laws.{put-keeps}
+-- `insert` writes over the row with the key, or puts the row into the late run; each is a law of `Entering`. Assumes nothing.
+use mathlib.Core.Path.{_≡_, subst}
+use Prim.Native.Nat.{_<_}
+use native.Mathlib.Omega.{arith}
+use Rattle.table.specs.Rows.{key}
+use Rattle.table.specs.Answers.{Within}
+use Rattle.runs.specs.Parts.{none-first}
+use Rattle.runs.specs.Entering.{key-words, put-set, keeps-none}
 use borrow.Author.Needs.{needs}
 use Rattle.runs.proofs.insert.Statement.{statement}
 use Rattle.runs.proofs.insert.Tie as tie
 
-insert-requires : tie.Need-insert-requires
-insert-requires c κs = search needs
+-- the places: after `find_long`, and the function's start before it
+abbrev start : tie.After-find-long → tie.Start
+start c = c .before .before .before .before .before .before .before .before
+
+key-is : (c : tie.After-find-long) → c .before .before .key-of .result ≡ key (start c .args .row .now)
+key-is c = key-words (start c .args .row .now) (c .before .before .key-of .result) (c .before .before .key-of .ensures)
+
+-- the row that was found is one of the buffer's
+found : (c : tie.After-i) → c .i .given .0 .0 < start (c .before .before) .args .count
+found c = subst (Within (start (c .before .before) .args .count)) (c .i .given .1) (c .before .before .find-long .ensures .0)
+
+put-late-requires : tie.Need-put-late-requires
+put-late-requires c κs = search needs
 
 same-length : tie.Need-same-length
 same-length c = search needs
 
 returns : tie.Need-returns
-returns c = (c .before .before .insert .ensures .0, λ rows K. put-keeps K (c .before .before .before .before .before .before .pre .1) (c .before .before .insert .ensures .1 rows (K .holds)))
+returns c =
+    let p = c .before .before .put-late in
+    let t = c .before .before .before .before in
+    (p .ensures .0, λ rows K. p .ensures .1 rows K (omega (arith, t .if1 .taken)) (none-first (K .runs) (key (t .before .before .before .args .row .now)) (omega (arith, t .if1 .taken))))
+
+shared-slice-read-key-of : tie.Need-shared-slice-read-key-of
+shared-slice-read-key-of c = search needs
+
+shared-slice-read-key-of-2 : tie.Need-shared-slice-read-key-of-2
+shared-slice-read-key-of-2 c = search needs
+
+key-of-requires : tie.Need-key-of-requires
+key-of-requires c κs = search needs
+
+find-long-requires : tie.Need-find-long-requires
+find-long-requires c κs = search needs
+
+enum-known-i : tie.Need-enum-known-i
+enum-known-i c = search needs
+
+mul-put-words : tie.Need-mul-put-words
+mul-put-words c = omega (arith, found (c .before .before), start (c .before .before .before .before) .pre .0)
+
+put-words-requires : tie.Need-put-words-requires
+put-words-requires c κs = omega (arith, found (c .before .before), start (c .before .before .before .before) .pre .0, start (c .before .before .before .before) .pre .1)
+
+enum-told : tie.Need-enum-told
+enum-told c = search needs
+
+first-run-requires : tie.Need-first-run-requires
+first-run-requires c κs = search needs
+
+put-late-requires-2 : tie.Need-put-late-requires-2
+put-late-requires-2 c κs = search needs
+
+same-length-2 : tie.Need-same-length-2
+same-length-2 c = search needs
+
+returns-2 : tie.Need-returns-2
+returns-2 c =
+    let i = c .before .before .before .before .before .i .given in
+    let f = c .before .before .before .before .before .before .before in
+    let s = start f in
+    let p = c .before .before .put-words in (
+      s .pre .0,
+      λ rows K.
+          put-set K (s .args .row .now) (s .pre .1) _ (key-is f) (f .find-long .result) (i .0 .0) (i .1) (f .find-long .ensures .0) (f .find-long .ensures .1 rows K) (p .last .0) (p .ensures) (same-length-2 c),
+    )
+
+same-length-3 : tie.Need-same-length-3
+same-length-3 c = search needs
+
+returns-3 : tie.Need-returns-3
+returns-3 c =
+    let p = c .before .before .put-late2 in
+    let m = c .before .before .before .before in
+    let f = m .before .before .before in
+    let s = start f in (
+      p .ensures .0,
+      λ rows K.
+          p .ensures .1 rows K (m .first-run .ensures)
+          (keeps-none K (s .args .row .now) (s .pre .1) _ (key-is f) (f .find-long .result) (m .before .enum-told .given .1) (f .find-long .ensures .1 rows K)),
+    )
 
 pub insert-spec : {M : Type 1} → statement M
-insert-spec = tie.close (tie.spec insert-requires same-length returns)
+insert-spec =
+    tie.close
+    (tie.spec
+    put-late-requires
+    same-length
+    returns
+    shared-slice-read-key-of
+    shared-slice-read-key-of-2
+    key-of-requires
+    find-long-requires
+    enum-known-i
+    mul-put-words
+    put-words-requires
+    enum-told
+    first-run-requires
+    put-late-requires-2
+    same-length-2
+    returns-2
+    same-length-3
+    returns-3)

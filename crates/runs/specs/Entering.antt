@@ -1,0 +1,230 @@
+-- A row put into a buffer that has two runs: in the place of one with its key, or into the late run, which is joined to the first when it has a
+-- block's rows. Assumes nothing.
+use mathlib.Core.Path.{_≡_, refl, sym, ap, _∙_, subst}
+use mathlib.Core.Bool.{true, false}
+use mathlib.Core.Logic.{_⊎_, inl, inr}
+use mathlib.Core.List.{List, [], _∷_, _++_, append-assoc, append-nil}
+use mathlib.Core.Option.{Option, none, some}
+use Prim.Native.Nat.{ℕ, suc, _+_, _-_, _*_, _≤_, _<_, zero-le}
+use native.Mathlib.Omega.{arith}
+use native.Mathlib.Nat.{le-of-eq}
+use lib.ListN.{length, take, drop, getD, length-append, length-drop, drop-of-length-le}
+use lib.Seq.{length-take-le, take-append-le, drop-append-le, take-append-add, drop-append-add}
+use borrow.Author.Tests.{le-leb, lt-leb, leb-false}
+use Rattle.table.specs.Rows.{Row, width, keyOf, key, Wide, Table, Filled, Holds, find, insert, insertAll, image}
+use Rattle.table.specs.Laws.{order, pick-true, pick-false, insert-table}
+use Rattle.table.specs.Each.{find-key}
+use Rattle.table.specs.Answers.{Fits, Fit, Within, Inserted}
+use Rattle.table.specs.Images.{table-wide, take-rows, drop-rows, length-image, image-splice, holds-fits}
+use Rattle.table.specs.Buffers.{inserted-holds, room-full}
+use Rattle.table.specs.declared.Found.{Found}
+use Rattle.table.specs.declared.Found.the-variants.{At, Nothing}
+use Rattle.table.specs.declared.Put.{Put}
+use Rattle.table.specs.declared.Put.the-variants.{Full, Done}
+use Rattle.merge.specs.Laws.{count-more, insert-first, apart-insert}
+use Rattle.runs.specs.Runs.{rowOf, rowIn, firstRun, Runs, Keeps, PutIn}
+use Rattle.runs.specs.Union.{apart-none, none-apart, insert-late, insert-at, insert-at-length, insert-most, find-at, apart-other}
+use Rattle.runs.specs.Parts.{restOf, putRest, wide-append, runs-count, first-holds, late-part, row-first, row-late, both-first, runs-parts}
+use Rattle.runs.specs.Laws.{holds-keeps, keeps-fits, keeps-count, keeps-runs}
+
+-- ---- the words from a place on, lent and given back
+
+pub rest-back : (l tail : List ℕ) (at : ℕ) → putRest l at tail ≡ take at l ++ tail
+rest-back l tail at =
+    let gone : drop (length l - at) (drop at l) ≡ [] = drop-of-length-le (drop at l) {i = length l - at} (le-of-eq (length-drop at l)) in
+    ap (λ (x : List ℕ). take at l ++ (tail ++ x)) gone ∙ ap (λ (x : List ℕ). take at l ++ x) (append-nil tail)
+
+pub rest-length : (l : List ℕ) (at : ℕ) → length (restOf l at) ≡ length l - at
+rest-length l at = length-take-le (length l - at) (drop at l) (le-of-eq (sym (length-drop at l)))
+
+pub rest-kept : (l tail : List ℕ) (at : ℕ) → at ≤ length l → length tail ≡ length (restOf l at) → length (putRest l at tail) ≡ length l
+rest-kept l tail at h e = ap length (rest-back l tail at) ∙ length-append (take at l) tail ∙ omega (arith, length-take-le at l h, rest-length l at)
+
+-- what fits there fits
+pub rest-fit : (l : List ℕ) (m n : ℕ) → n * width ≤ length l → m ≤ n → (r : Put) (c : ℕ) → r ≡ Done c → Fit width (length (restOf l (m * width))) r → (m + c) * width ≤ length l
+rest-fit l m n h k r c q f =
+    let g : c * width ≤ length (restOf l (m * width)) = subst (Fit width (length (restOf l (m * width)))) q f in
+    omega (arith, rest-length l (m * width))
+
+-- ---- in the place of another
+
+-- the row at place i is another
+filled-set : {rows : List Row} {n : ℕ} {buf : List ℕ} → Filled width rows n buf → (i : ℕ) → i < n → (row : Row) (new : List Row) → take i rows ++ (row ∷ drop (suc i) rows) ≡ new
+    → Wide width new → length new ≡ n → Filled width new n (take (i * width) buf ++ (row ++ drop (i * width + width) buf))
+filled-set {rows} {n} {buf} F i h row new e w c =
+    let s : i * width + width ≡ suc i * width = omega arith in
+    let parts : length (take i rows) + length (drop (suc i) rows) + 1 ≡ n = omega (arith, length-take-le i rows (omega (arith, F .count)), length-drop (suc i) rows, F .count) in
+    let after : take (i * width) buf ++ (row ++ drop (i * width + width) buf) ≡ image width (length buf) new =
+    rw (s, take-rows F i (omega arith), drop-rows F (suc i) h) (image-splice width (length buf) n (take i rows) row (drop (suc i) rows) parts ∙ ap (image width (length buf)) e) in
+    let long : length (image width (length buf) new) ≡ length buf = length-image width (length buf) new w (omega (arith, holds-fits F)) in
+    record { words = after ∙ ap (λ (k : ℕ). image width k new) (sym (ap length after ∙ long)); count = c; wide = w }
+
+module _ {first late : List Row} {m n : ℕ} {buf : List ℕ} (R : Runs first late m n buf) (row : Row) (w : length row ≡ width) where
+  pub set-first : (i : ℕ) → i < m → key (getD first i []) ≡ key row → Runs (insert row first) late m n (take (i * width) buf ++ (row ++ drop (i * width + width) buf))
+  set-first i h e =
+      let l : i < length first = omega (arith, R .split) in
+      let c : length (insert row first) ≡ length first = insert-at-length 0 first row (R .first-table) i l e in
+      let t : Table 0 (insert row first) = insert-table 0 row first (R .first-table) w zero-le in
+      let p : take i (first ++ late) ++ (row ∷ drop (suc i) (first ++ late)) ≡ insert row first ++ late =
+      ap (λ (x : List Row). x ++ (row ∷ drop (suc i) (first ++ late))) (take-append-le i first late (omega arith))
+      ∙ ap (λ (x : List Row). take i first ++ (row ∷ x)) (drop-append-le (suc i) first late l)
+      ∙ sym (append-assoc (take i first) (row ∷ drop (suc i) first) late) ∙ ap (λ (x : List Row). x ++ late) (sym (insert-at 0 first row (R .first-table) i l e)) in
+      record {
+        filled = filled-set (R .filled) i (omega (arith, runs-count R)) row (insert row first ++ late) p (wide-append width (insert row first) late (table-wide 0 (insert row first) t) (table-wide 0 late (R .late-table))) (
+            length-append (insert row first) late ∙ omega (arith, R .split, runs-count R));
+        split = c ∙ R .split;
+        first-table = t;
+        late-table = R .late-table;
+        apart = apart-other first late row (apart-none (key row) first late (getD first i []) (R .apart) (find-at 0 (key row) first (R .first-table) i l e)) (R .apart);
+      }
+
+  pub set-late : (i : ℕ) → i < n - m → key (getD late i []) ≡ key row
+      → Runs first (insert row late) m n (take ((m + i) * width) buf ++ (row ++ drop ((m + i) * width + width) buf))
+  set-late i h e =
+      let l : i < length late = omega (arith, runs-count R) in
+      let c : length (insert row late) ≡ length late = insert-at-length 0 late row (R .late-table) i l e in
+      let t : Table 0 (insert row late) = insert-table 0 row late (R .late-table) w zero-le in
+      let q : m + i ≡ length first + i = omega (arith, R .split) in
+      let q′ : suc (m + i) ≡ length first + suc i = omega (arith, R .split) in
+      let p : take (m + i) (first ++ late) ++ (row ∷ drop (suc (m + i)) (first ++ late)) ≡ first ++ insert row late =
+      ap (λ (k : ℕ). take k (first ++ late) ++ (row ∷ drop (suc (m + i)) (first ++ late))) q
+      ∙ ap (λ (k : ℕ). take (length first + i) (first ++ late) ++ (row ∷ drop k (first ++ late))) q′
+      ∙ ap (λ (x : List Row). x ++ (row ∷ drop (length first + suc i) (first ++ late))) (take-append-add first late i)
+      ∙ ap (λ (x : List Row). (first ++ take i late) ++ (row ∷ x)) (drop-append-add first late (suc i))
+      ∙ append-assoc first (take i late) (row ∷ drop (suc i) late) ∙ ap (λ (x : List Row). first ++ x) (sym (insert-at 0 late row (R .late-table) i l e)) in
+      record {
+        filled = filled-set (R .filled) (m + i) (omega (arith, runs-count R)) row (first ++ insert row late) p (wide-append width first (insert row late) (table-wide 0 first (R .first-table)) (table-wide 0 (insert row late) t)) (
+            length-append first (insert row late) ∙ omega (arith, R .split, runs-count R));
+        split = R .split;
+        first-table = R .first-table;
+        late-table = t;
+        apart = apart-insert first late row (none-apart (key row) first late (getD late i []) (R .apart) (find-at 0 (key row) late (R .late-table) i l e)) (R .apart);
+      }
+
+-- ---- what `insert` answers
+
+-- the rows are in
+pub put-done : {new : List Row} {k : ℕ} {after : List ℕ} (n : ℕ) → length after ≡ n → Keeps new k after → PutIn new n (Done k) after
+put-done {new} {k} {after} n l K =
+    let c : length new ≡ k = keeps-count K in
+    let fit : Fits n new ≡ true = le-leb (length new * width) n (omega (arith, keeps-fits K)) in
+    record {
+      answer = ap Done (sym c) ∙ sym (pick-true (Done (length new)) Full fit);
+      after = λ _. subst (λ (j : ℕ). Keeps new j after) (sym c) K;
+    }
+
+-- they do not fit
+pub put-full : {new : List Row} (n : ℕ) (after : List ℕ) → n < length new * width → PutIn new n Full after
+put-full {new} n after h =
+    let no : Fits n new ≡ false = lt-leb (length new * width) n h in
+    record {
+      answer = sym (pick-false (Done (length new)) Full no);
+      after = λ (yes : Fits n new ≡ true).
+          let z : _≡_ {A = ℕ} 0 1 = cc in
+          absurd (omega arith);
+    }
+
+pub key-words : (row : Row) (k : ℕ) → k ≡ keyOf (getD row 0 0) (getD row 1 0) → k ≡ key row
+unfolding key
+key-words row k e = e
+
+module _ {rows : List Row} {n : ℕ} {buf : List ℕ} (K : Keeps rows n buf) (row : Row) (w : length row ≡ width) where
+  -- the row with its key is replaced, in either run
+  pub keeps-set : (i : ℕ) → i < n → some (rowOf buf i) ≡ find (key row) rows → Keeps (insert row rows) n (take (i * width) buf ++ (row ++ drop (i * width + width) buf))
+  keeps-set i h f = go (order i (firstRun n))
+    where
+      there : key (rowOf buf i) ≡ key row
+      there = find-key (key row) rows (rowOf buf i) (sym f)
+
+      go : (i < firstRun n) ⊎ (firstRun n ≤ i) → Keeps (insert row rows) n (take (i * width) buf ++ (row ++ drop (i * width + width) buf))
+      go (inl q) =
+          let e : key (getD (K .first) i []) ≡ key row = ap key (sym (row-first (K .runs) i q)) ∙ there in
+          let l : i < length (K .first) = omega (arith, K .runs .split) in
+          record {
+            first = insert row (K .first);
+            late = K .late;
+            runs = set-first (K .runs) row w i q e;
+            all = ap (insert row) (K .all)
+                ∙ insert-first (K .first) (K .late) row (apart-none (key row) (K .first) (K .late) (getD (K .first) i []) (K .runs .apart) (find-at 0 (key row) (K .first) (K .runs .first-table) i l e));
+          }
+      go (inr q) =
+          let j : ℕ = i - firstRun n in
+          let s : firstRun n + (i - firstRun n) ≡ i = omega arith in
+          let l : i - firstRun n < n - firstRun n = omega arith in
+          let e : key (getD (K .late) j []) ≡ key row = ap key (sym (row-late (K .runs) j l)) ∙ ap (λ (k : ℕ). key (rowOf buf k)) s ∙ there in
+          record {
+            first = K .first;
+            late = insert row (K .late);
+            runs = subst (λ (k : ℕ). Runs (K .first) (insert row (K .late)) (firstRun n) n (take (k * width) buf ++ (row ++ drop (k * width + width) buf))) s (set-late (K .runs) row w j l e);
+            all = ap (insert row) (K .all) ∙ insert-late 0 (K .first) (K .late) row (K .runs .late-table);
+          }
+
+  -- as the code finds it, and writes over it
+  pub put-set : (k : ℕ) → k ≡ key row → (r : Found) (i : ℕ) → r ≡ At i → Within n r → rowIn buf r ≡ find k rows → (after : List ℕ)
+      → after ≡ take (i * width) buf ++ (row ++ drop (i * width + length row) buf) → length after ≡ length buf → PutIn (insert row rows) (length buf) (Done n) after
+  put-set k e r i q h f after a l =
+      let g : some (rowOf buf i) ≡ find (key row) rows = ap (rowIn buf) (sym q) ∙ f ∙ ap (λ (j : ℕ). find j rows) e in
+      let b : take (i * width) buf ++ (row ++ drop (i * width + width) buf) ≡ after = ap (λ (j : ℕ). take (i * width) buf ++ (row ++ drop (i * width + j) buf)) (sym w) ∙ sym a in
+      put-done (length buf) l (subst (Keeps (insert row rows) n) b (keeps-set i (subst (Within n) q h) g))
+
+  -- no row has the key, so none of the first run has
+  pub keeps-none : (k : ℕ) → k ≡ key row → (r : Found) → r ≡ Nothing → rowIn buf r ≡ find k rows → find (key row) (K .first) ≡ none
+  keeps-none k e r q f = go (find (key row) (K .first)) refl
+    where
+      go : (o : Option Row) → find (key row) (K .first) ≡ o → find (key row) (K .first) ≡ none
+      go none p = p
+      go (some x) p =
+          let g : some x ≡ none =
+          both-first (K .runs) (key row) x (sym p) ∙ ap (find (key row)) (sym (K .all)) ∙ ap (λ (j : ℕ). find j rows) (sym e) ∙ sym f ∙ ap (rowIn buf) q in
+          let z : _≡_ {A = ℕ} 0 1 = cc in
+          absurd (omega arith)
+
+  -- ---- into the late run
+
+  module _ (m : ℕ) (e : m ≡ firstRun n) (f : find (key row) (K .first) ≡ none) where
+    new-is : insert row rows ≡ insertAll (insert row (K .late)) (K .first)
+    new-is = ap (insert row) (K .all) ∙ insert-late 0 (K .first) (K .late) row (K .runs .late-table)
+
+    new-count : length (insert row rows) ≡ m + length (insert row (K .late))
+    new-count =
+        ap length new-is
+        ∙ count-more (K .first) (insert row (K .late)) (insert-table 0 row (K .late) (K .runs .late-table) w zero-le) (apart-insert (K .first) (K .late) row f (K .runs .apart))
+        ∙ omega (arith, K .runs .split)
+
+    -- the late run was joined to the first
+    pub late-joined : (k : ℕ) (after : List ℕ) → length after ≡ length buf → Holds (insertAll (insert row (K .late)) (K .first)) k after → PutIn (insert row rows) (length buf) (Done k) after
+    late-joined k after l H = put-done (length buf) l (holds-keeps (subst (λ (x : List Row). Holds x k after) (sym new-is) H))
+
+    -- what was done to the late run, as a table of its own
+    module _ (r : Put) (tail : List ℕ) (I : (rs : List Row) → Holds rs (n - m) (restOf buf (m * width)) → Inserted row rs (length (restOf buf (m * width))) r tail) where
+      done : Inserted row (K .late) (length (restOf buf (m * width))) r tail
+      done = I (K .late) (late-part (keeps-runs K m e))
+
+      -- the row is in
+      pub late-runs : (c : ℕ) → r ≡ Done c → Runs (K .first) (insert row (K .late)) m (m + c) (putRest buf (m * width) tail)
+      late-runs c q =
+          let R : Runs (K .first) (K .late) m n buf = keeps-runs K m e in
+          let D : Inserted row (K .late) (length (restOf buf (m * width))) (Done c) tail = subst (λ (x : Put). Inserted row (K .late) (length (restOf buf (m * width))) x tail) q done in
+          let H : Holds (insert row (K .late)) c tail = inserted-holds (K .late) (n - m) (restOf buf (m * width)) (late-part R) row w c tail D in
+          subst (Runs (K .first) (insert row (K .late)) m (m + c)) (sym (rest-back buf tail (m * width))) (
+          runs-parts (first-holds R) (length-take-le (m * width) buf (omega (arith, keeps-fits K))) H (apart-insert (K .first) (K .late) row f (K .runs .apart)))
+
+      -- and fewer than a block are
+      pub late-kept : (c : ℕ) → r ≡ Done c → length (putRest buf (m * width) tail) ≡ length buf → (c ≡ 64 → ⊥) → PutIn (insert row rows) (length buf) (Done (m + c)) (putRest buf (m * width) tail)
+      late-kept c q l h =
+          let R : Runs (K .first) (insert row (K .late)) m (m + c) (putRest buf (m * width) tail) = late-runs c q in
+          let s : m ≡ firstRun (m + c) = omega (arith, h, insert-most row (K .late), runs-count R, runs-count (K .runs)) in
+          put-done (length buf) l (record {
+            first = K .first;
+            late = insert row (K .late);
+            runs = subst (λ (j : ℕ). Runs (K .first) (insert row (K .late)) j (m + c) (putRest buf (m * width) tail)) s R;
+            all = new-is;
+          })
+
+      -- it has no room
+      pub late-full : r ≡ Full → (after : List ℕ) → PutIn (insert row rows) (length buf) Full after
+      late-full q after =
+          let part : List ℕ = restOf buf (m * width) in
+          let D : Inserted row (K .late) (length part) Full tail = subst (λ (x : Put). Inserted row (K .late) (length part) x tail) q done in
+          let over : length part < length (insert row (K .late)) * width = leb-false (length (insert row (K .late)) * width) (length part) (room-full (length part) row (K .late) tail D) in
+          put-full (length buf) after (omega (arith, rest-length buf (m * width), new-count))

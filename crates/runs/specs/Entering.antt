@@ -22,7 +22,7 @@ use Rattle.table.specs.declared.Found.the-variants.{At, Nothing}
 use Rattle.table.specs.declared.Put.{Put}
 use Rattle.table.specs.declared.Put.the-variants.{Full, Done}
 use Rattle.merge.specs.Laws.{count-more, insert-first, apart-insert}
-use Rattle.runs.specs.Runs.{rowOf, rowIn, firstRun, Runs, Keeps, PutIn}
+use Rattle.runs.specs.Runs.{rowOf, rowIn, firstRun, Runs, Keeps, PutIn, Old}
 use Rattle.runs.specs.Union.{apart-none, none-apart, insert-late, insert-at, insert-at-length, insert-most, find-at, apart-other}
 use Rattle.runs.specs.Parts.{restOf, putRest, wide-append, runs-count, first-holds, late-part, row-first, row-late, both-first, runs-parts}
 use Rattle.runs.specs.Laws.{holds-keeps, keeps-fits, keeps-count, keeps-runs}
@@ -128,6 +128,18 @@ pub key-words : (row : Row) (k : ℕ) → k ≡ keyOf (getD row 0 0) (getD row 1
 unfolding key
 key-words row k e = e
 
+-- where no row has the key, none of the first run has
+pub old-is : {rows : List Row} {n : ℕ} {buf : List ℕ} (K : Keeps rows n buf) (k : ℕ) (r : Found) → rowIn buf r ≡ find k rows → Old k rows (K .first) buf r
+old-is K k (At i) f = f
+old-is {rows} K k Nothing f = go (find k (K .first)) refl
+  where
+    go : (o : Option Row) → find k (K .first) ≡ o → find k (K .first) ≡ none
+    go none p = p
+    go (some x) p =
+        let g : some x ≡ none = both-first (K .runs) k x (sym p) ∙ ap (find k) (sym (K .all)) ∙ sym f in
+        let z : _≡_ {A = ℕ} 0 1 = cc in
+        absurd (omega arith)
+
 module _ {rows : List Row} {n : ℕ} {buf : List ℕ} (K : Keeps rows n buf) (row : Row) (w : length row ≡ width) where
   -- the row with its key is replaced, in either run
   pub keeps-set : (i : ℕ) → i < n → some (rowOf buf i) ≡ find (key row) rows → Keeps (insert row rows) n (take (i * width) buf ++ (row ++ drop (i * width + width) buf))
@@ -160,24 +172,12 @@ module _ {rows : List Row} {n : ℕ} {buf : List ℕ} (K : Keeps rows n buf) (ro
           }
 
   -- as the code finds it, and writes over it
-  pub put-set : (k : ℕ) → k ≡ key row → (r : Found) (i : ℕ) → r ≡ At i → Within n r → rowIn buf r ≡ find k rows → (after : List ℕ)
+  pub put-set : (k : ℕ) → k ≡ key row → (r : Found) (i : ℕ) → r ≡ At i → Within n r → Old k rows (K .first) buf r → (after : List ℕ)
       → after ≡ take (i * width) buf ++ (row ++ drop (i * width + length row) buf) → length after ≡ length buf → PutIn (insert row rows) (length buf) (Done n) after
   put-set k e r i q h f after a l =
-      let g : some (rowOf buf i) ≡ find (key row) rows = ap (rowIn buf) (sym q) ∙ f ∙ ap (λ (j : ℕ). find j rows) e in
+      let g : some (rowOf buf i) ≡ find (key row) rows = subst (Old k rows (K .first) buf) q f ∙ ap (λ (j : ℕ). find j rows) e in
       let b : take (i * width) buf ++ (row ++ drop (i * width + width) buf) ≡ after = ap (λ (j : ℕ). take (i * width) buf ++ (row ++ drop (i * width + j) buf)) (sym w) ∙ sym a in
       put-done (length buf) l (subst (Keeps (insert row rows) n) b (keeps-set i (subst (Within n) q h) g))
-
-  -- no row has the key, so none of the first run has
-  pub keeps-none : (k : ℕ) → k ≡ key row → (r : Found) → r ≡ Nothing → rowIn buf r ≡ find k rows → find (key row) (K .first) ≡ none
-  keeps-none k e r q f = go (find (key row) (K .first)) refl
-    where
-      go : (o : Option Row) → find (key row) (K .first) ≡ o → find (key row) (K .first) ≡ none
-      go none p = p
-      go (some x) p =
-          let g : some x ≡ none =
-          both-first (K .runs) (key row) x (sym p) ∙ ap (find (key row)) (sym (K .all)) ∙ ap (λ (j : ℕ). find j rows) (sym e) ∙ sym f ∙ ap (rowIn buf) q in
-          let z : _≡_ {A = ℕ} 0 1 = cc in
-          absurd (omega arith)
 
   -- ---- into the late run
 

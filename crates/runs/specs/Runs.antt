@@ -6,7 +6,7 @@ use mathlib.Core.Option.{Option, none, some}
 use Prim.Native.Nat.{ℕ, _-_, _*_, _%_}
 use lib.ListN.{length, take, drop}
 use Rattle.words.specs.Word.{pick}
-use Rattle.table.specs.Rows.{Row, width, Table, insertAll, Filled}
+use Rattle.table.specs.Rows.{Row, width, Table, find, insertAll, Filled}
 use Rattle.merge.specs.Merge.{Apart}
 use Rattle.table.specs.Answers.{Fits}
 use Rattle.table.specs.declared.Found.{Found}
@@ -41,6 +41,11 @@ pub record Keeps (rows : List Row) (n : ℕ) (buf : List ℕ) : Type 0 where
   pub late : List Row
   pub runs : Runs first late (firstRun n) n buf
   pub all : rows ≡ insertAll late first
+
+-- a row that was found is the table's; where none was, the first run has none with the key
+abbrev pub Old : (k : ℕ) (rows first : List Row) → List ℕ → Found → Type 0
+Old k rows first buf Nothing = find k first ≡ none
+Old k rows first buf (At i) = some (rowOf buf i) ≡ find k rows
 
 -- rows put in, which leave the rows `new`: Full only where these do not fit, and then the buffer has no meaning any more
 pub record PutIn (new : List Row) (n : ℕ) (r : Put) (buf : List ℕ) : Type 0 where

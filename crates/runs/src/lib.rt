@@ -11,7 +11,7 @@ ghost use lib.ListN.{length};
 ghost use lib.Dec.{ltb};
 ghost use Rattle.table.specs.Rows.{Row, width, key, rank, find as findRow, insert as insertRow, insertAll, remove as removeRows, Holds};
 ghost use Rattle.table.specs.Answers.{Within, Fit};
-ghost use Rattle.runs.specs.Runs.{rowIn, Runs, firstRun, Keeps, PutIn, TakenOut};
+ghost use Rattle.runs.specs.Runs.{rowIn, Runs, firstRun, Keeps, Old, PutIn, TakenOut};
 
 // How many rows are in the first run: whole blocks of 64.
 fn first_run(count: usize) -> usize
@@ -152,17 +152,26 @@ fn put_late(b: &mut [u32], m: usize, count: usize, row: &[u32]) -> Put
     }
 }
 
+// The row with the key k, if there is a first run: where all rows are late, `put_late` looks for it.
+fn find_old(b: &[u32], count: usize, k: u64) -> Found
+    requires { ⌜ count * width ≤ length (now b) ⌝ }
+    ensures within { λ r. ⌜ Within count r ⌝ }
+    ensures found { λ r. ⌜ ((rows : List Row) (K : Keeps rows count (now (b .entry))) → Old k rows (K .first) (now (b .entry)) r) ⌝ }
+{
+    if count < 64 {
+        return Found::Nothing;
+    }
+    find_long(b, count, k)
+}
+
 // Puts the row in, in the place of the one with its key where there is one.
 pub fn insert(b: &mut [u32], count: usize, row: &[u32]) -> Put
     requires { ⌜ (count * width ≤ length (now b)) × (length (now row) ≡ width) ⌝ }
     ensures room { λ r. ⌜ Fit width (length (now (b .entry))) r ⌝ }
     ensures after { λ r. ⌜ ((rows : List Row) → Keeps rows count (now (b .entry)) → PutIn (insertRow (now (row .entry)) rows) (length (now (b .entry))) r (now (b .exit))) ⌝ }
 {
-    if count < 64 {
-        return put_late(b, 0, count, row);
-    }
     let k = table::key_of(row[0], row[1]);
-    match find_long(b, count, k) {
+    match find_old(b, count, k) {
         Found::At(i) => {
             table::put_words(b, i * WIDTH, row);
             Put::Done(count)

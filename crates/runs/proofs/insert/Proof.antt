@@ -1,37 +1,26 @@
 -- `insert` writes over the row with the key, or puts the row into the late run; each is a law of `Entering`. Assumes nothing.
 use mathlib.Core.Path.{_≡_, subst}
-use Prim.Native.Nat.{_<_}
+use mathlib.Core.Option.{none}
+use Prim.Native.Nat.{ℕ, _<_}
 use native.Mathlib.Omega.{arith}
-use Rattle.table.specs.Rows.{key}
+use Rattle.table.specs.Rows.{key, find}
 use Rattle.table.specs.Answers.{Within}
-use Rattle.runs.specs.Parts.{none-first}
-use Rattle.runs.specs.Entering.{key-words, put-set, keeps-none}
+use Rattle.runs.specs.Runs.{Old}
+use Rattle.runs.specs.Entering.{key-words, put-set}
 use borrow.Author.Needs.{needs}
 use Rattle.runs.proofs.insert.Statement.{statement}
 use Rattle.runs.proofs.insert.Tie as tie
 
--- the places: after `find_long`, and the function's start before it
-abbrev start : tie.After-find-long → tie.Start
-start c = c .before .before .before .before .before .before .before .before
+-- the places: after `find_old`, and the function's start before it
+abbrev start : tie.After-find-old → tie.Start
+start c = c .before .before .before .before .before .before .before
 
-key-is : (c : tie.After-find-long) → c .before .before .key-of .result ≡ key (start c .args .row .now)
+key-is : (c : tie.After-find-old) → c .before .before .key-of .result ≡ key (start c .args .row .now)
 key-is c = key-words (start c .args .row .now) (c .before .before .key-of .result) (c .before .before .key-of .ensures)
 
 -- the row that was found is one of the buffer's
 found : (c : tie.After-i) → c .i .given .0 .0 < start (c .before .before) .args .count
-found c = subst (Within (start (c .before .before) .args .count)) (c .i .given .1) (c .before .before .find-long .ensures .0)
-
-put-late-requires : tie.Need-put-late-requires
-put-late-requires c κs = search needs
-
-same-length : tie.Need-same-length
-same-length c = search needs
-
-returns : tie.Need-returns
-returns c =
-    let p = c .before .before .put-late in
-    let t = c .before .before .before .before in
-    (p .ensures .0, λ rows K. p .ensures .1 rows K (omega (arith, t .if1 .taken)) (none-first (K .runs) (key (t .before .before .before .args .row .now)) (omega (arith, t .if1 .taken))))
+found c = subst (Within (start (c .before .before) .args .count)) (c .i .given .1) (c .before .before .find-old .ensures .0)
 
 shared-slice-read-key-of : tie.Need-shared-slice-read-key-of
 shared-slice-read-key-of c = search needs
@@ -42,8 +31,8 @@ shared-slice-read-key-of-2 c = search needs
 key-of-requires : tie.Need-key-of-requires
 key-of-requires c κs = search needs
 
-find-long-requires : tie.Need-find-long-requires
-find-long-requires c κs = search needs
+find-old-requires : tie.Need-find-old-requires
+find-old-requires c κs = search needs
 
 enum-known-i : tie.Need-enum-known-i
 enum-known-i c = search needs
@@ -60,56 +49,52 @@ enum-told c = search needs
 first-run-requires : tie.Need-first-run-requires
 first-run-requires c κs = search needs
 
-put-late-requires-2 : tie.Need-put-late-requires-2
-put-late-requires-2 c κs = search needs
+put-late-requires : tie.Need-put-late-requires
+put-late-requires c κs = search needs
+
+same-length : tie.Need-same-length
+same-length c = search needs
+
+returns : tie.Need-returns
+returns c =
+    let i = c .before .before .before .before .before .i .given in
+    let f = c .before .before .before .before .before .before .before in
+    let s = start f in
+    let p = c .before .before .put-words in (
+      s .pre .0,
+      λ rows K. put-set K (s .args .row .now) (s .pre .1) _ (key-is f) (f .find-old .result) (i .0 .0) (i .1) (f .find-old .ensures .0) (f .find-old .ensures .1 rows K) (p .last .0) (p .ensures) (same-length c),
+    )
 
 same-length-2 : tie.Need-same-length-2
 same-length-2 c = search needs
 
 returns-2 : tie.Need-returns-2
 returns-2 c =
-    let i = c .before .before .before .before .before .i .given in
-    let f = c .before .before .before .before .before .before .before in
-    let s = start f in
-    let p = c .before .before .put-words in (
-      s .pre .0,
-      λ rows K.
-          put-set K (s .args .row .now) (s .pre .1) _ (key-is f) (f .find-long .result) (i .0 .0) (i .1) (f .find-long .ensures .0) (f .find-long .ensures .1 rows K) (p .last .0) (p .ensures) (same-length-2 c),
-    )
-
-same-length-3 : tie.Need-same-length-3
-same-length-3 c = search needs
-
-returns-3 : tie.Need-returns-3
-returns-3 c =
-    let p = c .before .before .put-late2 in
+    let p = c .before .before .put-late in
     let m = c .before .before .before .before in
     let f = m .before .before .before in
     let s = start f in (
       p .ensures .0,
       λ rows K.
-          p .ensures .1 rows K (m .first-run .ensures)
-          (keeps-none K (s .args .row .now) (s .pre .1) _ (key-is f) (f .find-long .result) (m .before .enum-told .given .1) (f .find-long .ensures .1 rows K)),
+          let none-there : find (f .before .before .key-of .result) (K .first) ≡ none = subst (Old (f .before .before .key-of .result) rows (K .first) (s .args .b .now)) (m .before .enum-told .given .1) (f .find-old .ensures .1 rows K) in
+          p .ensures .1 rows K (m .first-run .ensures) (subst (λ (k : ℕ). find k (K .first) ≡ none) (key-is f) none-there),
     )
 
 pub insert-spec : {M : Type 1} → statement M
 insert-spec =
     tie.close
     (tie.spec
-    put-late-requires
-    same-length
-    returns
     shared-slice-read-key-of
     shared-slice-read-key-of-2
     key-of-requires
-    find-long-requires
+    find-old-requires
     enum-known-i
     mul-put-words
     put-words-requires
     enum-told
     first-run-requires
-    put-late-requires-2
+    put-late-requires
+    same-length
+    returns
     same-length-2
-    returns-2
-    same-length-3
-    returns-3)
+    returns-2)

@@ -1,4 +1,4 @@
-// Rows behind C functions, so that a benchmark can call them. They promise safety alone: what they do is `table`'s contract.
+// Rows behind C functions, so that a benchmark can call them. They promise safety alone: what they do is the contract of `runs`.
 use table::Found;
 use table::Put;
 ghost use mathlib.Core.Path.{_≡_};
@@ -24,7 +24,7 @@ pub extern "C" fn measure_insert(b: &mut [u32], count: usize, row: &[u32]) -> us
     if row.len() != table::WIDTH {
         return NOTHING;
     }
-    match table::insert(b, count, row) {
+    match runs::insert(b, count, row) {
         Put::Full => NOTHING,
         Put::Done(n) => n,
     }
@@ -36,7 +36,7 @@ pub extern "C" fn measure_find(b: &[u32], count: usize, k: u64) -> usize {
     if !fits(b.len(), count) {
         return NOTHING;
     }
-    match table::find(b, count, k) {
+    match runs::find(b, count, k) {
         Found::At(i) => i,
         Found::Nothing => NOTHING,
     }

@@ -6,7 +6,7 @@ use Rattle.measure.proofs.measure_find.Tie as tie
 use Rattle.measure.proofs.measure_find.Reads as reads
 use Rattle.measure.proofs.measure_find.Lts as lts
 use Rattle.measure.proofs.fits.Reads as fits-reads
-use Rattle.table.proofs.find.Reads as find-reads
+use Rattle.runs.proofs.find.Reads as find-reads
 
 -- src/lib.rt:36:9
 fits-requires : tie.Need-fits-requires

@@ -6,7 +6,7 @@ use Rattle.measure.proofs.measure_insert.Tie as tie
 use Rattle.measure.proofs.measure_insert.Reads as reads
 use Rattle.measure.proofs.measure_insert.Lts as lts
 use Rattle.measure.proofs.fits.Reads as fits-reads
-use Rattle.table.proofs.insert.Reads as insert-reads
+use Rattle.runs.proofs.insert.Reads as insert-reads
 
 -- src/lib.rt:21:9
 fits-requires : tie.Need-fits-requires

@@ -248,7 +248,104 @@ pub fn sets() -> Vec<Set> {
         sets.push(set(&name("rising"), one(arrays(0..rows))));
         sets.push(set(&name("falling"), one(arrays((0..rows).rev()))));
     }
+    for (name, count, program) in others() {
+        let name = |order| format!("{name} {order}");
+        let rising: Vec<usize> = (0..count).collect();
+        let falling: Vec<usize> = (0..count).rev().collect();
+        sets.push(set(&name("rising"), one(program(&rising))));
+        sets.push(set(&name("falling"), one(program(&falling))));
+    }
     sets
+}
+
+/// What makes the statements for the numbers that it is given, in their order.
+type Program = fn(&[usize]) -> Vec<Stmt>;
+
+/// Many rows of other kinds, and of two kinds in turn, where each moves those of the other: a name, how many, and their statements.
+fn others() -> Vec<(&'static str, usize, Program)> {
+    vec![
+        ("SUBs, 1,000", 1_000, |order| {
+            order.iter().map(|n| at(1, sub(*n, vec![]))).collect()
+        }),
+        ("a line number in each of 1,000 SUBs", 1_000, |order| {
+            let body = |n: &usize| vec![at(1, StmtKind::Label(*n as u32))];
+            order.iter().map(|n| at(1, sub(*n, body(n)))).collect()
+        }),
+        ("1,000 line numbers and labels in turn", 1_000, |order| {
+            in_turn(order, |n| StmtKind::LabelName(name_of(n)))
+        }),
+        ("1,000 line numbers and constants in turn", 1_000, |order| {
+            in_turn(order, |n| StmtKind::Const {
+                name: name_of(n),
+                value: Expr::Literal(Literal::Integer(n as i64)),
+            })
+        }),
+        (
+            "2,000 line numbers and OPTION BASE in turn",
+            2_000,
+            |order| in_turn(order, |_| StmtKind::OptionBase(1)),
+        ),
+        ("1,300 line numbers, each twice", 1_300, |order| {
+            in_turn(order, |n| StmtKind::Label(n as u32))
+        }),
+        ("DIM SHARED, 1,000 names of two rows", 1_000, |order| {
+            let decls = order.iter().map(|n| scalar(name_of(*n))).collect();
+            let shared = true;
+            vec![at(1, StmtKind::Dim { decls, shared })]
+        }),
+        ("SHARED, 1,000 names in each of two SUBs", 1_000, |order| {
+            let item = |n: &usize| ScopeItem {
+                name: name_of(*n),
+                array: false,
+                ty: None,
+            };
+            let items = || vec![at(1, StmtKind::Shared(order.iter().map(item).collect()))];
+            vec![at(1, sub(1_000, items())), at(2, sub(1_001, items()))]
+        }),
+        ("TYPEs, 480 of three fields", 480, |order| {
+            order.iter().map(|n| at(1, record(*n))).collect()
+        }),
+    ]
+}
+
+/// A line number and another statement for each number.
+fn in_turn(order: &[usize], other: impl Fn(usize) -> StmtKind) -> Vec<Stmt> {
+    let both = |n: &usize| [at(*n, StmtKind::Label(*n as u32)), at(*n, other(*n))];
+    order.iter().flat_map(both).collect()
+}
+
+fn name_of(n: usize) -> String {
+    format!("A{n:04}")
+}
+
+fn sub(n: usize, body: Vec<Stmt>) -> StmtKind {
+    StmtKind::Sub {
+        name: name_of(n),
+        params: vec![],
+        body,
+        is_static: false,
+    }
+}
+
+/// A variable AS INTEGER.
+fn scalar(name: String) -> Declarator {
+    Declarator {
+        name,
+        dimensions: None,
+        lowers: vec![],
+        ty: Some(TypeRef::Integer),
+    }
+}
+
+fn record(n: usize) -> StmtKind {
+    let field = |name: &str| FieldDecl {
+        name: name.into(),
+        ty: TypeRef::Integer,
+    };
+    StmtKind::TypeDef {
+        name: name_of(n),
+        fields: vec![field("X"), field("Y"), field("Z")],
+    }
 }
 
 /// A number below a million with its comma.
@@ -273,7 +370,7 @@ fn line_numbers(order: impl Iterator<Item = usize>) -> Vec<Stmt> {
 
 /// One DIM with a row for each array, in this order.
 fn arrays(order: impl Iterator<Item = usize>) -> Vec<Stmt> {
-    let decls = order.map(|n| array(format!("A{n:04}"))).collect();
+    let decls = order.map(|n| array(name_of(n))).collect();
     let shared = false;
     vec![at(1, StmtKind::Dim { decls, shared })]
 }

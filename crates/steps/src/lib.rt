@@ -53,9 +53,10 @@ pub fn settle(b: &mut [u32], s: Counts)
     requires { ⌜ s .rows * width ≤ length (now b) ⌝ }
     ensures { λ _. ⌜ Settles s (now (b .entry)) (now (b .exit)) ⌝ }
 {
-    if s.stop == 0 {
-        runs::settle(b, s.rows);
+    if s.stop != 0 {
+        return;
     }
+    runs::settle(b, s.rows);
 }
 
 // The end of a run: its rows are put in order; one that was stopped leaves zeros to the last word of both buffers.

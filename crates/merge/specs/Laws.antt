@@ -73,18 +73,6 @@ insert-first rows [] r f = refl
 insert-first rows (x ∷ xs) r f =
     insert-first (insert x rows) xs r (none-tail (key r) x xs f) ∙ ap (insertAll xs) (insert-swap r x rows (none-head (key r) x xs f))
 
--- after them all is among them
-pub insert-more : (rows more : List Row) (r : Row) → find (key r) more ≡ none → insert r (insertAll more rows) ≡ insertAll (insert r more) rows
-unfolding insertAll insert
-insert-more rows [] r f = refl
-insert-more rows (x ∷ xs) r f = go (order₃ (key x) (key r)) (insert-more (insert x rows) xs r (none-tail (key r) x xs f))
-  where
-    go : (key x < key r) ⊎ ((key x ≡ key r) ⊎ (key r < key x)) → insert r (insertAll xs (insert x rows)) ≡ insertAll (insert r xs) (insert x rows)
-        → insert r (insertAll (x ∷ xs) rows) ≡ insertAll (insert r (x ∷ xs)) rows
-    go (inl q) ih = rw (insert-lt r x xs q) ih
-    go (inr (inl q)) ih = absurd (none-head (key r) x xs f q)
-    go (inr (inr q)) ih = rw (insert-gt r x xs q) (insert-first rows (x ∷ xs) r f)
-
 -- ---- tables that share no key
 
 pub apart-insert : (rows more : List Row) (r : Row) → find (key r) rows ≡ none → Apart more rows → Apart (insert r more) rows

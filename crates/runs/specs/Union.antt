@@ -14,7 +14,7 @@ use borrow.Author.Tests.{eqb-true, eqb-false}
 use Rattle.table.specs.Rows.{Row, key, Table, rank, find, insert, insertAll, remove}
 use Rattle.table.specs.Laws.{order, order₃, table-above, rank-lt, rank-ge, rank-high, rank-mono, rank-above, find-eq, find-ne, find-above, find-hit, find-miss, insert-lt, insert-eq, insert-gt, insert-old, find-insert-same, find-insert-other, remove-splice}
 use Rattle.merge.specs.Merge.{Apart}
-use Rattle.merge.specs.Laws.{none-head, none-tail, less, insert-first, insert-more, insert-apart}
+use Rattle.merge.specs.Laws.{none-head, none-tail, less, insert-first, insert-apart}
 
 -- ---- what is found
 
@@ -176,7 +176,7 @@ insert-late b rows (x ∷ xs) r t = go (order₃ (key x) (key r)) (insert-late (
     go (inl q) ih = rw (insert-lt r x xs q) ih
     go (inr (inl q)) ih =
         rw (insert-eq r x xs q) (insert-first (insert x rows) xs r (find-above (key r) xs (t .2) (omega arith)) ∙ ap (insertAll xs) (insert-over r x rows q))
-    go (inr (inr q)) ih = insert-more rows (x ∷ xs) r (find-below b (key r) (x ∷ xs) t q)
+    go (inr (inr q)) ih = rw (insert-gt r x xs q) (insert-first rows (x ∷ xs) r (find-below b (key r) (x ∷ xs) t q))
 
 -- into the other, where none of these has its key
 pub apart-other : (rows more : List Row) (r : Row) → find (key r) more ≡ none → Apart more rows → Apart more (insert r rows)

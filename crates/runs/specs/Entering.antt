@@ -10,20 +10,21 @@ use native.Mathlib.Omega.{arith}
 use native.Mathlib.Nat.{le-of-eq}
 use lib.ListN.{length, take, drop, getD, length-append, length-drop, drop-of-length-le}
 use lib.Seq.{length-take-le, take-append-le, drop-append-le, take-append-add, drop-append-add}
-use borrow.Author.Tests.{le-leb, lt-leb, leb-false}
-use Rattle.table.specs.Rows.{Row, width, keyOf, key, Wide, Table, Filled, Holds, find, insert, insertAll, image}
-use Rattle.table.specs.Laws.{order, pick-true, pick-false, insert-table}
+use lib.Dec.{ltb}
+use borrow.Author.Tests.{le-leb, lt-leb, leb-false, ltb-false}
+use Rattle.table.specs.Rows.{Row, width, keyOf, key, Wide, Table, Filled, Holds, find, insert, insertAll, image, rank, remove}
+use Rattle.table.specs.Laws.{order, pick-true, pick-false, insert-table, remove-len}
 use Rattle.table.specs.Each.{find-key}
-use Rattle.table.specs.Answers.{Fits, Fit, Within, Inserted}
+use Rattle.table.specs.Answers.{Fits, Fit, Within, Inserted, Removed}
 use Rattle.table.specs.Images.{table-wide, take-rows, drop-rows, length-image, image-splice, holds-fits}
-use Rattle.table.specs.Buffers.{inserted-holds, room-full}
+use Rattle.table.specs.Buffers.{inserted-holds, room-full, removed-holds}
 use Rattle.table.specs.declared.Found.{Found}
 use Rattle.table.specs.declared.Found.the-variants.{At, Nothing}
 use Rattle.table.specs.declared.Put.{Put}
 use Rattle.table.specs.declared.Put.the-variants.{Full, Done}
 use Rattle.merge.specs.Laws.{count-more, insert-first, apart-insert}
-use Rattle.runs.specs.Runs.{rowOf, rowIn, firstRun, Runs, Keeps, PutIn, Old}
-use Rattle.runs.specs.Union.{apart-none, none-apart, insert-late, insert-at, insert-at-length, insert-most, find-at, apart-other}
+use Rattle.runs.specs.Runs.{rowOf, rowIn, firstRun, Runs, Keeps, PutIn, Old, TakenOut}
+use Rattle.runs.specs.Union.{apart-none, none-apart, insert-late, insert-at, insert-at-length, insert-most, find-at, apart-other, remove-none, remove-both, apart-remove}
 use Rattle.runs.specs.Parts.{restOf, putRest, wide-append, runs-count, first-holds, late-part, row-first, row-late, both-first, runs-parts}
 use Rattle.runs.specs.Laws.{holds-keeps, keeps-fits, keeps-count, keeps-runs}
 
@@ -228,3 +229,26 @@ module _ {rows : List Row} {n : ℕ} {buf : List ℕ} (K : Keeps rows n buf) (ro
           let D : Inserted row (K .late) (length part) Full tail = subst (λ (x : Put). Inserted row (K .late) (length part) x tail) q done in
           let over : length part < length (insert row (K .late)) * width = leb-false (length (insert row (K .late)) * width) (length part) (room-full (length part) row (K .late) tail D) in
           put-full (length buf) after (omega (arith, rest-length buf (m * width), new-count))
+
+-- ---- taken out of the late run, where the first has no such row
+
+pub out-late : {rows : List Row} {n : ℕ} {buf : List ℕ} (K : Keeps rows n buf) (m : ℕ) → m ≡ firstRun n → (lo hi : ℕ) → lo ≤ hi → ltb (rank lo (K .first)) (rank hi (K .first)) ≡ false
+    → (r : ℕ) (tail : List ℕ) → ((rs : List Row) → Holds rs (n - m) (restOf buf (m * width)) → Removed lo hi rs (length (restOf buf (m * width))) r tail)
+    → TakenOut (remove lo hi rows) (m + r) (putRest buf (m * width) tail)
+out-late {rows} {n} {buf} K m e lo hi h f r tail I =
+    let R : Runs (K .first) (K .late) m n buf = keeps-runs K m e in
+    let D : Removed lo hi (K .late) (length (restOf buf (m * width))) r tail = I (K .late) (late-part R) in
+    let H : Holds (remove lo hi (K .late)) r tail = removed-holds (K .late) (n - m) (restOf buf (m * width)) (late-part R) lo hi r h tail D in
+    let N : Runs (K .first) (remove lo hi (K .late)) m (m + r) (putRest buf (m * width) tail) =
+    subst (Runs (K .first) (remove lo hi (K .late)) m (m + r)) (sym (rest-back buf tail (m * width))) (
+    runs-parts (first-holds R) (length-take-le (m * width) buf (omega (arith, keeps-fits K))) H (apart-remove lo hi (K .first) (K .late) h (R .apart))) in
+    let s : m ≡ firstRun (m + r) = omega (arith, e, D .answer, remove-len lo hi (K .late), runs-count R) in
+    let kept : Keeps (remove lo hi rows) (m + r) (putRest buf (m * width) tail) =
+    record {
+      first = K .first;
+      late = remove lo hi (K .late);
+      runs = subst (λ (j : ℕ). Runs (K .first) (remove lo hi (K .late)) j (m + r) (putRest buf (m * width) tail)) s N;
+      all = ap (remove lo hi) (K .all) ∙ remove-both 0 lo hi (K .first) (K .late) h (R .late-table) (R .first-table)
+          ∙ ap (insertAll (remove lo hi (K .late))) (remove-none 0 lo hi (K .first) (R .first-table) h (ltb-false (rank lo (K .first)) (rank hi (K .first)) f));
+    } in
+    record { answer = sym (keeps-count kept); after = kept }

@@ -5,10 +5,7 @@ use Prim.Native.Nat.{ℕ, _+_, _*_, _≤_, _<_}
 use native.Mathlib.Omega.{arith}
 use lib.ListN.{length, take, drop}
 use lib.Seq.{take-at, drop-at}
-use mathlib.Core.Bool.{false}
-use lib.Dec.{ltb}
-use borrow.Author.Tests.{ltb-false}
-use Rattle.table.specs.Rows.{Row, width, Table, Holds, rank, insertAll, remove}
+use Rattle.table.specs.Rows.{Row, width, Table, Holds, insertAll, remove}
 use Rattle.table.specs.Answers.{Removed}
 use Rattle.table.specs.Buffers.{removed-holds}
 use Rattle.table.specs.Each.{Each}
@@ -16,7 +13,6 @@ use Rattle.table.specs.Images.{holds-fits}
 use Rattle.runs.specs.Runs.{rowOf, firstRun, Runs, Keeps, TakenOut}
 use Rattle.runs.specs.Places.{rows-filled, each-of, each-all}
 use Rattle.runs.specs.Parts.{runs-count, row-first, row-late, both-count, both-table, holds-runs, parts-all, runs-short}
-use Rattle.runs.specs.Union.{remove-none}
 
 -- a table in one run
 pub holds-keeps : {rows : List Row} {n : ℕ} {buf : List ℕ} → Holds rows n buf → Keeps rows n buf
@@ -67,9 +63,3 @@ keeps-runs {n = n} {buf} K m e = subst (λ (j : ℕ). Runs (K .first) (K .late) 
 -- rows taken out of one run
 pub out-holds : {rows : List Row} {n : ℕ} {buf after : List ℕ} {m : ℕ} → Holds rows n buf → (lo hi : ℕ) → lo ≤ hi → Removed lo hi rows (length buf) m after → TakenOut (remove lo hi rows) m after
 out-holds {rows} {n} {buf} {after} {m} H lo hi h R = record { answer = R .answer; after = holds-keeps (removed-holds rows n buf H lo hi m h after R) }
-
--- none to take out
-pub out-none : {rows : List Row} {n : ℕ} {buf : List ℕ} → Keeps rows n buf → (lo hi : ℕ) → lo ≤ hi → ltb (rank lo rows) (rank hi rows) ≡ false → TakenOut (remove lo hi rows) n buf
-out-none {rows} {n} {buf} K lo hi h e =
-    let same : remove lo hi rows ≡ rows = remove-none 0 lo hi rows (keeps-table K) h (ltb-false (rank lo rows) (rank hi rows) e) in
-    record { answer = sym (ap length same ∙ keeps-count K); after = subst (λ (l : List Row). Keeps l n buf) (sym same) K }

@@ -4,7 +4,7 @@ use mathlib.Core.Bool.{Bool, true, false}
 use mathlib.Core.Logic.{_⊎_, inl, inr}
 use mathlib.Core.List.{List, [], _∷_, _++_}
 use mathlib.Core.Option.{Option, none, some}
-use Prim.Native.Nat.{ℕ, zero, suc, _+_, _≤_, _<_}
+use Prim.Native.Nat.{ℕ, zero, suc, _+_, _≤_, _<_, zero-le}
 use native.Mathlib.Omega.{arith}
 use native.Mathlib.Nat.{le-of-suc-le-suc, not-suc-le-zero}
 use lib.Dec.{eqb}
@@ -12,7 +12,7 @@ use lib.ListN.{length, take, drop, getD, length-append, length-drop, take-append
 use lib.Seq.{length-take-le}
 use borrow.Author.Tests.{eqb-true, eqb-false}
 use Rattle.table.specs.Rows.{Row, key, Table, rank, find, insert, insertAll, remove}
-use Rattle.table.specs.Laws.{order, order₃, table-above, rank-lt, rank-ge, rank-high, rank-mono, rank-above, find-eq, find-ne, find-above, find-hit, find-miss, insert-lt, insert-eq, insert-gt, insert-old, find-insert-same, find-insert-other, remove-splice}
+use Rattle.table.specs.Laws.{order, order₃, table-above, rank-lt, rank-ge, rank-high, rank-mono, rank-above, find-eq, find-ne, find-above, find-hit, find-miss, insert-lt, insert-eq, insert-gt, insert-old, find-insert-same, find-insert-other, insert-table, zone, remove-low, remove-in, remove-high, remove-splice, remove-table}
 use Rattle.merge.specs.Merge.{Apart}
 use Rattle.merge.specs.Laws.{none-head, none-tail, less, insert-first, insert-apart}
 
@@ -230,3 +230,89 @@ pub remove-none : (b lo hi : ℕ) (rows : List Row) → Table b rows → lo ≤ 
 remove-none b lo hi rows t h k =
     let e : rank hi rows ≡ rank lo rows = omega (arith, rank-mono lo hi rows h) in
     remove-splice b lo hi rows t h ∙ ap (λ (n : ℕ). take (rank lo rows) rows ++ drop n rows) e ∙ take-append-drop (rank lo rows) rows
+
+-- ---- rows taken out of both
+
+-- a row out of reach stays
+remove-out : (lo hi : ℕ) (x : Row) (xs : List Row) → lo ≤ hi → (key x < lo) ⊎ (hi ≤ key x) → remove lo hi (x ∷ xs) ≡ x ∷ remove lo hi xs
+remove-out lo hi x xs h (inl q) = remove-low lo hi x xs q
+remove-out lo hi x xs h (inr q) = remove-high lo hi x xs h q
+
+-- within reach, or out of it
+reach : (lo hi k : ℕ) → ((lo ≤ k) × (k < hi)) ⊎ ((k < lo) ⊎ (hi ≤ k))
+reach lo hi k = go (zone lo hi k)
+  where
+    go : (k < lo) ⊎ (((lo ≤ k) × (k < hi)) ⊎ (hi ≤ k)) → ((lo ≤ k) × (k < hi)) ⊎ ((k < lo) ⊎ (hi ≤ k))
+    go (inl q) = inr (inl q)
+    go (inr (inl q)) = inl q
+    go (inr (inr q)) = inr (inr q)
+
+remove-head : (lo hi : ℕ) (x : Row) (xs ys : List Row) → lo ≤ hi → remove lo hi xs ≡ remove lo hi ys → remove lo hi (x ∷ xs) ≡ remove lo hi (x ∷ ys)
+remove-head lo hi x xs ys h e = go (reach lo hi (key x))
+  where
+    go : ((lo ≤ key x) × (key x < hi)) ⊎ ((key x < lo) ⊎ (hi ≤ key x)) → remove lo hi (x ∷ xs) ≡ remove lo hi (x ∷ ys)
+    go (inl q) = remove-in lo hi x xs (q .0) (q .1) ∙ e ∙ sym (remove-in lo hi x ys (q .0) (q .1))
+    go (inr q) = remove-out lo hi x xs h q ∙ ap (λ (l : List Row). x ∷ l) e ∙ sym (remove-out lo hi x ys h q)
+
+insert-front : (r : Row) (rows : List Row) → Table (suc (key r)) rows → insert r rows ≡ r ∷ rows
+unfolding insert
+insert-front r [] t = refl
+insert-front r (y ∷ ys) t = insert-gt r y ys (t .1)
+
+-- a row that goes in and is taken out
+remove-insert-in : (lo hi : ℕ) (x : Row) (rows : List Row) → lo ≤ hi → lo ≤ key x → key x < hi → remove lo hi (insert x rows) ≡ remove lo hi rows
+unfolding insert
+remove-insert-in lo hi x [] h p q = remove-in lo hi x [] p q
+remove-insert-in lo hi x (y ∷ ys) h p q = go (order₃ (key y) (key x)) (remove-insert-in lo hi x ys h p q)
+  where
+    go : (key y < key x) ⊎ ((key y ≡ key x) ⊎ (key x < key y)) → remove lo hi (insert x ys) ≡ remove lo hi ys → remove lo hi (insert x (y ∷ ys)) ≡ remove lo hi (y ∷ ys)
+    go (inl a) ih = ap (remove lo hi) (insert-lt x y ys a) ∙ remove-head lo hi y (insert x ys) ys h ih
+    go (inr (inl a)) ih = ap (remove lo hi) (insert-eq x y ys a) ∙ remove-in lo hi x ys p q ∙ sym (remove-in lo hi y ys (omega arith) (omega arith))
+    go (inr (inr a)) ih = ap (remove lo hi) (insert-gt x y ys a) ∙ remove-in lo hi x (y ∷ ys) p q
+
+-- and one that stays
+remove-insert-out : (b lo hi : ℕ) (x : Row) (rows : List Row) → lo ≤ hi → Table b rows → (key x < lo) ⊎ (hi ≤ key x) → remove lo hi (insert x rows) ≡ insert x (remove lo hi rows)
+unfolding insert remove
+remove-insert-out b lo hi x [] h t o = remove-out lo hi x [] h o
+remove-insert-out b lo hi x (y ∷ ys) h t o = go (order₃ (key y) (key x)) (reach lo hi (key y)) (remove-insert-out (suc (key y)) lo hi x ys h (t .2) o)
+  where
+    go : (key y < key x) ⊎ ((key y ≡ key x) ⊎ (key x < key y)) → ((lo ≤ key y) × (key y < hi)) ⊎ ((key y < lo) ⊎ (hi ≤ key y)) → remove lo hi (insert x ys) ≡ insert x (remove lo hi ys)
+        → remove lo hi (insert x (y ∷ ys)) ≡ insert x (remove lo hi (y ∷ ys))
+    go (inl a) (inl q) ih =
+        ap (remove lo hi) (insert-lt x y ys a) ∙ remove-in lo hi y (insert x ys) (q .0) (q .1) ∙ ih ∙ ap (insert x) (sym (remove-in lo hi y ys (q .0) (q .1)))
+    go (inl a) (inr q) ih =
+        ap (remove lo hi) (insert-lt x y ys a) ∙ remove-out lo hi y (insert x ys) h q ∙ ap (λ (l : List Row). y ∷ l) ih
+        ∙ sym (insert-lt x y (remove lo hi ys) a) ∙ ap (insert x) (sym (remove-out lo hi y ys h q))
+    go (inr (inl a)) (inl q) ih = absurd (clash o)
+      where
+        clash : (key x < lo) ⊎ (hi ≤ key x) → ⊥
+        clash (inl z) = omega (arith, q .0)
+        clash (inr z) = omega (arith, q .1)
+    go (inr (inl a)) (inr q) ih =
+        ap (remove lo hi) (insert-eq x y ys a) ∙ remove-out lo hi x ys h o
+        ∙ sym (insert-eq x y (remove lo hi ys) a) ∙ ap (insert x) (sym (remove-out lo hi y ys h q))
+    go (inr (inr a)) q ih =
+        let low : Table (suc (key x)) (y ∷ ys) = (t .0, a, t .2) in
+        ap (remove lo hi) (insert-gt x y ys a) ∙ remove-out lo hi x (y ∷ ys) h o ∙ sym (insert-front x (remove lo hi (y ∷ ys)) (remove-table (suc (key x)) lo hi (y ∷ ys) h low))
+
+-- what is taken out of both is taken out of each
+pub remove-both : (b lo hi : ℕ) (rows more : List Row) → lo ≤ hi → Table b more → Table 0 rows → remove lo hi (insertAll more rows) ≡ insertAll (remove lo hi more) (remove lo hi rows)
+unfolding insertAll remove
+remove-both b lo hi rows [] h t u = refl
+remove-both b lo hi rows (x ∷ xs) h t u = go (reach lo hi (key x)) (remove-both (suc (key x)) lo hi (insert x rows) xs h (t .2) (insert-table 0 x rows u (t .0) zero-le))
+  where
+    go : ((lo ≤ key x) × (key x < hi)) ⊎ ((key x < lo) ⊎ (hi ≤ key x)) → remove lo hi (insertAll xs (insert x rows)) ≡ insertAll (remove lo hi xs) (remove lo hi (insert x rows))
+        → remove lo hi (insertAll (x ∷ xs) rows) ≡ insertAll (remove lo hi (x ∷ xs)) (remove lo hi rows)
+    go (inl q) ih =
+        ih ∙ ap (insertAll (remove lo hi xs)) (remove-insert-in lo hi x rows h (q .0) (q .1)) ∙ ap (λ (l : List Row). insertAll l (remove lo hi rows)) (sym (remove-in lo hi x xs (q .0) (q .1)))
+    go (inr q) ih =
+        ih ∙ ap (insertAll (remove lo hi xs)) (remove-insert-out 0 lo hi x rows h u q) ∙ ap (λ (l : List Row). insertAll l (remove lo hi rows)) (sym (remove-out lo hi x xs h q))
+
+pub apart-remove : (lo hi : ℕ) (rows more : List Row) → lo ≤ hi → Apart more rows → Apart (remove lo hi more) rows
+unfolding Apart remove
+apart-remove lo hi rows [] h a = tt
+apart-remove lo hi rows (x ∷ xs) h a = go (reach lo hi (key x)) (apart-remove lo hi rows xs h (a .1))
+  where
+    go : ((lo ≤ key x) × (key x < hi)) ⊎ ((key x < lo) ⊎ (hi ≤ key x)) → Apart (remove lo hi xs) rows → Apart (remove lo hi (x ∷ xs)) rows
+    go (inl q) ih = rw (remove-in lo hi x xs (q .0) (q .1)) ih
+    go (inr q) ih = rw (remove-out lo hi x xs h q) (a .0, ih)

@@ -183,15 +183,17 @@ pub fn insert(b: &mut [u32], count: usize, row: &[u32]) -> Put
     }
 }
 
-// Takes out the rows whose keys are at least lo and below hi, and returns how many are left.
+// Takes out the rows whose keys are at least lo and below hi, and returns how many are left. Where the first run has none, few rows move.
 pub fn remove(b: &mut [u32], count: usize, lo: u64, hi: u64) -> usize
     requires { ⌜ (count * width ≤ length (now b)) × (lo ≤ hi) ⌝ }
     ensures fewer { λ r. ⌜ r ≤ count ⌝ }
     ensures after { λ r. ⌜ ((rows : List Row) → Keeps rows count (now (b .entry)) → TakenOut (removeRows lo hi rows) r (now (b .exit))) ⌝ }
 {
-    if any_between(b, count, lo, hi) {
+    let m = first_run(count);
+    if any_in(&b[..m * WIDTH], m, lo, hi) {
         settle(b, count);
         return table::remove(b, count, lo, hi);
     }
-    count
+    let n = table::remove(&mut b[m * WIDTH..], count - m, lo, hi);
+    m + n
 }

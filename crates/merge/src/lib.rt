@@ -12,6 +12,11 @@ fn move_up(b: &mut [u32], from: usize, to: usize, w: usize)
     requires { ⌜ (from ≤ to) × (to + w ≤ length (now b)) ⌝ }
     ensures { λ _. ⌜ now (b .exit) ≡ take (from + w) (now (b .entry)) ++ (slice from to (now (b .entry)) ++ drop (to + w) (now (b .entry))) ⌝ }
 {
+    // by one row, it is one move of memory
+    if w == table::WIDTH {
+        table::shift_up(b, from, to);
+        return;
+    }
     let mut i = to;
     while from < i {
         i = i - 1;

@@ -86,6 +86,23 @@ down-turn l b from i w h k e =
     append-assoc (take from l) m (getD l (i + w) 0 ∷ drop (suc i) l)
     ∙ ap (λ (x : List ℕ). take from l ++ x) (sym (append-snoc m (getD l (i + w) 0) (drop (suc i) l))))
 
+-- what moves down within the list's end moves down within the list
+pub down-part : (l ys : List ℕ) (from to w : ℕ) → from + w ≤ to → to ≤ length l
+    → ys ≡ slice w (to - w - from + w) (take (length l - from) (drop from l)) ++ drop (to - w - from) (take (length l - from) (drop from l))
+    → take from l ++ (ys ++ drop (length l - from) (drop from l)) ≡ take from l ++ (slice (from + w) to l ++ drop (to - w) l)
+down-part l ys from to w h k e =
+    let d = drop from l in
+    let n = to - w - from in
+    let q : from + (to - w - from + w) ≡ to = omega arith in
+    let r : from + (to - w - from) ≡ to - w = omega arith in
+    let whole : take (length l - from) d ≡ d = take-all (length l - from) d (omega (arith, length-drop from l)) in
+    let none : drop (length l - from) d ≡ [] = drop-of-length-le d {i = length l - from} (omega (arith, length-drop from l)) in
+    let e₁ : ys ≡ slice w (n + w) d ++ drop n d = rw whole at e in
+    let e₂ : take (n + w) d ≡ slice from to l = slice-part from (n + w) l ∙ ap (λ (m : ℕ). slice from m l) q in
+    let e₃ : slice w (n + w) d ≡ slice (from + w) to l = ap (λ (x : List ℕ). drop w x) e₂ ∙ drop-drop w from (take to l) in
+    let e₄ : drop n d ≡ drop (to - w) l = drop-drop n from l ∙ ap (λ (m : ℕ). drop m l) r in
+    rw (none, append-nil ys, e₁, e₃, e₄) refl
+
 -- zeros, from `from` on: a turn
 pub clear-start : (l : List ℕ) (from : ℕ) → l ≡ take from l ++ (zeros (from - from) ++ drop from l)
 clear-start l from =

@@ -27,7 +27,7 @@ fn lift(s: &mut [u32], n: usize)
 }
 
 // The words from `from` up to `to` move up by a row.
-fn shift_up(b: &mut [u32], from: usize, to: usize)
+pub fn shift_up(b: &mut [u32], from: usize, to: usize)
     requires { ⌜ (from ≤ to) × (to + width ≤ length (now b)) ⌝ }
     ensures { λ _. ⌜ now (b .exit) ≡ take (from + width) (now (b .entry)) ++ (slice from to (now (b .entry)) ++ drop (to + width) (now (b .entry))) ⌝ }
 {
@@ -35,11 +35,37 @@ fn shift_up(b: &mut [u32], from: usize, to: usize)
     lift(s, to - from);
 }
 
+// The n words after the first row move down by a row: as in `lift`, one move of memory.
+fn sink(s: &mut [u32], n: usize)
+    requires { ⌜ n + width ≤ length (now s) ⌝ }
+    ensures { λ _. ⌜ now (s .exit) ≡ slice width (n + width) (now (s .entry)) ++ drop n (now (s .entry)) ⌝ }
+{
+    let mut i = 0;
+    while i < n {
+        s[i] = s[i + WIDTH];
+        i += 1;
+    }
+}
+
+// The words from `from` and a row on, up to `to`, move down by a row.
+fn drop_row(b: &mut [u32], from: usize, to: usize)
+    requires { ⌜ (from + width ≤ to) × (to ≤ length (now b)) ⌝ }
+    ensures { λ _. ⌜ now (b .exit) ≡ take from (now (b .entry)) ++ (slice (from + width) to (now (b .entry)) ++ drop (to - width) (now (b .entry))) ⌝ }
+{
+    let s = &mut b[from..];
+    sink(s, to - WIDTH - from);
+}
+
 // The words from `from` + w up to `to` move down by w words.
 fn shift_down(b: &mut [u32], from: usize, to: usize, w: usize)
     requires { ⌜ (from + w ≤ to) × (to ≤ length (now b)) ⌝ }
     ensures { λ _. ⌜ now (b .exit) ≡ take from (now (b .entry)) ++ (slice (from + w) to (now (b .entry)) ++ drop (to - w) (now (b .entry))) ⌝ }
 {
+    // by one row, it is one move of memory
+    if w == WIDTH {
+        drop_row(b, from, to);
+        return;
+    }
     let mut i = from;
     let end = to - w;
     while i < end {

@@ -12,7 +12,7 @@ fn move_up(b: &mut [u32], from: usize, to: usize, w: usize)
     requires { ⌜ (from ≤ to) × (to + w ≤ length (now b)) ⌝ }
     ensures { λ _. ⌜ now (b .exit) ≡ take (from + w) (now (b .entry)) ++ (slice from to (now (b .entry)) ++ drop (to + w) (now (b .entry))) ⌝ }
 {
-    // nearly always, and one move of memory
+    // by one row, it is one move of memory
     if w == table::WIDTH {
         table::shift_up(b, from, to);
         return;
@@ -24,12 +24,17 @@ fn move_up(b: &mut [u32], from: usize, to: usize, w: usize)
     }
 }
 
-// How many of the first i rows stand before the key.
+// How many of the first i rows stand before the key: often all of them.
 fn below(b: &[u32], i: usize, k: u64) -> usize
     requires { ⌜ i * width ≤ length (now b) ⌝ }
     ensures within { λ r. ⌜ r ≤ i ⌝ }
     ensures ranked { λ r. ⌜ ((rows : List Row) → Holds rows i (take (i * width) (now (b .entry))) → r ≡ rank k rows) ⌝ }
 {
+    if 0 < i {
+        if table::key_at(b, i - 1) < k {
+            return i;
+        }
+    }
     table::lower_bound(&b[..i * table::WIDTH], i, k)
 }
 

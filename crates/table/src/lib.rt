@@ -61,7 +61,7 @@ fn shift_down(b: &mut [u32], from: usize, to: usize, w: usize)
     requires { ⌜ (from + w ≤ to) × (to ≤ length (now b)) ⌝ }
     ensures { λ _. ⌜ now (b .exit) ≡ take from (now (b .entry)) ++ (slice (from + w) to (now (b .entry)) ++ drop (to - w) (now (b .entry))) ⌝ }
 {
-    // nearly always, and one move of memory
+    // by one row, it is one move of memory
     if w == WIDTH {
         drop_row(b, from, to);
         return;

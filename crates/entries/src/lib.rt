@@ -1,4 +1,4 @@
-// The sixteen kinds of rows: one function enters each. What is left is said for every table that the buffer holds.
+// The sixteen kinds of rows: one function enters each. What is left is said for every table that the buffer keeps.
 use table::Put;
 ghost use mathlib.Core.Path.{_≡_};
 ghost use mathlib.Core.List.{List, [], _∷_};
@@ -285,7 +285,7 @@ pub fn enter_option_base(b: &mut [u32], count: usize, value: u32) -> Put
     enter(b, count, 143, 0, 0, value, 0, 0, 0)
 }
 
-// The rows of a kind under a name go, and the first n rows of src go in: a TYPE with its fields (kind 131), a procedure with its parameters (136).
+// The rows of a kind under a name go, and the first n rows of src go in: a TYPE with its fields (kind 131), a procedure with its parameters (136). For rows in one run.
 pub fn replace_under(
     b: &mut [u32],
     count: usize,

@@ -20,7 +20,7 @@ fn first_run(count: usize) -> usize
     count - count % 64
 }
 
-// The row with the key k in the first run.
+// The row with the key k among the first m rows, the first run.
 fn find_first(b: &[u32], m: usize, k: u64) -> Found
     requires { ⌜ m * width ≤ length (now b) ⌝ }
     ensures within { λ r. ⌜ Within m r ⌝ }
@@ -100,7 +100,7 @@ pub fn any_between(b: &[u32], count: usize, lo: u64, hi: u64) -> bool
     any_in(&b[m * WIDTH..], count - m, lo, hi)
 }
 
-// The late rows go among the first m.
+// The late rows, at most 64 (384 words), go among the first m.
 fn join(b: &mut [u32], m: usize, count: usize)
     requires { ⌜ (count * width ≤ length (now b)) × (m ≤ count) × (count ≤ m + 64) ⌝ }
     ensures { λ _. ⌜ ((first late : List Row) → Runs first late m count (now (b .entry)) → Holds (insertAll late first) count (now (b .exit))) ⌝ }

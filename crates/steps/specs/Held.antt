@@ -27,7 +27,7 @@ pub record Held (N D : ℕ) (st : State) (s : Counts) (b d : List ℕ) : Type 0 
   pub notes-long : length d ≡ D
   pub inside : Inside st s b d
 
--- the rows put in order: where the run goes on, they lie in one run
+-- the rows put in order: where the run goes on, the buffer holds them as one table
 pub record Settles (s : Counts) (b b′ : List ℕ) : Type 0 where
   pub long : length b′ ≡ length b
   pub flat : s .stop ≡ 0 → (rows : List Row) → Keeps rows (s .rows) b → Holds rows (s .rows) b′

@@ -7,10 +7,10 @@ use Prim.Native.Nat.{ℕ, _+_, _*_, _≤_, _<_}
 use native.Mathlib.Omega.{arith}
 use lib.Dec.{leb, eqb}
 use lib.ListN.{length, length-append}
-use borrow.Author.Tests.{le-leb, leb-true, eqb-true, ne-eqb}
+use borrow.Author.Tests.{le-leb, eqb-true, ne-eqb}
 use Rattle.words.specs.declared.Refusal.the-variants.{TypeWords}
 use Rattle.table.specs.Rows.{Row, width, noteWidth, insert, remove, zeros, image, Filled, Holds}
-use Rattle.table.specs.Laws.{pick-true, remove-len}
+use Rattle.table.specs.Laws.{remove-len}
 use Rattle.table.specs.Images.{image-none}
 use Rattle.table.specs.Answers.{Fits, More, Pushed}
 use Rattle.table.specs.Buffers.{picked-done, picked-full, pushed-filled, more-done, more-full}
@@ -180,7 +180,7 @@ settled-held S (running rows notes) H =
 settled-held S (stopped k) H = record { rows-long = S .long ∙ H .rows-long; notes-long = H .notes-long; inside = H .inside }
 
 module _ {N D : ℕ} {s : Counts} {b d : List ℕ} where
-  -- a run that goes on leaves what it holds, its rows in one run
+  -- a run that goes on leaves what it holds, its rows in order
   pub left-running : (st : State) → Held N D st s b d → s .stop ≡ 0 → {b′ : List ℕ} → Settles s b b′ → Left N D st s b′ d
   unfolding countsOf rowsLeft notesLeft
   left-running (running rows notes) H go {b′} S =

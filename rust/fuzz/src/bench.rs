@@ -249,7 +249,7 @@ pub fn sets() -> Vec<Set> {
         sets.push(set(&name("falling"), one(arrays((0..rows).rev()))));
     }
     for (name, count, program) in others() {
-        let name = |order| format!("{name} {order}");
+        let name = |order| format!("{name}, {order}");
         let rising: Vec<usize> = (0..count).collect();
         let falling: Vec<usize> = (0..count).rev().collect();
         sets.push(set(&name("rising"), one(program(&rising))));
@@ -261,7 +261,7 @@ pub fn sets() -> Vec<Set> {
 /// What makes the statements for the numbers that it is given, in their order.
 type Program = fn(&[usize]) -> Vec<Stmt>;
 
-/// Many rows of other kinds, and of two kinds in turn, where each moves those of the other: a name, how many, and their statements.
+/// Many rows of other kinds, and of two kinds in turn, whose keys lie apart: a name, how many, and their statements.
 fn others() -> Vec<(&'static str, usize, Program)> {
     vec![
         ("SUBs, 1,000", 1_000, |order| {

@@ -1,5 +1,5 @@
 -- `has` is whether `find` finds. Assumes nothing.
-use mathlib.Core.Path.{_≡_, sym, ap, _∙_}
+use mathlib.Core.Path.{sym, ap, _∙_}
 use Rattle.runs.specs.Runs.{rowIn}
 use Rattle.entries.specs.Entries.{hasRow}
 use borrow.Author.Needs.{needs}

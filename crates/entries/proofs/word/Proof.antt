@@ -1,5 +1,5 @@
 -- `word` reads the row that `find` found, whose words stand in the buffer. Assumes nothing.
-use mathlib.Core.Path.{_≡_, sym, ap, _∙_, subst}
+use mathlib.Core.Path.{sym, ap, _∙_, subst}
 use Prim.Native.Nat.{ℕ, _<_, _-_}
 use native.Mathlib.Omega.{arith}
 use Rattle.table.specs.Answers.{Within}

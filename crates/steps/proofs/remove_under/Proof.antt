@@ -1,8 +1,5 @@
 -- Rows taken out: once stopped nothing is done; else what is left fits. Assumes nothing.
 use mathlib.Core.Path.{sym}
-use native.Mathlib.Omega.{arith}
-use Prim.Native.Nat.{_+_, _≤_}
-use Rattle.entries.specs.Entries.{entryKey}
 use Rattle.steps.specs.Laws.{stopped-change, remove-change}
 use borrow.Author.Needs.{needs}
 use Rattle.steps.proofs.remove_under.Statement.{statement}

@@ -1,4 +1,4 @@
--- A run that goes on has its rows put in order; a stopped one has none. Assumes nothing.
+-- A run that goes on has its rows put in order; of a stopped one nothing is said. Assumes nothing.
 use mathlib.Core.Path.{refl}
 use borrow.Author.Needs.{needs}
 use Rattle.steps.proofs.settle.Statement.{statement}

@@ -131,7 +131,7 @@ pub enum Typed {
 // The type in row 134.
 fn type_at(b: &[u32], count: usize, found: Found) -> Typed
     requires { ⌜ (count * width ≤ length (now b)) × Within count found ⌝ }
-    ensures { λ r. ⌜ ((rows : List Row) → Keeps rows count (now (b .entry)) → typed r ≡ typeOf (rowIn (now (b .entry)) found)) ⌝ }
+    ensures { λ r. ⌜ typed r ≡ typeOf (rowIn (now (b .entry)) found) ⌝ }
 {
     match found {
         Found::At(i) => {
@@ -170,7 +170,7 @@ pub enum Array {
 // The array in row 133.
 fn array_at(b: &[u32], count: usize, found: Found) -> Array
     requires { ⌜ (count * width ≤ length (now b)) × Within count found ⌝ }
-    ensures { λ r. ⌜ ((rows : List Row) → Keeps rows count (now (b .entry)) → arrayOf′ r ≡ arrayOf (rowIn (now (b .entry)) found)) ⌝ }
+    ensures { λ r. ⌜ arrayOf′ r ≡ arrayOf (rowIn (now (b .entry)) found) ⌝ }
 {
     match found {
         Found::At(i) => {

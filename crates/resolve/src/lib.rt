@@ -38,7 +38,7 @@ pub fn by_ref(b: &[u32], count: usize, f: u32, i: u32) -> bool
 // Whether a parameter's row was found, and it is such a parameter's.
 fn takes(b: &[u32], count: usize, found: Found) -> bool
     requires { ⌜ (count * width ≤ length (now b)) × Within count found ⌝ }
-    ensures { λ r. ⌜ ((rows : List Row) → Holds rows count (now (b .entry)) → r ≡ byRef (rowIn (now (b .entry)) found)) ⌝ }
+    ensures { λ r. ⌜ r ≡ byRef (rowIn (now (b .entry)) found) ⌝ }
 {
     match found {
         Found::At(j) => {

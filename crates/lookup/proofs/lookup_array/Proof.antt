@@ -13,7 +13,7 @@ array-at-requires c κs = search needs
 
 returns : tie.Need-returns
 unfolding lookupArray
-returns c = λ rows K. c .array-at .ensures rows K ∙ ap arrayOf (c .before .visible .ensures .1 rows K)
+returns c = λ rows K. c .array-at .ensures ∙ ap arrayOf (c .before .visible .ensures .1 rows K)
 
 pub lookup-array-spec : {M : Type 1} → statement M
 lookup-array-spec = tie.close (tie.spec visible-requires array-at-requires returns)

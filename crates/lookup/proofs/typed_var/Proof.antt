@@ -13,7 +13,7 @@ type-at-requires c κs = (search needs, c .visible .ensures .0)
 
 returns : tie.Need-returns
 unfolding typedVar
-returns c = λ rows K. c .type-at .ensures rows K ∙ ap typeOf (c .before .visible .ensures .1 rows K)
+returns c = λ rows K. c .type-at .ensures ∙ ap typeOf (c .before .visible .ensures .1 rows K)
 
 pub typed-var-spec : {M : Type 1} → statement M
 typed-var-spec = tie.close (tie.spec visible-requires type-at-requires returns)

@@ -13,7 +13,7 @@ type-at-requires c κs = search needs
 
 returns : tie.Need-returns
 unfolding typedVarIn
-returns c = λ rows K. c .type-at .ensures rows K ∙ ap typeOf (c .before .find-entry .ensures .1 rows K)
+returns c = λ rows K. c .type-at .ensures ∙ ap typeOf (c .before .find-entry .ensures .1 rows K)
 
 pub typed-var-in-spec : {M : Type 1} → statement M
 typed-var-in-spec = tie.close (tie.spec find-entry-requires type-at-requires returns)

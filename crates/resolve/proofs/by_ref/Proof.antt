@@ -17,7 +17,7 @@ takes-requires : tie.Need-takes-requires
 takes-requires c κs = (c .before .before .before .before .pre .0, c .find-entry .ensures .0)
 
 returns : tie.Need-returns
-returns c = λ rows H. known rows (c .before .before .before .before .before .args .f) (c .before .before .before .before .before .args .i) _ (sym (c .before .before .before .has .ensures rows (holds-keeps H)) ∙ c .before .before .if1 .taken) (c .takes .ensures rows H ∙ ap byRef (c .before .find-entry .ensures .1 rows (holds-keeps H)))
+returns c = λ rows H. known rows (c .before .before .before .before .before .args .f) (c .before .before .before .before .before .args .i) _ (sym (c .before .before .before .has .ensures rows (holds-keeps H)) ∙ c .before .before .if1 .taken) (c .takes .ensures ∙ ap byRef (c .before .find-entry .ensures .1 rows (holds-keeps H)))
 
 returns-2 : tie.Need-returns-2
 returns-2 c = λ rows H. unknown rows (c .before .before .before .args .f) (c .before .before .before .args .i) (sym (c .before .has .ensures rows (holds-keeps H)) ∙ c .if1 .left)

@@ -46,10 +46,10 @@ enum-told : tie.Need-enum-told
 enum-told c = search needs
 
 returns : tie.Need-returns
-returns c = λ rows H. let f = c .before .before .before .before in let b = f .before .before .before .args .b .now in let j : ℕ = f .found .given .0 .0 in c .is-scalar .ensures ∙ sym (ap₂ isScalar (row-word b j 3 (omega arith)) (row-word b j 4 (omega arith))) ∙ ap (λ (x : Found). byRef (rowIn b x)) (sym (f .found .given .1))
+returns c = let f = c .before .before .before .before in let b = f .before .before .before .args .b .now in let j : ℕ = f .found .given .0 .0 in c .is-scalar .ensures ∙ sym (ap₂ isScalar (row-word b j 3 (omega arith)) (row-word b j 4 (omega arith))) ∙ ap (λ (x : Found). byRef (rowIn b x)) (sym (f .found .given .1))
 
 returns-2 : tie.Need-returns-2
-returns-2 c = λ rows H. ap (λ (f : Found). byRef (rowIn (c .before .before .before .args .b .now) f)) (sym (c .enum-told .given .1))
+returns-2 c = ap (λ (f : Found). byRef (rowIn (c .before .before .before .args .b .now) f)) (sym (c .enum-told .given .1))
 
 pub takes-spec : {M : Type 1} → statement M
 takes-spec =

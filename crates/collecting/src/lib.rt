@@ -1,11 +1,9 @@
 // The scan of collecting: each statement, then its bodies, those of a procedure in its own scope. Every word tells by its kind what it is, so one pass over the words meets
 // every statement's head in that order.
 use steps::Counts;
-ghost use mathlib.Core.Path.{_≡_};
-ghost use Prim.Native.Nat.{ℕ, _*_, _<_, _≤_};
-ghost use mathlib.Core.Bool.{true};
+ghost use Prim.Native.Nat.{ℕ, _<_};
 ghost use mathlib.Core.List.{List};
-ghost use lib.ListN.{length, getD, replicate};
+ghost use lib.ListN.{length, getD};
 ghost use Rattle.words.specs.Word.{kindOf};
 ghost use Rattle.tree.specs.Sorts.{stmt as stmtSort};
 ghost use Rattle.tree.specs.Tree.{one};

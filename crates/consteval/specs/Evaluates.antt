@@ -24,14 +24,14 @@ use Rattle.consteval.specs.declared.Folded.{Folded}
 pub record Consts (n : ℕ) (rows : List Row) : Type 0 where
   pub good : (name : ℕ) → name < 16777216 → (r : Row) → find (entryKey 132 name 0) rows ≡ some r → RowValue n (rowValue r)
 
--- the buffer holds such rows
+-- the buffer keeps such rows
 pub record HoldsConsts (buf : List ℕ) (count : ℕ) : Type 0 where
   pub strings : ℕ
   pub rows : List Row
   pub holds : Keeps rows count buf
   pub consts : Consts strings rows
 
--- some expression stands at the place, and the buffer holds rows whose CONST rows meet their rule
+-- some expression stands at the place, and the buffer keeps rows whose CONST rows meet their rule
 pub record Ready (ws : List ℕ) (at : ℕ) (buf : List ℕ) (count : ℕ) : Type 0 where
   pub strings : Strings
   pub expr : Expr
@@ -53,7 +53,7 @@ pub record Evaluated (rows : List Row) (e : Expr) (end : ℕ) (r : Folded) : Typ
   pub answer : r .fold ≡ constEval rows e
   pub past : r .next ≡ end
 
--- for whatever stands there and whatever rows the buffer holds
+-- for whatever stands there and whatever rows the buffer keeps
 abbrev pub Evaluates : (ws : List ℕ) (at : ℕ) (buf : List ℕ) (count : ℕ) → Folded → Type 0
 Evaluates ws at buf count r = (n : Strings) (e : Expr) (end : ℕ) → Stands ws n at e end → (rows : List Row) → Keeps rows count buf → Evaluated rows e end r
 

@@ -15,7 +15,7 @@ use Rattle.steps.specs.Held.{Sized}
 use Rattle.collect.specs.Diagnostics.{optionBaseTwice, optionBaseLate}
 use Rattle.collect.specs.Code.{SomeStmt}
 
--- the buffer holds rows whose CONST rows meet their rule, with n strings
+-- the buffer keeps rows whose CONST rows meet their rule, with n strings
 pub record HeldConsts (n : ℕ) (s : Counts) (b : List ℕ) : Type 0 where
   pub rows : List Row
   pub holds : Keeps rows (s .rows) b

@@ -12,7 +12,6 @@ use borrow.Author.Tests.{eqb-true, eqb-false}
 use Rattle.words.specs.Word.{pick}
 use Rattle.views.specs.View.{FieldDecl, head, arg}
 use Rattle.table.specs.Rows.{Row, width, noteWidth, key, find, insert, remove}
-use Rattle.runs.specs.Runs.{Keeps}
 use Rattle.runs.specs.Laws.{keeps-same}
 use Rattle.table.specs.Laws.{pick-true, pick-false, find-insert-other, find-remove-out}
 use Rattle.entries.specs.Entries.{entryKey, has, hasRow, typeRow, fieldRow, replaceType}

@@ -102,7 +102,7 @@ quiet G rows (x ∷ xs) e st = go (eqb (kindOf (getD x 0 0)) 133) e (λ f. quiet
         absurd (omega arith)
     go false f ih = ih f
 
--- a step that the rows decide, where the run goes on and its rows are in one run
+-- a step that the rows decide, where the run goes on and the buffer holds its rows in order
 asking-does : {f : List Row → Sized} {s r : Counts} {b d b′ d′ : List ℕ} {there : List Row} → Holds there (s .rows) b → s .stop ≡ 0 → Fit r (length b′) (length d′) → ((rows : List Row) → Holds rows (s .rows) b → Does (f rows) s r b d b′ d′)
     → Does (λ N D. asking (λ rows. f rows N D)) s r b d b′ d′
 unfolding asking

@@ -303,7 +303,15 @@ fn others() -> Vec<(&'static str, usize, Program)> {
             vec![at(1, sub(1_000, items())), at(2, sub(1_001, items()))]
         }),
         ("TYPEs, 480 of three fields", 480, |order| {
-            order.iter().map(|n| at(1, record(*n))).collect()
+            order.iter().map(|n| at(1, record(*n, 3))).collect()
+        }),
+        ("TYPEs, 700 of one field, each twice", 700, |order| {
+            let twice = order.iter().chain(order);
+            twice.map(|n| at(1, record(*n, 1))).collect()
+        }),
+        ("TYPEs, 380 of two fields, each three times", 380, |order| {
+            let thrice = order.iter().chain(order).chain(order);
+            thrice.map(|n| at(1, record(*n, 2))).collect()
         }),
     ]
 }
@@ -337,14 +345,14 @@ fn scalar(name: String) -> Declarator {
     }
 }
 
-fn record(n: usize) -> StmtKind {
-    let field = |name: &str| FieldDecl {
-        name: name.into(),
+fn record(n: usize, fields: usize) -> StmtKind {
+    let field = |i| FieldDecl {
+        name: format!("F{i}"),
         ty: TypeRef::Integer,
     };
     StmtKind::TypeDef {
         name: name_of(n),
-        fields: vec![field("X"), field("Y"), field("Z")],
+        fields: (0..fields).map(field).collect(),
     }
 }
 

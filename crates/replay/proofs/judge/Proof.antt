@@ -18,36 +18,28 @@ use Rattle.replay.proofs.same.Reads as same-reads
 within : (r : ℕ) (text b last : List ℕ) → r ≡ size text b → length last ≡ length b → r ≤ length last
 within r text b last e l = omega (arith, size-le text b)
 
--- src/main.rt:82:9
 patskneli-listing-requires : tie.Need-patskneli-listing-requires
 patskneli-listing-requires c κs = search needs
 
--- src/main.rt:83:13
 slice-reshare-prefix-same : tie.Need-slice-reshare-prefix-same
 slice-reshare-prefix-same c = within _ _ _ (c .before .before .patskneli-listing .last .1 .0) (c .before .before .patskneli-listing .ensures .0) (c .before .before .patskneli-listing .kept .1 .0)
 
--- src/main.rt:83:13
 slice-aggregate-same : tie.Need-slice-aggregate-same
 slice-aggregate-same c =
     sym (length-take-le _ _ (within _ _ _ (c .before .before .before .patskneli-listing .last .1 .0) (c .before .before .before .patskneli-listing .ensures .0) (c .before .before .before .patskneli-listing .kept .1 .0)))
 
--- src/main.rt:83:8
 same-requires : tie.Need-same-requires
 same-requires c κs = search needs
 
--- src/main.rt:84:9
 same-length : tie.Need-same-length
 same-length c = search needs
 
--- src/main.rt:84:9
 returns : tie.Need-returns
 returns c = search needs
 
--- src/main.rt:81:1
 same-length-2 : tie.Need-same-length-2
 same-length-2 c = search needs
 
--- src/main.rt:81:1
 returns-2 : tie.Need-returns-2
 returns-2 c = search needs
 

@@ -11,87 +11,66 @@ use Rattle.replay.proofs.judge.Reads as judge-reads
 use Rattle.replay.proofs.read_length.Reads as read-length-reads
 use Rattle.programs.proofs.read_part.Reads as read-part-reads
 
--- src/main.rt:91:9
 read-length-requires : tie.Need-read-length-requires
 read-length-requires c κs = search needs
 
--- src/main.rt:92:9
 read-part-requires : tie.Need-read-part-requires
 read-part-requires c κs = search needs
 
--- src/main.rt:93:9
 same-length : tie.Need-same-length
 same-length c = search needs
 
--- src/main.rt:93:9
 returns : tie.Need-returns
 returns c = search needs
 
--- src/main.rt:95:9
 read-length-requires-2 : tie.Need-read-length-requires-2
 read-length-requires-2 c κs = search needs
 
--- src/main.rt:97:9
 same-length-2 : tie.Need-same-length-2
 same-length-2 c = search needs
 
--- src/main.rt:97:9
 same-length-3 : tie.Need-same-length-3
 same-length-3 c = search needs
 
--- src/main.rt:97:9
 returns-2 : tie.Need-returns-2
 returns-2 c = search needs
 
--- src/main.rt:99:9
 read-part-requires-2 : tie.Need-read-part-requires-2
 read-part-requires-2 c κs = search needs
 
--- src/main.rt:100:9
 same-length-4 : tie.Need-same-length-4
 same-length-4 c = search needs
 
--- src/main.rt:100:9
 same-length-5 : tie.Need-same-length-5
 same-length-5 c = search needs
 
--- src/main.rt:100:9
 returns-3 : tie.Need-returns-3
 returns-3 c = search needs
 
--- src/main.rt:102:11
 slice-reshare-prefix-judge : tie.Need-slice-reshare-prefix-judge
 slice-reshare-prefix-judge c = search needs
 
--- src/main.rt:102:11
 slice-aggregate-judge : tie.Need-slice-aggregate-judge
 slice-aggregate-judge c = sym (length-take-le _ _ (omega (arith, c .before .before .before .before .before .before .before .before .before .before .before .before .before .before .before .before .before .before .read-length .ensures, c .before .before .before .before .before .before .before .before .before .before .before .before .before .before .before .before .before .before .read-length .kept .0, c .before .before .before .before .before .before .before .before .before .before .before .before .before .before .read-part .kept .0)))
 
--- src/main.rt:102:24
 slice-reshare-prefix-judge-2 : tie.Need-slice-reshare-prefix-judge-2
 slice-reshare-prefix-judge-2 c = search needs
 
--- src/main.rt:102:24
 slice-aggregate-judge-2 : tie.Need-slice-aggregate-judge-2
 slice-aggregate-judge-2 c = sym (length-take-le _ _ (omega (arith, c .before .before .before .before .before .before .before .before .before .before .read-length2 .ensures, c .before .before .before .before .before .before .before .before .before .before .read-length2 .kept .0, c .before .before .before .before .before .read-part2 .kept .0)))
 
--- src/main.rt:102:5
 judge-requires : tie.Need-judge-requires
 judge-requires c κs = search needs
 
--- src/main.rt:90:1
 same-length-6 : tie.Need-same-length-6
 same-length-6 c = search needs
 
--- src/main.rt:90:1
 same-length-7 : tie.Need-same-length-7
 same-length-7 c = search needs
 
--- src/main.rt:90:1
 same-length-8 : tie.Need-same-length-8
 same-length-8 c = search needs
 
--- src/main.rt:90:1
 returns-4 : tie.Need-returns-4
 returns-4 c = search needs
 

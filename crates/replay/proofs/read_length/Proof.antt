@@ -11,39 +11,30 @@ use Rattle.replay.proofs.read_length.Lts as lts
 use Rattle.io.proofs.read_full.Reads as read-full-reads
 use Rattle.replay.proofs.length_of.Reads as length-of-reads
 
--- src/main.rt:43:9
 returns : tie.Need-returns
 returns c = search needs
 
--- src/main.rt:45:16
 slice-relend-prefix-four : tie.Need-slice-relend-prefix-four
 slice-relend-prefix-four c = search needs
 
--- src/main.rt:45:9
 slice-aggregate-four : tie.Need-slice-aggregate-four
 slice-aggregate-four c = sym (length-take-le 4 (now (c .before .before .before .args .b)) (omega (arith, c .before .if1 .left)))
 
--- src/main.rt:46:8
 read-full-requires : tie.Need-read-full-requires
 read-full-requires c κs = search needs
 
--- src/main.rt:47:9
 same-length : tie.Need-same-length
 same-length c = search needs
 
--- src/main.rt:47:9
 returns-2 : tie.Need-returns-2
 returns-2 c = search needs
 
--- src/main.rt:49:5
 length-of-requires : tie.Need-length-of-requires
 length-of-requires c κs = search needs
 
--- src/main.rt:39:1
 same-length-2 : tie.Need-same-length-2
 same-length-2 c = search needs
 
--- src/main.rt:39:1
 returns-3 : tie.Need-returns-3
 returns-3 c = search needs
 

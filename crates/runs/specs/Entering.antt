@@ -211,7 +211,7 @@ module _ {rows : List Row} {n : ℕ} {buf : List ℕ} (K : Keeps rows n buf) (ro
           runs-parts (first-holds R) (length-take-le (m * width) buf (omega (arith, keeps-fits K))) H (apart-insert (K .first) (K .late) row f (K .runs .apart)))
 
       -- and fewer than a block are
-      pub late-kept : (c : ℕ) → r ≡ Done c → length (putRest buf (m * width) tail) ≡ length buf → (c ≡ 64 → ⊥) → PutIn (insert row rows) (length buf) (Done (m + c)) (putRest buf (m * width) tail)
+      pub late-kept : (c : ℕ) → r ≡ Done c → length (putRest buf (m * width) tail) ≡ length buf → (c ≡ 32 → ⊥) → PutIn (insert row rows) (length buf) (Done (m + c)) (putRest buf (m * width) tail)
       late-kept c q l h =
           let R : Runs (K .first) (insert row (K .late)) m (m + c) (putRest buf (m * width) tail) = late-runs c q in
           let s : m ≡ firstRun (m + c) = omega (arith, h, insert-most row (K .late), runs-count R, runs-count (K .runs)) in

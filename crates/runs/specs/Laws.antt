@@ -43,7 +43,7 @@ module _ {rows : List Row} {n : ℕ} {buf : List ℕ} (K : Keeps rows n buf) whe
       subst (Each P) (sym (K .all)) (each-all P (K .late) (K .first) late first)
 
   -- fewer rows than a block are in one run
-  pub keeps-short : n < 64 → Holds rows n buf
+  pub keeps-short : n < 32 → Holds rows n buf
   keeps-short h = runs-short (K .first) (K .late) (K .runs) (K .all) (omega arith)
 
 -- a buffer keeps one table

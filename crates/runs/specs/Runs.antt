@@ -31,9 +31,9 @@ pub record Runs (first late : List Row) (m n : ℕ) (buf : List ℕ) : Type 0 wh
   pub late-table : Table 0 late
   pub apart : Apart late first
 
--- how many of n rows the first run has: whole blocks of 64, so that a new row moves at most 63
+-- how many of n rows the first run has: whole blocks of 32, so that a new row moves at most 31
 abbrev pub firstRun : ℕ → ℕ
-firstRun n = n - n % 64
+firstRun n = n - n % 32
 
 -- the buffer keeps this table of n rows: that of both runs
 pub record Keeps (rows : List Row) (n : ℕ) (buf : List ℕ) : Type 0 where

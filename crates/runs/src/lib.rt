@@ -1,5 +1,5 @@
-// Rows that are entered in any order. The buffer has two runs, one after the other: new rows go into the late one, so that at most 63 rows move, and
-// when it has 64 rows the two are made one.
+// Rows that are entered in any order. The buffer has two runs, one after the other: new rows go into the late one, so that at most 31 rows move, and
+// when it has 32 rows the two are made one.
 use table::Found;
 use table::Put;
 use table::WIDTH;
@@ -13,11 +13,11 @@ ghost use Rattle.table.specs.Rows.{Row, width, key, rank, find as findRow, inse
 ghost use Rattle.table.specs.Answers.{Within, Fit};
 ghost use Rattle.runs.specs.Runs.{rowIn, Runs, firstRun, Keeps, Old, PutIn, TakenOut};
 
-// How many rows are in the first run: whole blocks of 64.
+// How many rows are in the first run: whole blocks of 32.
 fn first_run(count: usize) -> usize
     ensures { λ r. ⌜ r ≡ firstRun count ⌝ }
 {
-    count - count % 64
+    count - count % 32
 }
 
 // The row with the key k among the first m rows, the first run.
@@ -72,7 +72,7 @@ pub fn find(b: &[u32], count: usize, k: u64) -> Found
     ensures within { λ r. ⌜ Within count r ⌝ }
     ensures found { λ r. ⌜ ((rows : List Row) → Keeps rows count (now (b .entry)) → rowIn (now (b .entry)) r ≡ findRow k rows) ⌝ }
 {
-    if count < 64 {
+    if count < 32 {
         return table::find(b, count, k);
     }
     find_long(b, count, k)
@@ -100,9 +100,9 @@ pub fn any_between(b: &[u32], count: usize, lo: u64, hi: u64) -> bool
     any_in(&b[m * WIDTH..], count - m, lo, hi)
 }
 
-// The late rows, at most 64 (384 words), go among the first m.
+// The late rows, at most 32 (192 words), go among the first m.
 fn join(b: &mut [u32], m: usize, count: usize)
-    requires { ⌜ (count * width ≤ length (now b)) × (m ≤ count) × (count ≤ m + 64) ⌝ }
+    requires { ⌜ (count * width ≤ length (now b)) × (m ≤ count) × (count ≤ m + 32) ⌝ }
     ensures { λ _. ⌜ ((first late : List Row) → Runs first late m count (now (b .entry)) → Holds (insertAll late first) count (now (b .exit))) ⌝ }
 {
     if m == 0 {
@@ -114,7 +114,7 @@ fn join(b: &mut [u32], m: usize, count: usize)
     if table::key_at(b, m - 1) < table::key_at(b, m) {
         return;
     }
-    let mut late = [0u32; 384];
+    let mut late = [0u32; 192];
     table::put_words(&mut late, 0, &b[m * WIDTH..count * WIDTH]);
     table::clear(b, m * WIDTH, count * WIDTH);
     merge::merge(b, m, &late, count - m);
@@ -125,7 +125,7 @@ pub fn settle(b: &mut [u32], count: usize)
     requires { ⌜ count * width ≤ length (now b) ⌝ }
     ensures { λ _. ⌜ ((rows : List Row) → Keeps rows count (now (b .entry)) → Holds rows count (now (b .exit))) ⌝ }
 {
-    if count < 64 {
+    if count < 32 {
         return;
     }
     let m = first_run(count);
@@ -143,7 +143,7 @@ fn put_late(b: &mut [u32], m: usize, count: usize, row: &[u32]) -> Put
     match put {
         Put::Full => Put::Full,
         Put::Done(c) => {
-            if c == 64 {
+            if c == 32 {
                 join(b, m, m + c);
                 return Put::Done(m + c);
             }
@@ -158,7 +158,7 @@ fn find_old(b: &[u32], count: usize, k: u64) -> Found
     ensures within { λ r. ⌜ Within count r ⌝ }
     ensures found { λ r. ⌜ ((rows : List Row) (K : Keeps rows count (now (b .entry))) → Old k rows (K .first) (now (b .entry)) r) ⌝ }
 {
-    if count < 64 {
+    if count < 32 {
         return Found::Nothing;
     }
     find_long(b, count, k)

@@ -88,7 +88,7 @@ returns-4 c =
     let e : s .args .m + (s .args .count - s .args .m) ≡ s .args .count = omega (arith, s .pre .1) in
     λ first late R.
     subst (λ (n : ℕ). Holds (insertAll late first) n (g .last .0)) e
-    (g .ensures .1 first late (late-cleared R (q .clear .last .0) (q .clear .ensures)) (late-copied R 384 _ (p .put-words .last .0) refl (p .put-words .ensures)) (R .apart))
+    (g .ensures .1 first late (late-cleared R (q .clear .last .0) (q .clear .ensures)) (late-copied R 192 _ (p .put-words .last .0) refl (p .put-words .ensures)) (R .apart))
 
 pub join-spec : {M : Type 1} → statement M
 join-spec =

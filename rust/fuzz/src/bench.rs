@@ -294,12 +294,8 @@ fn others() -> Vec<(&'static str, usize, Program)> {
             vec![at(1, StmtKind::Dim { decls, shared })]
         }),
         ("SHARED, 1,000 names in each of two SUBs", 1_000, |order| {
-            let item = |n: &usize| ScopeItem {
-                name: name_of(*n),
-                array: false,
-                ty: None,
-            };
-            let items = || vec![at(1, StmtKind::Shared(order.iter().map(item).collect()))];
+            let all = || order.iter().copied().map(item).collect();
+            let items = || vec![at(1, StmtKind::Shared(all()))];
             vec![at(1, sub(1_000, items())), at(2, sub(1_001, items()))]
         }),
         ("TYPEs, 480 of three fields", 480, |order| {
@@ -313,6 +309,16 @@ fn others() -> Vec<(&'static str, usize, Program)> {
             let thrice = order.iter().chain(order).chain(order);
             thrice.map(|n| at(1, record(*n, 2))).collect()
         }),
+        (
+            "TYPEs, 60 of two fields, each eleven times after 900 rows of SHARED",
+            60,
+            |order| {
+                let types = (0..11).flat_map(|_| order).map(|n| at(2, record(*n, 2)));
+                let items = (0..900).map(item).collect();
+                let first = at(1, sub(1_000, vec![at(1, StmtKind::Shared(items))]));
+                std::iter::once(first).chain(types).collect()
+            },
+        ),
     ]
 }
 
@@ -324,6 +330,15 @@ fn in_turn(order: &[usize], other: impl Fn(usize) -> StmtKind) -> Vec<Stmt> {
 
 fn name_of(n: usize) -> String {
     format!("A{n:04}")
+}
+
+/// A variable of SHARED.
+fn item(n: usize) -> ScopeItem {
+    ScopeItem {
+        name: name_of(n),
+        array: false,
+        ty: None,
+    }
 }
 
 fn sub(n: usize, body: Vec<Stmt>) -> StmtKind {

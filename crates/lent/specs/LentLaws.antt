@@ -17,6 +17,7 @@ use Rattle.table.specs.Rows.{width, Row, keyOf, key, Table, zeros, image, rowsO
 use Rattle.table.specs.Laws.{pick-true, pick-false, table-down, order}
 use Rattle.table.specs.Each.{Each}
 use Rattle.table.specs.Images.{table-wide, holds-fits, image-none}
+use Rattle.runs.specs.Places.{rows-filled}
 use Rattle.lent.specs.Rules.{kindOk, rowOk}
 use Rattle.lent.specs.Lent.{allZero, AllOk, endedAt, scan, checked, told, lentRows, Lent}
 use Rattle.lent.specs.declared.Checked.{Checked}
@@ -112,14 +113,6 @@ module _ (lo : ℕ) (r : Row) (rs : List Row) (b : List ℕ) (t : Table lo (r �
 
   pub rest-image : drop width b ≡ image width (length (drop width b)) rs
   rest-image = rest-is ∙ ap (λ (j : ℕ). image width j rs) (sym (length-drop width b))
-
--- the rows that stand in a buffer that holds rows are those rows
-pub rows-of-holds : (lo : ℕ) (rows : List Row) (b : List ℕ) → Table lo rows → b ≡ image width (length b) rows → rowsOf (length rows) b ≡ rows
-unfolding rowsOf
-rows-of-holds lo [] b t e = refl
-rows-of-holds lo (r ∷ rs) b t e =
-    ap (λ (x : Row). x ∷ rowsOf (length rs) (drop width b)) (first-row lo r rs b t e)
-    ∙ ap (λ (l : List Row). r ∷ l) (rows-of-holds (suc (key r)) rs (drop width b) (t .2) (rest-image lo r rs b t e))
 
 bad-not : {A : Type 0} (m : ℕ) (s : Checked) → s ≡ Bad → s ≡ Rows m → A
 bad-not m s e f =
@@ -309,5 +302,4 @@ module _ (names : List ℕ) where
   pub lent-rows : (rows : List Row) (n : ℕ) (b : List ℕ) → Lent names rows n b → lentRows names b ≡ gives rows
   unfolding lentRows
   lent-rows rows n b L =
-      let same : rowsOf n b ≡ rows = ap (λ (m : ℕ). rowsOf m b) (sym (L .holds .filled .count)) ∙ rows-of-holds 0 rows b (L .holds .table) (L .holds .filled .words) in
-      ap (told b) (checked-complete rows n b L) ∙ ap gives same
+      ap (told b) (checked-complete rows n b L) ∙ ap gives (rows-filled (L .holds .filled))

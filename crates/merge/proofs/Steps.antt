@@ -15,7 +15,7 @@ use Rattle.table.specs.Laws.{order, order₃, rank-lt, rank-ge, find-ne, ne-lt,
 use Rattle.table.specs.Each.{Each, each-insert, each-at, wide-each}
 use Rattle.table.specs.Images.{flatten-append, flatten-split, table-wide, holds-full, length-flatten-take, image-append, take-rows, drop-rows, drop-tail, key-of-row}
 use Rattle.merge.specs.Merge.{Apart, Merging}
-use Rattle.merge.specs.Laws.{none-head, none-tail, all-table}
+use Rattle.merge.specs.Laws.{none-head, none-tail, insert-front, all-table}
 
 -- every key is below k
 abbrev Below : ℕ → List Row → Type 0
@@ -24,17 +24,6 @@ Below k rows = Each (λ (x : Row). key x < k) rows
 -- ---- rows before and after a place
 
 -- before the later rows
-insert-front : (r : Row) (a c : List Row) → Table (suc (key r)) c → insert r (a ++ c) ≡ insert r a ++ c
-unfolding insert
-insert-front r [] [] t = refl
-insert-front r [] (x ∷ xs) t = insert-gt r x xs (t .1)
-insert-front r (y ∷ ys) c t = go (order₃ (key y) (key r)) (insert-front r ys c t)
-  where
-    go : (key y < key r) ⊎ ((key y ≡ key r) ⊎ (key r < key y)) → insert r (ys ++ c) ≡ insert r ys ++ c → insert r (y ∷ (ys ++ c)) ≡ insert r (y ∷ ys) ++ c
-    go (inl q) ih = insert-lt r y (ys ++ c) q ∙ ap (λ (l : List Row). y ∷ l) ih ∙ ap (λ (l : List Row). l ++ c) (sym (insert-lt r y ys q))
-    go (inr (inl q)) ih = insert-eq r y (ys ++ c) q ∙ ap (λ (l : List Row). l ++ c) (sym (insert-eq r y ys q))
-    go (inr (inr q)) ih = insert-gt r y (ys ++ c) q ∙ ap (λ (l : List Row). l ++ c) (sym (insert-gt r y ys q))
-
 all-front : (k : ℕ) (more a c : List Row) → Below k more → Table k c → insertAll more (a ++ c) ≡ insertAll more a ++ c
 unfolding insertAll Each
 all-front k [] a c h t = refl

@@ -1,7 +1,7 @@
 -- Laws of tables that share no key: rows of both go in in any order, and none takes another's place. By induction on the rows. Assumes nothing.
 use mathlib.Core.Path.{_≡_, refl, sym, ap, _∙_}
 use mathlib.Core.Logic.{_⊎_, inl, inr}
-use mathlib.Core.List.{List, [], _∷_}
+use mathlib.Core.List.{List, [], _∷_, _++_}
 use mathlib.Core.Option.{none}
 use Prim.Native.Nat.{ℕ, suc, _+_, _<_, zero-le}
 use native.Mathlib.Omega.{arith}
@@ -27,6 +27,19 @@ pub find-more : (k : ℕ) (rows more : List Row) → find k more ≡ none → fi
 unfolding insertAll
 find-more k rows [] f g = g
 find-more k rows (x ∷ xs) f g = find-more k (insert x rows) xs (none-tail k x xs f) (find-insert-other k x rows (none-head k x xs f) ∙ g)
+
+-- ---- a row that comes before the later ones
+
+pub insert-front : (r : Row) (a c : List Row) → Table (suc (key r)) c → insert r (a ++ c) ≡ insert r a ++ c
+unfolding insert
+insert-front r [] [] t = refl
+insert-front r [] (x ∷ xs) t = insert-gt r x xs (t .1)
+insert-front r (y ∷ ys) c t = go (order₃ (key y) (key r)) (insert-front r ys c t)
+  where
+    go : (key y < key r) ⊎ ((key y ≡ key r) ⊎ (key r < key y)) → insert r (ys ++ c) ≡ insert r ys ++ c → insert r (y ∷ (ys ++ c)) ≡ insert r (y ∷ ys) ++ c
+    go (inl q) ih = insert-lt r y (ys ++ c) q ∙ ap (λ (l : List Row). y ∷ l) ih ∙ ap (λ (l : List Row). l ++ c) (sym (insert-lt r y ys q))
+    go (inr (inl q)) ih = insert-eq r y (ys ++ c) q ∙ ap (λ (l : List Row). l ++ c) (sym (insert-eq r y ys q))
+    go (inr (inr q)) ih = insert-gt r y (ys ++ c) q ∙ ap (λ (l : List Row). l ++ c) (sym (insert-gt r y ys q))
 
 -- ---- rows with other keys
 

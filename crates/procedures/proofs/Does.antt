@@ -1,5 +1,5 @@
 -- What is done for a procedure, step by step: each step of the code is the definition's, for whatever was read. Assumes nothing.
-use Prim.Native.Nat.{ℕ, _+_, _*_, _≤_}
+use Prim.Native.Nat.{ℕ, suc, _+_, _*_, _≤_, _<_}
 use native.Mathlib.Omega.{arith}
 use mathlib.Core.Path.{_≡_, refl, sym, ap, ap₂, subst, _∙_}
 use mathlib.Core.Bool.{Bool, true, false, not}
@@ -12,9 +12,10 @@ use Rattle.strings.specs.Table.{stringAt}
 use Rattle.expr.specs.Expr.{Expr}
 use Rattle.tree.specs.Sorts.{body as bodySort, Kind, sorts}
 use Rattle.tree.specs.Tree.{one, row as rowShape, Tree, Stmt, over}
-use Rattle.views.specs.View.{TypeRef, Integer, Long, Single, Double, FixedString, Record, head, arg, headOf, argOf, Param, view}
-use Rattle.table.specs.Rows.{Row, width, noteWidth, find, remove, replace}
+use Rattle.views.specs.View.{TypeRef, Integer, Long, Single, Double, FixedString, Record, head, arg, headOf, argOf, Param, param, view}
+use Rattle.table.specs.Rows.{Row, width, noteWidth, key, find, remove, replace}
 use Rattle.runs.specs.Runs.{Keeps}
+use Rattle.runs.specs.Ordinals.{InTurn}
 use Rattle.entries.specs.Entries.{row, entryKey, rowWord, has, bit, procRow, paramRow}
 use Rattle.steps.specs.State.{State, Step, _⨾_, nothing, when, asking, each, change, enter, push}
 use Rattle.steps.specs.declared.Counts.{Counts}
@@ -29,6 +30,7 @@ use Rattle.collect.specs.Seen.{Seen, see}
 use Rattle.collect.specs.Diagnostics.{procInside, procDefined, suffixDiffers, fixedParam, fixedResult, paramUndefined}
 use Rattle.collect.specs.Collect.{given, Proc, paramRows, fixedLength, lastOf, disagrees, differs, resultType, paramString, checkVariableLengthStrings, ranked, arrayParam, undefined, paramType, typedParam, procedure, statement}
 use Rattle.collect.specs.Code.{Collects}
+use Rattle.parts.specs.Over.{rows-length}
 use Rattle.parts.proofs.Types.{head-some}
 use Rattle.procedures.specs.Post.{plain, ParamOf, ParamsAt, BodyAt, ProcOf, ProcIs, Says, Enters, Acts, definedBefore, beforeEntry, withParams, withMarks}
 use Rattle.procedures.specs.declared.ParamAt.{ParamAt}
@@ -230,23 +232,41 @@ params-next name {i} {m} {q} {s} {c} {r} {b} {d} {b′} {b″} e F k done p l o 
     let one : Does (λ N D. enter (some N) last) c r b′ d b″ d = subst (λ (x : Row). Does (λ N D. enter (some N) x) c r b′ d b″ d) (row-of name i m p o e) (rows-does F d k) in
     subst (λ (l : List Row). Does (λ N D. each (enter (some N)) l) s r b d b″ d) is (each-next (λ x N D. enter (some N) x) (paramRows name 0 done) last G one)
 
+-- their rows have the ordinals in turn
+params-turn : (name i : ℕ) (ps : List Param) → InTurn (entryKey 136 name i) (paramRows name i ps)
+unfolding paramRows key
+params-turn name i [] = tt
+params-turn name i (p ∷ ps) =
+    let next : entryKey 136 name (i + 1) ≡ suc (entryKey 136 name i) = omega arith in
+    (refl, refl, subst (λ (n : ℕ). InTurn n (paramRows name (i + 1) ps)) next (params-turn name (i + 1) ps))
+
+params-count : (name i : ℕ) (ps : List Param) → length (paramRows name i ps) ≡ length ps
+unfolding paramRows
+params-count name i [] = refl
+params-count name i (p ∷ ps) = ap (λ (n : ℕ). suc n) (params-count name (i + 1) ps)
+
 -- the procedure and its parameters, in the place of the old ones
-pub with-params : (line m : ℕ) {ws : List ℕ} {p : ProcAt} {s s1 s2 r : Counts} {b b1 b2 b′ : List ℕ} → m ≡ bit (p .function)
-    → Rows (changing (remove (entryKey 136 (p .name) 0) (entryKey 136 (p .name + 1) 0))) s s1 b b1
+pub with-params : (line m : ℕ) {ws : List ℕ} {p : ProcAt} {s s1 s2 r : Counts} {b b1 b2 b′ : List ℕ} → p .count < 4294967296 → m ≡ bit (p .function)
+    → Rows (changing (remove (entryKey 136 (p .name) (p .count)) (entryKey 136 (p .name + 1) 0))) s s1 b b1
     → Rows (entering (row 135 (p .name) (0 ∷ m ∷ line ∷ p .head ∷ p .arg ∷ []))) s1 s2 b1 b2
     → Enters (ParamsAt ws (p .params) (p .count)) (λ ps N D. each (enter (some N)) (paramRows (p .name) 0 ps)) s2 r b2 b′
     → Enters (ProcOf ws p) (λ f N D. withParams (plain N D) line f) s r b b′
-unfolding entering changing each
-with-params line m {ws} {p} {s} {s1} {s2} {r} {b} {b1} {b2} {b′} e F G H =
+unfolding entering changing each key
+with-params line m {ws} {p} {s} {s1} {s2} {r} {b} {b1} {b2} {b′} few e F G H =
     record { kept = H .kept ∙ G .kept ∙ F .kept; fit = H .fit; does = by }
   where
     by : (f : Proc) → ProcOf ws p f → (d : List ℕ) → s .notes * noteWidth ≤ length d → Does (λ N D. withParams (plain N D) line f) s r b d b′ d
     by f o d k =
         let k1 : s1 .notes * noteWidth ≤ length d = subst (λ (m : ℕ). m * noteWidth ≤ length d) (sym (F .kept)) k in
         let k2 : s2 .notes * noteWidth ≤ length d = subst (λ (m : ℕ). m * noteWidth ≤ length d) (sym (G .kept)) k1 in
-        let new : List Row = row 135 (p .name) (0 ∷ m ∷ line ∷ p .head ∷ p .arg ∷ []) ∷ paramRows (p .name) 0 (f .params) in
-        let done = replaced (entryKey 136 (p .name) 0) (entryKey 136 (p .name + 1) 0) new (then (rows-does F d k) (then (rows-does G d k1) (H .does (f .params) (o .params) d k2))) in
-        let is : new ≡ procRow (p .name) (f .is-function) line (headOf (f .ret-ty)) (argOf (f .ret-ty)) ∷ paramRows (p .name) 0 (f .params) = rw (e, o .function, o .head, o .arg) in
+        let top : Row = row 135 (p .name) (0 ∷ m ∷ line ∷ p .head ∷ p .arg ∷ []) in
+        let new : List Row = paramRows (p .name) 0 (f .params) in
+        let counted : p .count ≡ length new =
+        sym (o .params .counted) ∙ sym (rows-length param (o .params .tree)) ∙ ap length (o .params .are) ∙ sym (params-count (p .name) 0 (f .params)) in
+        let done =
+        replaced 136 (p .name) (p .count) top new few counted refl (omega arith) (params-turn (p .name) 0 (f .params))
+        (then (rows-does F d k) (then (rows-does G d k1) (H .does (f .params) (o .params) d k2))) in
+        let is : top ∷ new ≡ procRow (p .name) (f .is-function) line (headOf (f .ret-ty)) (argOf (f .ret-ty)) ∷ paramRows (p .name) 0 (f .params) = rw (e, o .function, o .head, o .arg) in
         same (λ N D. withParams (plain N D) line f)
         (λ N D st.
         ap (λ (l : List Row). change (some N) (replace (entryKey 136 (p .name) 0) (entryKey 136 (p .name + 1) 0) l) st) is

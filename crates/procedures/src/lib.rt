@@ -274,12 +274,12 @@ fn param_rows(words: &[u32], b: &mut [u32], s: Counts, name: u32, from: usize, c
     c
 }
 
-// The procedure and its parameters, in the place of the old ones.
+// The procedure and its parameters, in the place of the old ones: of these only those go that the new ones don't replace.
 fn with_params(words: &[u32], b: &mut [u32], s: Counts, p: ProcAt) -> Counts
     requires { ⌜ SomeProc (now words) p × (p .name < 1024) × (s .rows * width ≤ length (now b)) ⌝ }
     ensures { λ r. ⌜ Enters (ProcOf (now (words .entry)) p) (λ f N D. withParams (plain N D) (p .line) f) s r (now (b .entry)) (now (b .exit)) ⌝ }
 {
-    let s1 = steps::remove_under(b, s, 136, p.name);
+    let s1 = steps::remove_under(b, s, 136, p.name, p.count);
     let f = entries::bit(p.function);
     let s2 = steps::enter(b, s1, 135, p.name, 0, f, p.line, p.head, p.arg);
     param_rows(words, b, s2, p.name, p.params, p.count)

@@ -14,7 +14,7 @@ use borrow.Author.Tests.{eqb-true, eqb-false}
 use Rattle.table.specs.Rows.{Row, key, Table, rank, find, insert, insertAll, remove}
 use Rattle.table.specs.Laws.{order, order₃, table-above, rank-lt, rank-ge, rank-high, rank-mono, rank-above, find-eq, find-ne, find-above, find-hit, find-miss, insert-lt, insert-eq, insert-gt, insert-old, find-insert-same, find-insert-other, insert-table, zone, remove-low, remove-in, remove-high, remove-splice, remove-table}
 use Rattle.merge.specs.Merge.{Apart}
-use Rattle.merge.specs.Laws.{none-head, none-tail, less, insert-first, insert-apart}
+use Rattle.merge.specs.Laws.{none-head, none-tail, insert-front, less, insert-first, insert-apart}
 
 -- ---- what is found
 
@@ -254,11 +254,6 @@ remove-head lo hi x xs ys h e = go (reach lo hi (key x))
     go (inl q) = remove-in lo hi x xs (q .0) (q .1) ∙ e ∙ sym (remove-in lo hi x ys (q .0) (q .1))
     go (inr q) = remove-out lo hi x xs h q ∙ ap (λ (l : List Row). x ∷ l) e ∙ sym (remove-out lo hi x ys h q)
 
-insert-front : (r : Row) (rows : List Row) → Table (suc (key r)) rows → insert r rows ≡ r ∷ rows
-unfolding insert
-insert-front r [] t = refl
-insert-front r (y ∷ ys) t = insert-gt r y ys (t .1)
-
 -- a row that goes in and is taken out
 remove-insert-in : (lo hi : ℕ) (x : Row) (rows : List Row) → lo ≤ hi → lo ≤ key x → key x < hi → remove lo hi (insert x rows) ≡ remove lo hi rows
 unfolding insert
@@ -271,7 +266,7 @@ remove-insert-in lo hi x (y ∷ ys) h p q = go (order₃ (key y) (key x)) (remov
     go (inr (inr a)) ih = ap (remove lo hi) (insert-gt x y ys a) ∙ remove-in lo hi x (y ∷ ys) p q
 
 -- and one that stays
-remove-insert-out : (b lo hi : ℕ) (x : Row) (rows : List Row) → lo ≤ hi → Table b rows → (key x < lo) ⊎ (hi ≤ key x) → remove lo hi (insert x rows) ≡ insert x (remove lo hi rows)
+pub remove-insert-out : (b lo hi : ℕ) (x : Row) (rows : List Row) → lo ≤ hi → Table b rows → (key x < lo) ⊎ (hi ≤ key x) → remove lo hi (insert x rows) ≡ insert x (remove lo hi rows)
 unfolding insert remove
 remove-insert-out b lo hi x [] h t o = remove-out lo hi x [] h o
 remove-insert-out b lo hi x (y ∷ ys) h t o = go (order₃ (key y) (key x)) (reach lo hi (key y)) (remove-insert-out (suc (key y)) lo hi x ys h (t .2) o)
@@ -293,7 +288,7 @@ remove-insert-out b lo hi x (y ∷ ys) h t o = go (order₃ (key y) (key x)) (re
         ∙ sym (insert-eq x y (remove lo hi ys) a) ∙ ap (insert x) (sym (remove-out lo hi y ys h q))
     go (inr (inr a)) q ih =
         let low : Table (suc (key x)) (y ∷ ys) = (t .0, a, t .2) in
-        ap (remove lo hi) (insert-gt x y ys a) ∙ remove-out lo hi x (y ∷ ys) h o ∙ sym (insert-front x (remove lo hi (y ∷ ys)) (remove-table (suc (key x)) lo hi (y ∷ ys) h low))
+        ap (remove lo hi) (insert-gt x y ys a) ∙ remove-out lo hi x (y ∷ ys) h o ∙ sym (insert-front x [] (remove lo hi (y ∷ ys)) (remove-table (suc (key x)) lo hi (y ∷ ys) h low))
 
 -- what is taken out of both is taken out of each
 pub remove-both : (b lo hi : ℕ) (rows more : List Row) → lo ≤ hi → Table b more → Table 0 rows → remove lo hi (insertAll more rows) ≡ insertAll (remove lo hi more) (remove lo hi rows)

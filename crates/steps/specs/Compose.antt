@@ -4,19 +4,21 @@ use mathlib.Core.Path.{_≡_, refl, sym, ap, _∙_, subst}
 use mathlib.Core.Bool.{Bool, true, false}
 use mathlib.Core.List.{List, [], _∷_, _++_}
 use mathlib.Core.Option.{some}
-use Prim.Native.Nat.{ℕ, _*_, _≤_}
+use Prim.Native.Nat.{ℕ, _+_, _*_, _≤_, _<_}
 use native.Mathlib.Omega.{arith}
 use lib.Dec.{leb}
 use lib.ListN.{length}
 use borrow.Author.Tests.{le-leb, lt-leb, leb-true, leb-false}
 use Rattle.words.specs.Word.{pick}
-use Rattle.table.specs.Rows.{Row, width, noteWidth, insert, insertAll, remove, replace}
+use Rattle.table.specs.Rows.{Row, width, noteWidth, key, Table, insert, insertAll, remove, replace}
 use Rattle.table.specs.Laws.{pick-true, pick-false, insert-all-len, remove-len}
 use Rattle.runs.specs.Runs.{Keeps}
-use Rattle.runs.specs.Laws.{keeps-fits, keeps-count}
+use Rattle.runs.specs.Laws.{keeps-fits, keeps-count, keeps-table}
+use Rattle.runs.specs.Ordinals.{InTurn, replace-turn}
+use Rattle.entries.specs.Entries.{entryKey, replaceUnder}
 use Rattle.steps.specs.State.{State, running, stopped, Step, _⨾_, nothing, when, asking, each, stop, fits, change, enter, push}
 use Rattle.steps.specs.declared.Counts.{Counts}
-use Rattle.steps.specs.Held.{Fit, Held, Sized, Does, Notes, Rows, Counted, changing, Left}
+use Rattle.steps.specs.Held.{Fit, Held, Sized, Does, Notes, Rows, changing, Left}
 
 -- ---- a step on one buffer is one on both
 
@@ -25,13 +27,6 @@ notes-does F b h = record { fit = (subst (λ (n : ℕ). n * width ≤ length b) 
 
 pub rows-does : {f : Sized} {s r : Counts} {b b′ : List ℕ} → Rows f s r b b′ → (d : List ℕ) → s .notes * noteWidth ≤ length d → Does f s r b d b′ d
 rows-does F d h = record { fit = (F .fit, subst (λ (n : ℕ). n * noteWidth ≤ length d) (sym (F .kept)) h); after = F .after d }
-
-pub counted-does : {f : Sized} {s r : Counts} → Counted f s r → (b d : List ℕ) → Fit s (length b) (length d) → Does f s r b d b d
-counted-does F b d h =
-    record {
-      fit = (subst (λ (n : ℕ). n * width ≤ length b) (sym (F .rows-kept)) (h .0), subst (λ (n : ℕ). n * noteWidth ≤ length d) (sym (F .notes-kept)) (h .1));
-      after = F .after b d;
-    }
 
 -- ---- nothing, the same by another name, one after the other
 
@@ -165,19 +160,37 @@ module _ (N : ℕ) where
       ap (each (enter (some N)) new) (pick-true (running (remove lo hi rows) notes) (stopped 7) (le-leb (length (remove lo hi rows) * width) N fit))
       ∙ enter-all new (remove lo hi rows) notes fit
 
-pub replaced : (lo hi : ℕ) (new : List Row) {s r : Counts} {b d b′ d′ : List ℕ}
-    → Does (λ N D. changing (remove lo hi) N D ⨾ each (enter (some N)) new) s r b d b′ d′ → Does (changing (replace lo hi new)) s r b d b′ d′
-unfolding changing
-replaced lo hi new {s} {r} {b} {d} {b′} {d′} F = record { fit = F .fit; after = by }
-  where
-    by : (N D : ℕ) (st : State) → Held N D st s b d → Held N D (change (some N) (replace lo hi new) st) r b′ d′
-    by N D (running rows notes) H =
-        let fit : length rows * width ≤ N = omega (arith, keeps-fits (H .inside .1), keeps-count (H .inside .1), H .rows-long) in
-        subst (λ (st : State). Held N D st r b′ d′) (replace-all N lo hi new rows notes fit) (F .after N D (running rows notes) H)
-    by N D (stopped k) H =
-        let e : each (enter (some N)) new (change (some N) (remove lo hi) (stopped k)) ≡ stopped k =
-        stays-then (change (some N) (remove lo hi)) (each (enter (some N)) new) (stays-change N (remove lo hi)) (stays-each (enter (some N)) new (λ row. stays-enter N row)) k in
-        subst (λ (st : State). Held N D st r b′ d′) (e ∙ sym (stays-change N (replace lo hi new) k)) (F .after N D (stopped k) H)
+-- the rows under a name: of the old ones only those are taken out whose ordinals no new one has
+module _ (kind name many : ℕ) (top : Row) (new : List Row) (few : many < 4294967296) (counted : many ≡ length new) (wide : length top ≡ width) (before : key top < entryKey kind name 0)
+    (turn : InTurn (entryKey kind name 0) new) where
+  under-turn : (rows : List Row) → Table 0 rows → replace (entryKey kind name many) (entryKey kind (name + 1) 0) (top ∷ new) rows ≡ replaceUnder kind name (top ∷ new) rows
+  under-turn rows T =
+      let from : entryKey kind name many ≡ entryKey kind name 0 + length new = omega (arith, counted) in
+      ap (λ (k : ℕ). replace k (entryKey kind (name + 1) 0) (top ∷ new) rows) from
+      ∙ replace-turn (entryKey kind name 0) (entryKey kind (name + 1) 0) top new rows wide before turn (omega (arith, counted, few)) T
+
+  pub replaced : {s r : Counts} {b d b′ d′ : List ℕ}
+      → Does (λ N D. changing (remove (entryKey kind name many) (entryKey kind (name + 1) 0)) N D ⨾ each (enter (some N)) (top ∷ new)) s r b d b′ d′
+      → Does (changing (replaceUnder kind name (top ∷ new))) s r b d b′ d′
+  unfolding changing change
+  replaced {s} {r} {b} {d} {b′} {d′} F = record { fit = F .fit; after = by }
+    where
+      lo : ℕ
+      lo = entryKey kind name many
+
+      hi : ℕ
+      hi = entryKey kind (name + 1) 0
+
+      by : (N D : ℕ) (st : State) → Held N D st s b d → Held N D (change (some N) (replaceUnder kind name (top ∷ new)) st) r b′ d′
+      by N D (running rows notes) H =
+          let fit : length rows * width ≤ N = omega (arith, keeps-fits (H .inside .1), keeps-count (H .inside .1), H .rows-long) in
+          subst (λ (st : State). Held N D st r b′ d′)
+          (replace-all N lo hi (top ∷ new) rows notes fit ∙ ap (λ (l : List Row). pick (fits width (some N) l) (running l notes) (stopped 7)) (under-turn rows (keeps-table (H .inside .1))))
+          (F .after N D (running rows notes) H)
+      by N D (stopped k) H =
+          let e : each (enter (some N)) (top ∷ new) (change (some N) (remove lo hi) (stopped k)) ≡ stopped k =
+          stays-then (change (some N) (remove lo hi)) (each (enter (some N)) (top ∷ new)) (stays-change N (remove lo hi)) (stays-each (enter (some N)) (top ∷ new) (λ row. stays-enter N row)) k in
+          subst (λ (st : State). Held N D st r b′ d′) (e ∙ sym (stays-change N (replaceUnder kind name (top ∷ new)) k)) (F .after N D (stopped k) H)
 
 -- ---- a whole run: begun, done, finished
 

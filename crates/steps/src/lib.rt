@@ -160,15 +160,15 @@ pub fn enter(
     rows_put(s, p)
 }
 
-// The rows of a kind under a name go: the fields of a TYPE, the parameters of a procedure, before new ones are entered.
-pub fn remove_under(b: &mut [u32], s: Counts, kind: u32, name: u32) -> Counts
+// The rows of a kind under a name go from an ordinal on: the fields of a TYPE, the parameters of a procedure, which new ones don't replace.
+pub fn remove_under(b: &mut [u32], s: Counts, kind: u32, name: u32, from: u32) -> Counts
     requires { ⌜ (s .rows * width ≤ length (now b)) × (kind < 144) × (name + 1 < 16777216) ⌝ }
-    ensures { λ r. ⌜ Rows (changing (remove (entryKey kind name 0) (entryKey kind (name + 1) 0))) s r (now (b .entry)) (now (b .exit)) ⌝ }
+    ensures { λ r. ⌜ Rows (changing (remove (entryKey kind name from) (entryKey kind (name + 1) 0))) s r (now (b .entry)) (now (b .exit)) ⌝ }
 {
     if s.stop != 0 {
         return s;
     }
-    let lo = entries::entry_key(kind, name, 0);
+    let lo = entries::entry_key(kind, name, from);
     let hi = entries::entry_key(kind, name + 1, 0);
     let n = runs::remove(b, s.rows, lo, hi);
     Counts {

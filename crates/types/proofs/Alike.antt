@@ -1,5 +1,5 @@
 -- What a TYPE asks of the rows is the same after its own rows are changed: its name is never looked up. Assumes nothing.
-use Prim.Native.Nat.{ℕ, _+_, _*_, _≤_, _<_}
+use Prim.Native.Nat.{ℕ, suc, _+_, _*_, _≤_, _<_}
 use mathlib.Core.Path.{_≡_, refl, sym, ap, _∙_, subst}
 use mathlib.Core.Bool.{Bool, true, false}
 use mathlib.Core.Logic.{inl}
@@ -13,6 +13,7 @@ use Rattle.words.specs.Word.{pick}
 use Rattle.views.specs.View.{FieldDecl, head, arg}
 use Rattle.table.specs.Rows.{Row, width, noteWidth, key, find, insert, remove}
 use Rattle.runs.specs.Laws.{keeps-same}
+use Rattle.runs.specs.Ordinals.{InTurn}
 use Rattle.table.specs.Laws.{pick-true, pick-false, find-insert-other, find-remove-out}
 use Rattle.entries.specs.Entries.{entryKey, has, hasRow, typeRow, fieldRow, replaceType}
 use Rattle.lookup.specs.Lookup.{recordWords, typeWords}
@@ -21,7 +22,7 @@ use Rattle.steps.specs.declared.Counts.{Counts}
 use Rattle.steps.specs.Held.{Held, Sized, Rows, changing, entering}
 use Rattle.steps.specs.Compose.{stays-each, stays-enter, stays-change, replaced}
 use Rattle.collect.specs.Collect.{FieldInfo, fieldRows}
-use Rattle.types.specs.Types.{typeCode, said, codeOf, sized, sizedBy, keeps}
+use Rattle.types.specs.Types.{typeCode, said, codeOf, sized, sizedBy, keptFields}
 use Rattle.types.proofs.Laws.{code-kept, Put, RowsAre}
 
 -- the TYPE rows of all other names are the same
@@ -35,8 +36,8 @@ pub alike-trans : {owner : ℕ} {a b c : List Row} → Alike owner a b → Alike
 alike-trans A B = record { same = λ x h n. B .same x h n ∙ A .same x h n }
 
 module _ (owner : ℕ) (rows : List Row) where
-  pub alike-remove : Alike owner rows (remove (entryKey 131 owner 0) (entryKey 131 (owner + 1) 0) rows)
-  alike-remove = record { same = λ x h n. find-remove-out (entryKey 130 x 0) (entryKey 131 owner 0) (entryKey 131 (owner + 1) 0) rows (inl (omega arith)) (omega arith) }
+  pub alike-remove : (from : ℕ) → from < 16777216 → Alike owner rows (remove (entryKey 131 owner from) (entryKey 131 (owner + 1) 0) rows)
+  alike-remove from s = record { same = λ x h n. find-remove-out (entryKey 130 x 0) (entryKey 131 owner from) (entryKey 131 (owner + 1) 0) rows (inl (omega arith)) (omega arith) }
 
   pub alike-type : (words line : ℕ) → Alike owner rows (insert (typeRow owner words line) rows)
   unfolding key
@@ -105,14 +106,14 @@ module _ (owner : ℕ) (rows rows′ : List Row) (A : Alike owner rows rows′) 
       go true e = rw (words-alike h a s (code-kept rows owner before name h a (eqb-true _ 0 e))) refl
       go false e = pick-false _ _ e ∙ sym (pick-false _ _ e)
 
-  pub keeps-alike : (words : ℕ) (before fs : List FieldDecl) → Small before → Small fs → keeps rows′ owner words before fs ≡ keeps rows owner words before fs
-  unfolding keeps
-  keeps-alike words before [] B S = refl
-  keeps-alike words before (f ∷ fs) B S =
+  pub kept-alike : (words : ℕ) (before fs : List FieldDecl) → Small before → Small fs → keptFields rows′ owner words before fs ≡ keptFields rows owner words before fs
+  unfolding keptFields
+  kept-alike words before [] B S = refl
+  kept-alike words before (f ∷ fs) B S =
       rw (
         code-alike before (f .name) (head (f .ty)) (arg (f .ty)) B (S .0),
         sized-alike before words (f .name) (head (f .ty)) (arg (f .ty)) (S .0),
-        keeps-alike (sizedBy rows owner words before f) (before ++ (f ∷ [])) fs (small-snoc before f B (S .0)) (S .1),
+        kept-alike (sizedBy rows owner words before f) (before ++ (f ∷ [])) fs (small-snoc before f B (S .0)) (S .1),
       ) refl
 
 -- ---- states
@@ -132,39 +133,54 @@ change-alike owner N rows f g (stopped k) A = tt
 
 -- the kept fields are entered, whatever the rows are of these
 abbrev pub Entering : ℕ → List FieldDecl → Sized
-Entering owner fs N D = asking (λ rows. each (enter (some N)) (fieldRows owner 0 (keeps rows owner 0 [] fs)))
+Entering owner fs N D = asking (λ rows. each (enter (some N)) (fieldRows owner 0 (keptFields rows owner 0 [] fs)))
 
 entering-alike : (owner N D : ℕ) (rows : List Row) (fs : List FieldDecl) → Small fs → (st : State) → AlikeIn owner rows st
-    → Entering owner fs N D st ≡ each (enter (some N)) (fieldRows owner 0 (keeps rows owner 0 [] fs)) st
+    → Entering owner fs N D st ≡ each (enter (some N)) (fieldRows owner 0 (keptFields rows owner 0 [] fs)) st
 unfolding asking
-entering-alike owner N D rows fs S (running r n) A = ap (λ (ks : List FieldInfo). each (enter (some N)) (fieldRows owner 0 ks) (running r n)) (keeps-alike owner rows r A 0 [] fs tt S)
-entering-alike owner N D rows fs S (stopped k) A = sym (stays-each (enter (some N)) (fieldRows owner 0 (keeps rows owner 0 [] fs)) (λ row. stays-enter N row) k)
+entering-alike owner N D rows fs S (running r n) A = ap (λ (ks : List FieldInfo). each (enter (some N)) (fieldRows owner 0 ks) (running r n)) (kept-alike owner rows r A 0 [] fs tt S)
+entering-alike owner N D rows fs S (stopped k) A = sym (stays-each (enter (some N)) (fieldRows owner 0 (keptFields rows owner 0 [] fs)) (λ row. stays-enter N row) k)
 
--- the old fields go, the TYPE and the kept ones come
-module _ (owner words line : ℕ) (fs : List FieldDecl) {t t₁ t₂ r : Counts} {b b₁ b₂ b′ : List ℕ} (S : Small fs)
-    (R₁ : Rows (changing (remove (entryKey 131 owner 0) (entryKey 131 (owner + 1) 0))) t t₁ b b₁) (R₂ : Rows (entering (typeRow owner words line)) t₁ t₂ b₁ b₂) (R₃ : Rows (Entering owner fs) t₂ r b₂ b′) where
+-- ---- the rows of the kept fields have the ordinals in turn
+
+field-turn : (owner i : ℕ) (ks : List FieldInfo) → InTurn (entryKey 131 owner i) (fieldRows owner i ks)
+unfolding fieldRows key
+field-turn owner i [] = tt
+field-turn owner i (k ∷ ks) =
+    let next : entryKey 131 owner (i + 1) ≡ suc (entryKey 131 owner i) = omega arith in
+    (refl, refl, subst (λ (n : ℕ). InTurn n (fieldRows owner (i + 1) ks)) next (field-turn owner (i + 1) ks))
+
+field-count : (owner i : ℕ) (ks : List FieldInfo) → length (fieldRows owner i ks) ≡ length ks
+unfolding fieldRows
+field-count owner i [] = refl
+field-count owner i (k ∷ ks) = ap (λ (n : ℕ). suc n) (field-count owner (i + 1) ks)
+
+-- the old fields that are not replaced go, the TYPE and the kept ones come
+module _ (owner words line many : ℕ) (fs : List FieldDecl) {t t₁ t₂ r : Counts} {b b₁ b₂ b′ : List ℕ} (S : Small fs) (few : many < 16777216)
+    (R₁ : Rows (changing (remove (entryKey 131 owner many) (entryKey 131 (owner + 1) 0))) t t₁ b b₁) (R₂ : Rows (entering (typeRow owner words line)) t₁ t₂ b₁ b₂) (R₃ : Rows (Entering owner fs) t₂ r b₂ b′) where
   steps-put : (d : List ℕ) (N D : ℕ) (rows notes : List Row) → Held N D (running rows notes) t b d
-      → Held N D (each (enter (some N)) (typeRow owner words line ∷ fieldRows owner 0 (keeps rows owner 0 [] fs)) (change (some N) (remove (entryKey 131 owner 0) (entryKey 131 (owner + 1) 0)) (running rows notes))) r b′ d
+      → Held N D (each (enter (some N)) (typeRow owner words line ∷ fieldRows owner 0 (keptFields rows owner 0 [] fs)) (change (some N) (remove (entryKey 131 owner many) (entryKey 131 (owner + 1) 0)) (running rows notes))) r b′ d
   unfolding changing entering each enter
   steps-put d N D rows notes H =
-      let gone : State = change (some N) (remove (entryKey 131 owner 0) (entryKey 131 (owner + 1) 0)) (running rows notes) in
+      let gone : State = change (some N) (remove (entryKey 131 owner many) (entryKey 131 (owner + 1) 0)) (running rows notes) in
       let typed : State = change (some N) (insert (typeRow owner words line)) gone in
       let A : AlikeIn owner rows typed =
       change-alike owner N rows (insert (typeRow owner words line)) (λ r. alike-type owner r words line) gone
-      (change-alike owner N rows (remove (entryKey 131 owner 0) (entryKey 131 (owner + 1) 0)) (λ r. alike-remove owner r) (running rows notes) alike-refl) in
+      (change-alike owner N rows (remove (entryKey 131 owner many) (entryKey 131 (owner + 1) 0)) (λ r. alike-remove owner r many few) (running rows notes) alike-refl) in
       subst (λ (st : State). Held N D st r b′ d) (entering-alike owner N D rows fs S typed A) (R₃ .after d N D typed (R₂ .after d N D gone (R₁ .after d N D (running rows notes) H)))
 
-  put-running : (d : List ℕ) → t .notes * noteWidth ≤ length d → (N D : ℕ) (rows notes : List Row) → Held N D (running rows notes) t b d
-      → Held N D (Put rows owner N line words (keeps rows owner 0 [] fs) (running rows notes)) r b′ d
-  unfolding changing
-  put-running d fit N D rows notes H =
-      replaced (entryKey 131 owner 0) (entryKey 131 (owner + 1) 0) (typeRow owner words line ∷ fieldRows owner 0 (keeps rows owner 0 [] fs)) {s = t} {r = r} {b = b} {d = d} {b′ = b′} {d′ = d}
+  put-running : (d : List ℕ) → t .notes * noteWidth ≤ length d → (N D : ℕ) (rows notes : List Row) → many ≡ length (keptFields rows owner 0 [] fs) → Held N D (running rows notes) t b d
+      → Held N D (Put rows owner N line words (keptFields rows owner 0 [] fs) (running rows notes)) r b′ d
+  unfolding changing key
+  put-running d fit N D rows notes e H =
+      replaced 131 owner many (typeRow owner words line) (fieldRows owner 0 (keptFields rows owner 0 [] fs)) (omega (arith, few)) (e ∙ sym (field-count owner 0 (keptFields rows owner 0 [] fs))) refl (omega arith)
+      (field-turn owner 0 (keptFields rows owner 0 [] fs)) {s = t} {r = r} {b = b} {d = d} {b′ = b′} {d′ = d}
       (record { fit = (R₃ .fit, omega (arith, R₁ .kept, R₂ .kept, R₃ .kept)); after = by }) .after N D (running rows notes) H
     where
       by : (N′ D′ : ℕ) (st : State) → Held N′ D′ st t b d
-          → Held N′ D′ (each (enter (some N′)) (typeRow owner words line ∷ fieldRows owner 0 (keeps rows owner 0 [] fs)) (change (some N′) (remove (entryKey 131 owner 0) (entryKey 131 (owner + 1) 0)) st)) r b′ d
+          → Held N′ D′ (each (enter (some N′)) (typeRow owner words line ∷ fieldRows owner 0 (keptFields rows owner 0 [] fs)) (change (some N′) (remove (entryKey 131 owner many) (entryKey 131 (owner + 1) 0)) st)) r b′ d
       by N′ D′ (running r′ n′) K =
-          subst (λ (x : List Row). Held N′ D′ (each (enter (some N′)) (typeRow owner words line ∷ fieldRows owner 0 (keeps x owner 0 [] fs)) (change (some N′) (remove (entryKey 131 owner 0) (entryKey 131 (owner + 1) 0)) (running r′ n′))) r b′ d)
+          subst (λ (x : List Row). Held N′ D′ (each (enter (some N′)) (typeRow owner words line ∷ fieldRows owner 0 (keptFields x owner 0 [] fs)) (change (some N′) (remove (entryKey 131 owner many) (entryKey 131 (owner + 1) 0)) (running r′ n′))) r b′ d)
           (keeps-same (K .inside .1) (H .inside .1)) (steps-put d N′ D′ r′ n′ K)
       by N′ D′ (stopped k) K =
           let z : 0 ≡ k = sym (H .inside .0) ∙ K .inside .0 in
@@ -174,8 +190,9 @@ module _ (owner words line : ℕ) (fs : List FieldDecl) {t t₁ t₂ r : Counts}
   unfolding changing entering enter change asking
   put-stopped d N D k H = R₃ .after d N D (stopped k) (R₂ .after d N D (stopped k) (R₁ .after d N D (stopped k) H))
 
-  pub put-does : (d : List ℕ) → t .notes * noteWidth ≤ length d → (N D : ℕ) (rows : List Row) (st : State) → RowsAre rows owner st → Held N D st t b d
-      → Held N D (Put rows owner N line words (keeps rows owner 0 [] fs) st) r b′ d
-  put-does d fit N D rows (running r′ n′) e H =
-      subst (λ (x : List Row). Held N D (Put rows owner N line words (keeps x owner 0 [] fs) (running r′ n′)) r b′ d) e (put-running d fit N D r′ n′ H)
-  put-does d fit N D rows (stopped k) e H = subst (λ (st : State). Held N D st r b′ d) (sym (stays-change N (replaceType owner (typeRow owner words line ∷ fieldRows owner 0 (keeps rows owner 0 [] fs))) k)) (put-stopped d N D k H)
+  pub put-does : (d : List ℕ) → t .notes * noteWidth ≤ length d → (N D : ℕ) (rows : List Row) (st : State) → RowsAre rows owner st → many ≡ length (keptFields rows owner 0 [] fs) → Held N D st t b d
+      → Held N D (Put rows owner N line words (keptFields rows owner 0 [] fs) st) r b′ d
+  put-does d fit N D rows (running r′ n′) e m H =
+      subst (λ (x : List Row). Held N D (Put rows owner N line words (keptFields x owner 0 [] fs) (running r′ n′)) r b′ d) e
+      (put-running d fit N D r′ n′ (m ∙ ap (λ (x : List Row). length (keptFields x owner 0 [] fs)) (sym e)) H)
+  put-does d fit N D rows (stopped k) e m H = subst (λ (st : State). Held N D st r b′ d) (sym (stays-change N (replaceType owner (typeRow owner words line ∷ fieldRows owner 0 (keptFields rows owner 0 [] fs))) k)) (put-stopped d N D k H)

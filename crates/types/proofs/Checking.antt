@@ -1,10 +1,13 @@
 -- The fields looked at in order: the loop of `check`. What is left to look at does the same as all of it. Assumes nothing.
 use Prim.Native.Nat.{ℕ, _+_, _*_, _≤_, _<_}
 use mathlib.Core.Path.{_≡_, refl, sym, ap, _∙_, subst}
+use mathlib.Core.Bool.{Bool, true, false}
 use mathlib.Core.Logic.{_⊎_, inl, inr}
 use mathlib.Core.List.{List, [], _∷_, _++_}
 use native.Mathlib.Omega.{arith}
+use lib.Dec.{eqb}
 use lib.ListN.{length}
+use Rattle.words.specs.Word.{pick}
 use Rattle.expr.specs.Expr.{Expr}
 use Rattle.tree.specs.Sorts.{FieldDecl as FieldRow}
 use Rattle.tree.specs.Tree.{Tree, row as oneRow, rows as manyRows, count}
@@ -16,25 +19,28 @@ use Rattle.table.specs.Laws.{order}
 use Rattle.steps.specs.State.{State, running}
 use Rattle.steps.specs.declared.Counts.{Counts}
 use Rattle.steps.specs.Held.{Held}
-use Rattle.types.specs.Types.{SomeFields, FieldIs, Upto, codeOf, fieldCode, sized, looks, checks, total, Looks, Checks}
+use Rattle.collect.specs.Collect.{FieldInfo}
+use Rattle.types.specs.Types.{SomeFields, FieldIs, Upto, codeOf, fieldCode, sized, sizedBy, looks, checks, total, keptFields, Looks, Checks}
 use Rattle.types.specs.declared.FieldAt.{FieldAt}
-use Rattle.types.specs.declared.Summed.{Summed}
+use Rattle.types.specs.declared.Kept.{Kept}
 use Rattle.types.proofs.Walk.{next-of, Rest, rest-all, rest-next, rest-before, rest-none}
 
-pub record Mid (N D : ℕ) (rows notes : List Row) (line owner : ℕ) (fs : List FieldDecl) (c : Summed) (b d : List ℕ) (before after : List FieldDecl) : Type 0 where
+pub record Mid (N D : ℕ) (rows notes : List Row) (line owner : ℕ) (fs : List FieldDecl) (c : Kept) (b d : List ℕ) (before after : List FieldDecl) : Type 0 where
   pub state : State
   pub held : Held N D state (c .counts) b d
   pub left : checks D rows line owner (c .words) before after state ≡ checks D rows line owner 0 [] fs (running rows notes)
   pub size : total rows owner (c .words) before after ≡ total rows owner 0 [] fs
+  pub many : c .fields + length (keptFields rows owner (c .words) before after) ≡ length (keptFields rows owner 0 [] fs)
 
-pub record CheckingAt (ws ns : List ℕ) (m : ℕ) (v : Tree Expr (manyRows FieldRow)) (end line owner : ℕ) (s : Counts) (b d₀ : List ℕ) (c : Summed) (a i : ℕ) (d : List ℕ) : Type 0 where
+pub record CheckingAt (ws ns : List ℕ) (m : ℕ) (v : Tree Expr (manyRows FieldRow)) (end line owner : ℕ) (s : Counts) (b d₀ : List ℕ) (c : Kept) (a i : ℕ) (d : List ℕ) : Type 0 where
   pub past : Rest ws ns m v end a i
   pub mid : (N D : ℕ) (rows notes : List Row) → Held N D (running rows notes) s b d₀ → Mid N D rows notes line owner (rowsOf fieldDecl v) c b d (past .before) (rowsOf fieldDecl (past .rest))
 
-pub record Checking (ws : List ℕ) (at n line owner : ℕ) (s : Counts) (b d₀ : List ℕ) (c : Summed) (a i : ℕ) (d : List ℕ) : Type 0 where
+pub record Checking (ws : List ℕ) (at n line owner : ℕ) (s : Counts) (b d₀ : List ℕ) (c : Kept) (a i : ℕ) (d : List ℕ) : Type 0 where
   pub fit : c .counts .notes * noteWidth ≤ length d
   pub kept : c .counts .rows ≡ s .rows
   pub few : c .words ≤ 65535
+  pub fields : c .fields ≤ i
   pub upto : i ≤ n
   pub walked : (ns : List ℕ) (m : ℕ) (v : Tree Expr (manyRows FieldRow)) (end : ℕ) → Stands ws ns m at v end → n ≤ count v → CheckingAt ws ns m v end line owner s b d₀ c a i d
 
@@ -44,6 +50,17 @@ all-of i n le out = go (order i n)
     go : (i < n) ⊎ (n ≤ i) → i ≡ n
     go (inl h) = absurd (out h)
     go (inr h) = omega arith
+
+pub more-fields : (code k k′ i : ℕ) → k′ ≡ pick (eqb code 0) (k + 1) k → k ≤ i → k′ ≤ i + 1
+more-fields code k k′ i e h = go (eqb code 0) e
+  where
+    go : (t : Bool) → k′ ≡ pick t (k + 1) k → k′ ≤ i + 1
+    go true q = omega arith
+    go false q = omega arith
+
+one-kept : (t : Bool) (k : ℕ) (x : FieldInfo) (xs : List FieldInfo) → pick t (k + 1) k + length xs ≡ k + length (pick t (x ∷ xs) xs)
+one-kept true k x xs = omega arith
+one-kept false k x xs = refl
 
 -- one more field, by what the code knows of it
 module _ (D : ℕ) (rows : List Row) (line owner w w′ code name h a : ℕ) (before tail : List FieldDecl) (f : FieldDecl)
@@ -56,6 +73,12 @@ module _ (D : ℕ) (rows : List Row) (line owner w w′ code name h a : ℕ) (be
   unfolding total
   total-step = rw (ew, ec, eh, ea) refl
 
+  kept-step : (k k′ : ℕ) → k′ ≡ pick (eqb code 0) (k + 1) k
+      → k′ + length (keptFields rows owner w′ (before ++ (f ∷ [])) tail) ≡ k + length (keptFields rows owner w before (f ∷ tail))
+  unfolding keptFields
+  kept-step k k′ ek =
+      rw (ek, ew, ec, eh, ea) (one-kept (eqb (fieldCode rows owner before f) 0) k (record { name = f .name; word = w; ty = f .ty }) (keptFields rows owner (sizedBy rows owner w before f) (before ++ (f ∷ [])) tail))
+
 -- the code of the field there, as its tree has it
 pub code-there : {ws ns : List ℕ} {m : ℕ} {v : Tree Expr (manyRows FieldRow)} {end a i : ℕ} (at owner : ℕ) (rows : List Row) (f : FieldAt) (code : ℕ) (p : Rest ws ns m v end a i) (g : FieldDecl)
     → f .name ≡ g .name → f .head ≡ head (g .ty) → f .arg ≡ arg (g .ty) → Stands ws ns m at v end → Upto ws at i (λ fs. code ≡ codeOf rows owner fs (f .name) (f .head) (f .arg)) → code ≡ fieldCode rows owner (p .before) g
@@ -65,26 +88,27 @@ code-there {ws} {ns} {m} {v} {end} {a} {i} at owner rows f code p g en eh ea S U
     rw (en, eh, ea) at e
 
 module _ {ws : List ℕ} {at n line owner : ℕ} {s : Counts} {b d₀ : List ℕ} where
-  pub checking-all : s .notes * noteWidth ≤ length d₀ → Checking ws at n line owner s b d₀ (record { counts = s; words = 0 }) at 0 d₀
+  pub checking-all : s .notes * noteWidth ≤ length d₀ → Checking ws at n line owner s b d₀ (record { counts = s; fields = 0; words = 0 }) at 0 d₀
   checking-all h =
       record {
         fit = h;
         kept = refl;
         few = omega arith;
+        fields = omega arith;
         upto = omega arith;
-        walked = λ ns m v end S e. record { past = rest-all S; mid = λ N D rows notes H. record { state = running rows notes; held = H; left = refl; size = refl } };
+        walked = λ ns m v end S e. record { past = rest-all S; mid = λ N D rows notes H. record { state = running rows notes; held = H; left = refl; size = refl; many = omega arith } };
       }
 
-  pub checking-some : {c : Summed} {a i : ℕ} {d : List ℕ} → SomeFields ws at n → Checking ws at n line owner s b d₀ c a i d → i < n → SomeTree (oneRow FieldRow) ws a
+  pub checking-some : {c : Kept} {a i : ℕ} {d : List ℕ} → SomeFields ws at n → Checking ws at n line owner s b d₀ c a i d → i < n → SomeTree (oneRow FieldRow) ws a
   checking-some {c} {a} {i} {d} F C h =
       let p = C .walked (F .names) (F .strings) (F .tree) (F .end) (F .stands) (F .enough) .past in
       let q = next-of (p .rest) (omega (arith, p .counted, F .enough)) (p .there) in
       record { names = F .names; strings = F .strings; tree = q .field; end = q .mid; stands = q .here }
 
-  pub checking-next : {c c′ : Summed} {a i : ℕ} {d d′ : List ℕ} → Checking ws at n line owner s b d₀ c a i d → i < n → (f : FieldAt) → FieldIs ws a f → (code : ℕ)
+  pub checking-next : {c c′ : Kept} {a i : ℕ} {d d′ : List ℕ} → Checking ws at n line owner s b d₀ c a i d → i < n → (f : FieldAt) → FieldIs ws a f → (code : ℕ)
       → ((rows : List Row) → Keeps rows (s .rows) b → Upto ws at i (λ fs. code ≡ codeOf rows owner fs (f .name) (f .head) (f .arg)))
       → Looks line owner code (f .name) (f .head) (f .arg) c c′ b d d′ → Checking ws at n line owner s b d₀ c′ (f .next) (i + 1) d′
-  checking-next {c} {c′} {a} {i} {d} {d′} C h f F code U L = record { fit = L .fit; kept = L .kept ∙ C .kept; few = L .few; upto = omega arith; walked = by }
+  checking-next {c} {c′} {a} {i} {d} {d′} C h f F code U L = record { fit = L .fit; kept = L .kept ∙ C .kept; few = L .few; fields = more-fields code (c .fields) (c′ .fields) i (L .more) (C .fields); upto = omega arith; walked = by }
     where
       by : (ns : List ℕ) (m : ℕ) (v : Tree Expr (manyRows FieldRow)) (end : ℕ) → Stands ws ns m at v end → n ≤ count v → CheckingAt ws ns m v end line owner s b d₀ c′ (f .next) (i + 1) d′
       by ns m v end S e =
@@ -108,22 +132,29 @@ module _ {ws : List ℕ} {at n line owner : ℕ} {s : Counts} {b d₀ : List ℕ
                       ∙ ap (λ (l : List FieldDecl). checks D rows line owner (c .words) (p .before) l (M .state)) (sym (q .items)) ∙ M .left;
                   size = total-step D rows line owner (c .words) (c′ .words) code (f .name) (f .head) (f .arg) (p .before) tail decl ec (g .0) (g .1) (g .2) ew
                       ∙ ap (total rows owner (c .words) (p .before)) (sym (q .items)) ∙ M .size;
+                  many = kept-step D rows line owner (c .words) (c′ .words) code (f .name) (f .head) (f .arg) (p .before) tail decl ec (g .0) (g .1) (g .2) ew (c .fields) (c′ .fields) (L .more)
+                      ∙ ap (λ (l : List FieldDecl). c .fields + length (keptFields rows owner (c .words) (p .before) l)) (sym (q .items)) ∙ M .many;
                 };
           }
 
-  pub checking-done : {c : Summed} {a i : ℕ} {d : List ℕ} → Checking ws at n line owner s b d₀ c a i d → (i < n → ⊥) → Checks ws at n line owner s c b d₀ d
-  unfolding checks total
-  checking-done {c} {a} {i} {d} C h = record { fit = C .fit; kept = C .kept; after = by }
+  pub checking-done : {c : Kept} {a i : ℕ} {d : List ℕ} → Checking ws at n line owner s b d₀ c a i d → (i < n → ⊥) → Checks ws at n line owner s c b d₀ d
+  unfolding checks total keptFields
+  checking-done {c} {a} {i} {d} C h = record { fit = C .fit; kept = C .kept; upto = omega (arith, C .fields, C .upto); after = by }
     where
       last : i ≡ n
       last = all-of i n (C .upto) h
 
       by : (ns : List ℕ) (m : ℕ) (v : Tree Expr (manyRows FieldRow)) (end : ℕ) → Stands ws ns m at v end → count v ≡ n → (N D : ℕ) (rows notes : List Row) → Held N D (running rows notes) s b d₀
-          → Held N D (checks D rows line owner 0 [] (rowsOf fieldDecl v) (running rows notes)) (c .counts) b d × (c .words ≡ total rows owner 0 [] (rowsOf fieldDecl v))
+          → Held N D (checks D rows line owner 0 [] (rowsOf fieldDecl v) (running rows notes)) (c .counts) b d × (c .words ≡ total rows owner 0 [] (rowsOf fieldDecl v)) × (c .fields ≡ length (keptFields rows owner 0 [] (rowsOf fieldDecl v)))
       by ns m v end S e N D rows notes H =
           let w = C .walked ns m v end S (omega arith) in
           let M = w .mid N D rows notes H in
           let z : rowsOf fieldDecl (w .past .rest) ≡ [] = rest-none (w .past) (e ∙ sym last) in
           let l : M .state ≡ checks D rows line owner 0 [] (rowsOf fieldDecl v) (running rows notes) =
           ap (λ (l : List FieldDecl). checks D rows line owner (c .words) (w .past .before) l (M .state)) (sym z) ∙ M .left in
-          (subst (λ (st : State). Held N D st (c .counts) b d) l (M .held), ap (total rows owner (c .words) (w .past .before)) (sym z) ∙ M .size)
+          let none : c .fields ≡ c .fields + length (keptFields rows owner (c .words) (w .past .before) []) = omega arith in
+          (
+            subst (λ (st : State). Held N D st (c .counts) b d) l (M .held),
+            ap (total rows owner (c .words) (w .past .before)) (sym z) ∙ M .size,
+            none ∙ ap (λ (l : List FieldDecl). c .fields + length (keptFields rows owner (c .words) (w .past .before) l)) (sym z) ∙ M .many,
+          )

@@ -21,12 +21,12 @@ use Rattle.steps.specs.declared.Counts.{Counts}
 use Rattle.steps.specs.Held.{Held, Rows}
 use Rattle.steps.specs.Compose.{stays-each, stays-enter}
 use Rattle.collect.specs.Collect.{FieldInfo, fieldRows}
-use Rattle.types.specs.Types.{SomeFields, FieldIs, Upto, codeOf, fieldCode, sized, sizedBy, keeps, KeepsField, Enters}
+use Rattle.types.specs.Types.{SomeFields, FieldIs, Upto, codeOf, fieldCode, sized, sizedBy, keptFields, KeepsField, Enters}
 use Rattle.types.specs.declared.FieldAt.{FieldAt}
 use Rattle.types.specs.declared.Kept.{Kept}
 use Rattle.types.proofs.Alike.{Alike, alike-refl, alike-field, Small, small-left, small-right, code-alike, sized-alike, AlikeIn, change-alike, Entering}
 use Rattle.types.proofs.Walk.{rows-small, next-of, Rest, rest-all, rest-next, rest-none}
-use Rattle.types.proofs.Checking.{all-of, code-there}
+use Rattle.types.proofs.Checking.{all-of, more-fields, code-there}
 
 -- the rows that a run begins with
 abbrev pub rowsIn : State → List Row
@@ -35,17 +35,17 @@ rowsIn (stopped k) = []
 
 -- what is left to enter does the same as all of it
 abbrev pub Inside : (owner N : ℕ) → List Row → (whole : State) → (k words : ℕ) → (before after : List FieldDecl) → State → Type 0
-Inside owner N rows whole k words before after (running r n) = Alike owner rows r × (each (enter (some N)) (fieldRows owner k (keeps rows owner words before after)) (running r n) ≡ whole)
+Inside owner N rows whole k words before after (running r n) = Alike owner rows r × (each (enter (some N)) (fieldRows owner k (keptFields rows owner words before after)) (running r n) ≡ whole)
 Inside owner N rows whole k words before after (stopped j) = stopped j ≡ whole
 
 module _ (owner N : ℕ) (rows : List Row) (whole : State) where
   inside-of : (k words : ℕ) (before after : List FieldDecl) (st : State) → AlikeIn owner rows st
-      → each (enter (some N)) (fieldRows owner k (keeps rows owner words before after)) st ≡ whole → Inside owner N rows whole k words before after st
+      → each (enter (some N)) (fieldRows owner k (keptFields rows owner words before after)) st ≡ whole → Inside owner N rows whole k words before after st
   inside-of k words before after (running r n) A e = (A, e)
-  inside-of k words before after (stopped j) A e = sym (stays-each (enter (some N)) (fieldRows owner k (keeps rows owner words before after)) (λ row. stays-enter N row) j) ∙ e
+  inside-of k words before after (stopped j) A e = sym (stays-each (enter (some N)) (fieldRows owner k (keptFields rows owner words before after)) (λ row. stays-enter N row) j) ∙ e
 
   inside-end : (k words : ℕ) (before : List FieldDecl) (st : State) → Inside owner N rows whole k words before [] st → st ≡ whole
-  unfolding keeps fieldRows each
+  unfolding keptFields fieldRows each
   inside-end k words before (running r n) I = I .1
   inside-end k words before (stopped j) I = I
 
@@ -63,10 +63,10 @@ module _ (owner N : ℕ) (rows : List Row) (whole : State) where
 
   keep-step : (k k′ w w′ code name h a : ℕ) (before tail : List FieldDecl) (f : FieldDecl) (st : State)
       → code ≡ fieldCode rows owner before f → name ≡ f .name → h ≡ head (f .ty) → a ≡ arg (f .ty) → w′ ≡ sized rows w code h a → k′ ≡ pick (eqb code 0) (k + 1) k
-      → each (enter (some N)) (fieldRows owner k′ (keeps rows owner w′ (before ++ (f ∷ [])) tail)) (each (enter (some N)) (pick (eqb code 0) (fieldRow owner k name w h a ∷ []) []) st)
-      ≡ each (enter (some N)) (fieldRows owner k (keeps rows owner w before (f ∷ tail))) st
-  unfolding keeps
-  keep-step k k′ w w′ code name h a before tail f st ec en eh ea ew ek = rw (ek, ew, ec, en, eh, ea) (keep-one k w f st (eqb (fieldCode rows owner before f) 0) (keeps rows owner (sizedBy rows owner w before f) (before ++ (f ∷ [])) tail))
+      → each (enter (some N)) (fieldRows owner k′ (keptFields rows owner w′ (before ++ (f ∷ [])) tail)) (each (enter (some N)) (pick (eqb code 0) (fieldRow owner k name w h a ∷ []) []) st)
+      ≡ each (enter (some N)) (fieldRows owner k (keptFields rows owner w before (f ∷ tail))) st
+  unfolding keptFields
+  keep-step k k′ w w′ code name h a before tail f st ec en eh ea ew ek = rw (ek, ew, ec, en, eh, ea) (keep-one k w f st (eqb (fieldCode rows owner before f) 0) (keptFields rows owner (sizedBy rows owner w before f) (before ++ (f ∷ [])) tail))
 
 pub inside-start : (owner N D : ℕ) (fs : List FieldDecl) (st : State) → Inside owner N (rowsIn st) (Entering owner fs N D st) 0 0 [] fs st
 unfolding asking
@@ -109,13 +109,6 @@ pub record EnteringMid (ws : List ℕ) (at n owner : ℕ) (s : Counts) (b₀ : L
   pub fields : c .fields ≤ i
   pub upto : i ≤ n
   pub walked : (ns : List ℕ) (m : ℕ) (v : Tree Expr (manyRows FieldRow)) (end : ℕ) → Stands ws ns m at v end → n ≤ count v → EnteringAt ws ns m v end owner s b₀ c a i b
-
-more-fields : (code k k′ i : ℕ) → k′ ≡ pick (eqb code 0) (k + 1) k → k ≤ i → k′ ≤ i + 1
-more-fields code k k′ i e h = go (eqb code 0) e
-  where
-    go : (t : Bool) → k′ ≡ pick t (k + 1) k → k′ ≤ i + 1
-    go true q = omega arith
-    go false q = omega arith
 
 held-rows : {N D : ℕ} {c : Counts} {b d : List ℕ} (st : State) → Held N D st c b d → (r n : List Row) → st ≡ running r n → Keeps r (c .rows) b
 held-rows {N} {D} {c} {b} {d} st H r n e = subst (λ (x : State). Held N D x c b d) e H .inside .1

@@ -18,7 +18,7 @@ use Rattle.steps.specs.State.{State, running, stopped, Step, nothing, stop, cha
 use Rattle.steps.specs.Compose.{Stays, stays-pick, stays-stop, stays-push, stays-change}
 use Rattle.collect.specs.Diagnostics.{fieldTwice, containsItself, fieldUndefined}
 use Rattle.collect.specs.Collect.{FieldInfo, RecordInfo, hasField, typeRejected, rejected, withField, fieldRows, given, orSay, fields}
-use Rattle.types.specs.Types.{typeCode, said, codeOf, fieldCode, noteOf, grown, sized, sizedBy, looks, checks, total, keeps}
+use Rattle.types.specs.Types.{typeCode, said, codeOf, fieldCode, noteOf, grown, sized, sizedBy, looks, checks, total, keptFields}
 
 -- ---- a field said before: among the kept ones, or among those before it that may stand there
 
@@ -134,28 +134,28 @@ module _ (rows : List Row) (owner : ℕ) where
     abbrev Split : RecordInfo → (before fs : List FieldDecl) → State → Type 0
     Split info before fs st =
         fields (given (some N) (some D) bytes ends erased) rows line owner info fs st
-        ≡ Put N line (total rows owner (info .words) before fs) (info .fields ++ keeps rows owner (info .words) before fs) (checks D rows line owner (info .words) before fs st)
+        ≡ Put N line (total rows owner (info .words) before fs) (info .fields ++ keptFields rows owner (info .words) before fs) (checks D rows line owner (info .words) before fs st)
 
     -- one field: kept and not too long, too long, rejected
     split-kept : (info : RecordInfo) (before fs : List FieldDecl) (f : FieldDecl) (st : State) → eqb (fieldCode rows owner before f) 0 ≡ true
         → leb (info .words + typeWords rows (head (f .ty)) (arg (f .ty))) 65535 ≡ true → Split (withField rows info f) (before ++ (f ∷ [])) fs st
         → fields (given (some N) (some D) bytes ends erased) rows line owner (withField rows info f) fs st
-        ≡ Put N line (total rows owner (info .words) before (f ∷ fs)) (info .fields ++ keeps rows owner (info .words) before (f ∷ fs)) (checks D rows line owner (info .words) before (f ∷ fs) st)
-    unfolding withField checks total keeps looks sized grown
+        ≡ Put N line (total rows owner (info .words) before (f ∷ fs)) (info .fields ++ keptFields rows owner (info .words) before (f ∷ fs)) (checks D rows line owner (info .words) before (f ∷ fs) st)
+    unfolding withField checks total keptFields looks sized grown
     split-kept info before fs f st e l ih =
         rw (e, l) (ih ∙ ap (λ (k : List FieldInfo). Put N line
         (total rows owner (info .words + typeWords rows (head (f .ty)) (arg (f .ty))) (before ++ (f ∷ [])) fs) k
         (checks D rows line owner (info .words + typeWords rows (head (f .ty)) (arg (f .ty))) (before ++ (f ∷ [])) fs st))
-        (append-snoc (info .fields) (record { name = f .name; word = info .words; ty = f .ty }) (keeps rows owner (info .words + typeWords rows (head (f .ty)) (arg (f .ty))) (before ++ (f ∷ [])) fs)))
+        (append-snoc (info .fields) (record { name = f .name; word = info .words; ty = f .ty }) (keptFields rows owner (info .words + typeWords rows (head (f .ty)) (arg (f .ty))) (before ++ (f ∷ [])) fs)))
 
     split-long : (info : RecordInfo) (before fs : List FieldDecl) (f : FieldDecl) (st : State) → eqb (fieldCode rows owner before f) 0 ≡ true
         → leb (info .words + typeWords rows (head (f .ty)) (arg (f .ty))) 65535 ≡ false
         → stop 9 st
-        ≡ Put N line (total rows owner (info .words) before (f ∷ fs)) (info .fields ++ keeps rows owner (info .words) before (f ∷ fs)) (checks D rows line owner (info .words) before (f ∷ fs) st)
+        ≡ Put N line (total rows owner (info .words) before (f ∷ fs)) (info .fields ++ keptFields rows owner (info .words) before (f ∷ fs)) (checks D rows line owner (info .words) before (f ∷ fs) st)
     unfolding checks looks
     split-long info before fs f st e l =
         let w : ℕ = total rows owner (info .words) before (f ∷ fs) in
-        let k : List FieldInfo = info .fields ++ keeps rows owner (info .words) before (f ∷ fs) in
+        let k : List FieldInfo = info .fields ++ keptFields rows owner (info .words) before (f ∷ fs) in
         stopped-both (sizedBy rows owner (info .words) before f) (before ++ (f ∷ [])) fs w k st
         ∙ ap (λ (g : Step). Put N line w k (checks D rows line owner (sizedBy rows owner (info .words) before f) (before ++ (f ∷ [])) fs (g st)))
         (sym (pick-true {A = Step} (pick (leb (info .words + typeWords rows (head (f .ty)) (arg (f .ty))) 65535) nothing (stop 9)) (push (some D) (noteOf (fieldCode rows owner before f) line owner (f .name) (arg (f .ty)))) e ∙ pick-false {A = Step} nothing (stop 9) l))
@@ -163,12 +163,12 @@ module _ (rows : List Row) (owner : ℕ) where
     split-rejected : (info : RecordInfo) (before fs : List FieldDecl) (f : FieldDecl) (st : State) → eqb (fieldCode rows owner before f) 0 ≡ false
         → Split info (before ++ (f ∷ [])) fs (push (some D) (noteOf (fieldCode rows owner before f) line owner (f .name) (arg (f .ty))) st)
         → fields (given (some N) (some D) bytes ends erased) rows line owner info fs (push (some D) (noteOf (fieldCode rows owner before f) line owner (f .name) (arg (f .ty))) st)
-        ≡ Put N line (total rows owner (info .words) before (f ∷ fs)) (info .fields ++ keeps rows owner (info .words) before (f ∷ fs)) (checks D rows line owner (info .words) before (f ∷ fs) st)
-    unfolding checks total keeps looks sized
+        ≡ Put N line (total rows owner (info .words) before (f ∷ fs)) (info .fields ++ keptFields rows owner (info .words) before (f ∷ fs)) (checks D rows line owner (info .words) before (f ∷ fs) st)
+    unfolding checks total keptFields looks sized
     split-rejected info before fs f st e ih = rw (e) ih
 
     pub fields-split : (info : RecordInfo) (before fs : List FieldDecl) → Same (info .fields) before → (st : State) → Split info before fs st
-    unfolding fields checks total keeps withField
+    unfolding fields checks total keptFields withField
     fields-split info before [] S st = ap (λ (l : List FieldInfo). Put N line (info .words) l st) (sym (append-nil (info .fields)))
     fields-split info before (f ∷ fs) S st =
         rw (rejected-is line info before f S) (go (λ i b H t. fields-split i b fs H t) (eqb (fieldCode rows owner before f) 0) refl (leb (info .words + typeWords rows (head (f .ty)) (arg (f .ty))) 65535) refl)
@@ -178,7 +178,7 @@ module _ (rows : List Row) (owner : ℕ) where
             → orSay (given (some N) (some D) bytes ends erased) (pick t none (some (noteOf (fieldCode rows owner before f) line owner (f .name) (arg (f .ty)))))
             (pick u (fields (given (some N) (some D) bytes ends erased) rows line owner (withField rows info f) fs) (stop 9))
             (fields (given (some N) (some D) bytes ends erased) rows line owner info fs) st
-            ≡ Put N line (total rows owner (info .words) before (f ∷ fs)) (info .fields ++ keeps rows owner (info .words) before (f ∷ fs)) (checks D rows line owner (info .words) before (f ∷ fs) st)
+            ≡ Put N line (total rows owner (info .words) before (f ∷ fs)) (info .fields ++ keptFields rows owner (info .words) before (f ∷ fs)) (checks D rows line owner (info .words) before (f ∷ fs) st)
         go ih true e true l = split-kept info before fs f st e l (ih (withField rows info f) (before ++ (f ∷ [])) (same-kept (info .fields) before f (info .words) S (eqb-true _ 0 e)) st)
         go ih true e false l = split-long info before fs f st e l
         go ih false e u l = split-rejected info before fs f st e (ih info (before ++ (f ∷ [])) (same-rejected (info .fields) before f S (eqb-false _ 0 e)) _)

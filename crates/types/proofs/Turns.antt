@@ -19,7 +19,6 @@ use Rattle.steps.specs.declared.Counts.{Counts}
 use Rattle.steps.specs.Held.{Held, Sized, Notes, Rows, Counted, entering, pushing}
 use Rattle.steps.specs.RowSteps.{rows-same}
 use Rattle.types.specs.Types.{typeCode, noteOf, grown, sized, looks, Looks, KeepsField}
-use Rattle.types.specs.declared.Summed.{Summed}
 use Rattle.types.specs.declared.Kept.{Kept}
 
 -- ---- a type's code
@@ -52,27 +51,29 @@ grown-yes words more h l = sym (pick-true _ _ (le-leb (words + more) 65535 (omeg
 as-notes : {f : Sized} (g : Sized) {s r : Counts} {d d′ : List ℕ} → ((N D : ℕ) (st : State) → f N D st ≡ g N D st) → Notes f s r d d′ → Notes g s r d d′
 as-notes g {s} {r} {d} {d′} e F = record { fit = F .fit; kept = F .kept; after = λ b N D st H. subst (λ (x : State). Held N D x r b d′) (e N D st) (F .after b N D st H) }
 
-module _ (line owner code name head arg : ℕ) (s : Summed) (b d : List ℕ) (few : s .words ≤ 65535) where
+module _ (line owner code name head arg : ℕ) (s : Kept) (b d : List ℕ) (few : s .words ≤ 65535) where
   pub look-rejected : (code ≡ 0 → ⊥) → {t : Counts} {d′ : List ℕ} → Notes (pushing (noteOf code line owner name arg)) (s .counts) t d d′
-      → Looks line owner code name head arg s (record { counts = t; words = s .words }) b d d′
+      → Looks line owner code name head arg s (record { counts = t; fields = s .fields; words = s .words }) b d d′
   unfolding pushing looks sized
   look-rejected n N =
       record {
         fit = N .fit;
         kept = N .kept;
         few = few;
+        more = sym (pick-false _ _ (ne-eqb code 0 n));
         size = λ rows H. sym (pick-false _ _ (ne-eqb code 0 n));
         notes = λ rows H. as-notes (λ N D. looks D rows line owner (s .words) code name head arg) (λ N D st. ap (λ (g : Step). g st) (sym (pick-false {A = Step} (pick (leb (s .words + typeWords rows head arg) 65535) nothing (stop 9)) (push (some D) (noteOf code line owner name arg)) (ne-eqb code 0 n)))) N;
       }
 
   module _ (z : code ≡ 0) (fit : s .counts .notes * noteWidth ≤ length d) (more : ℕ) (told : (rows : List Row) → Keeps rows (s .counts .rows) b → more ≡ typeWords rows head arg) where
-    pub look-long : 65535 - s .words < more → {t : Counts} → Counted (λ N D. stop 9) (s .counts) t → Looks line owner code name head arg s (record { counts = t; words = s .words }) b d d
+    pub look-long : 65535 - s .words < more → {t : Counts} → Counted (λ N D. stop 9) (s .counts) t → Looks line owner code name head arg s (record { counts = t; fields = s .fields + 1; words = s .words }) b d d
     unfolding looks sized
     look-long l C =
         record {
           fit = omega (arith, C .notes-kept);
           kept = C .rows-kept;
           few = few;
+          more = sym (pick-true _ _ (eq-eqb code 0 z));
           size = λ rows H. grown-no (s .words) (typeWords rows head arg) few (omega (arith, told rows H)) ∙ sym (pick-true _ _ (eq-eqb code 0 z));
           notes = λ rows H. as-notes (λ N D. looks D rows line owner (s .words) code name head arg)
               (λ N D st. ap (λ (g : Step). g st) (sym (pick-true {A = Step} (pick (leb (s .words + typeWords rows head arg) 65535) nothing (stop 9)) (push (some D) (noteOf code line owner name arg)) (eq-eqb code 0 z)
@@ -80,13 +81,14 @@ module _ (line owner code name head arg : ℕ) (s : Summed) (b d : List ℕ) (fe
               (record { fit = omega (arith, C .notes-kept); kept = C .rows-kept; after = λ b′ N D st K. C .after b′ d N D st K });
         }
 
-    pub look-short : more ≤ 65535 - s .words → Looks line owner code name head arg s (record { counts = s .counts; words = s .words + more }) b d d
+    pub look-short : more ≤ 65535 - s .words → Looks line owner code name head arg s (record { counts = s .counts; fields = s .fields + 1; words = s .words + more }) b d d
     unfolding looks sized
     look-short l =
         record {
           fit = fit;
           kept = refl;
           few = omega arith;
+          more = sym (pick-true _ _ (eq-eqb code 0 z));
           size = λ rows H. ap (λ (m : ℕ). s .words + m) (told rows H) ∙ grown-yes (s .words) (typeWords rows head arg) few (omega (arith, told rows H)) ∙ sym (pick-true _ _ (eq-eqb code 0 z));
           notes = λ rows H. as-notes (λ N D. looks D rows line owner (s .words) code name head arg)
               (λ N D st. ap (λ (g : Step). g st) (sym (pick-true {A = Step} (pick (leb (s .words + typeWords rows head arg) 65535) nothing (stop 9)) (push (some D) (noteOf code line owner name arg)) (eq-eqb code 0 z)

@@ -27,8 +27,8 @@ use Rattle.collect.specs.Diagnostics.{typeDefined, typeInside}
 use Rattle.collect.specs.Seen.{see}
 use Rattle.collect.specs.Collect.{given, fields, typeDef, statement}
 use Rattle.collect.specs.Code.{CollectsAny}
-use Rattle.types.specs.Types.{SomeType, SomeFields, checks, keeps, Checks, Enters, Defines}
-use Rattle.types.specs.declared.Summed.{Summed}
+use Rattle.types.specs.Types.{SomeType, SomeFields, checks, keptFields, Checks, Enters, Defines}
+use Rattle.types.specs.declared.Kept.{Kept}
 use Rattle.types.proofs.Laws.{same-none, Put, fields-split, checks-rows}
 use Rattle.types.proofs.Alike.{put-does}
 use Rattle.types.proofs.Walk.{rows-small}
@@ -49,8 +49,8 @@ module _ {ws : List ℕ} {at n line owner : ℕ} {s : Counts} {b d : List ℕ} w
       by fs bytes ends erased N D (running rows notes) H = absurd (h (H .inside .0))
       by fs bytes ends erased N D (stopped k) H = subst (λ (st : State). Held N D st s b d) (sym (stays-asking (λ rows. fields (given (some N) (some D) bytes ends erased) rows line owner (record { fields = []; words = 0 }) fs) k)) H
 
-  module _ {c : Summed} {t₁ t₂ r : Counts} {d₁ b₁ b₂ b′ : List ℕ} (go : s .stop ≡ 0) (C : Checks ws at n line owner s c b d d₁)
-      (R₁ : Rows (changing (remove (entryKey 131 owner 0) (entryKey 131 (owner + 1) 0))) (c .counts) t₁ b b₁) (R₂ : Rows (entering (typeRow owner (c .words) line)) t₁ t₂ b₁ b₂)
+  module _ {c : Kept} {t₁ t₂ r : Counts} {d₁ b₁ b₂ b′ : List ℕ} (go : s .stop ≡ 0) (few : n < 16777216) (C : Checks ws at n line owner s c b d d₁)
+      (R₁ : Rows (changing (remove (entryKey 131 owner (c .fields)) (entryKey 131 (owner + 1) 0))) (c .counts) t₁ b b₁) (R₂ : Rows (entering (typeRow owner (c .words) line)) t₁ t₂ b₁ b₂)
       (E : Enters ws at n owner t₂ r b₂ b′) where
     module _ (ns : List ℕ) (m : ℕ) (v : Tree Expr (manyRows FieldRow)) (end : ℕ) (S : Stands ws ns m at v end) (e : count v ≡ n) (bytes ends erased : List ℕ) where
       fields-after : (N D : ℕ) (st : State) → Held N D st s b d
@@ -60,10 +60,11 @@ module _ {ws : List ℕ} {at n line owner : ℕ} {s : Counts} {b d : List ℕ} w
           let fs : List FieldDecl = rowsOf fieldDecl v in
           let q = C .after ns m v end S e N D rows notes H in
           let st : State = checks D rows line owner 0 [] fs (running rows notes) in
-          let put : Held N D (Put rows owner N line (c .words) (keeps rows owner 0 [] fs) st) r b′ d₁ =
-          put-does owner (c .words) line fs (rows-small ns m v (S .valid)) R₁ R₂ (E .after ns m v end S e) d₁ (C .fit) N D rows st (checks-rows rows owner D line 0 [] fs (running rows notes) refl) (q .0) in
+          let put : Held N D (Put rows owner N line (c .words) (keptFields rows owner 0 [] fs) st) r b′ d₁ =
+          put-does owner (c .words) line (c .fields) fs (rows-small ns m v (S .valid)) (omega (arith, C .upto)) R₁ R₂ (E .after ns m v end S e) d₁ (C .fit) N D rows st
+          (checks-rows rows owner D line 0 [] fs (running rows notes) refl) (q .2) (q .0) in
           subst (λ (x : State). Held N D x r b′ d₁)
-          (ap (λ (w : ℕ). Put rows owner N line w (keeps rows owner 0 [] fs) st) (q .1) ∙ sym (fields-split rows owner N D line bytes ends erased (record { fields = []; words = 0 }) [] fs (same-none rows owner) (running rows notes)))
+          (ap (λ (w : ℕ). Put rows owner N line w (keptFields rows owner 0 [] fs) st) (q .1) ∙ sym (fields-split rows owner N D line bytes ends erased (record { fields = []; words = 0 }) [] fs (same-none rows owner) (running rows notes)))
           put
       fields-after N D (stopped k) H =
           let z : 0 ≡ k = sym go ∙ H .inside .0 in

@@ -23,7 +23,6 @@ use Rattle.collect.specs.Diagnostics.{fieldTwice, containsItself, fieldUndefine
 use Rattle.collect.specs.Collect.{FieldInfo, fieldRows, given, fields}
 use Rattle.collect.specs.Code.{SomeStmt}
 use Rattle.types.specs.declared.FieldAt.{FieldAt}
-use Rattle.types.specs.declared.Summed.{Summed}
 use Rattle.types.specs.declared.Kept.{Kept}
 
 -- a TYPE stands there, and its name's number plus 1 is a payload too
@@ -98,30 +97,33 @@ total rows owner words before [] = words
 total rows owner words before (f ∷ fs) = total rows owner (sizedBy rows owner words before f) (before ++ (f ∷ [])) fs
 
 -- the kept ones
-unfoldable pub keeps : List Row → (owner words : ℕ) → (before after : List FieldDecl) → List FieldInfo
-keeps rows owner words before [] = []
-keeps rows owner words before (f ∷ fs) =
+unfoldable pub keptFields : List Row → (owner words : ℕ) → (before after : List FieldDecl) → List FieldInfo
+keptFields rows owner words before [] = []
+keptFields rows owner words before (f ∷ fs) =
     pick (eqb (fieldCode rows owner before f) 0)
-    (record { name = f .name; word = words; ty = f .ty } ∷ keeps rows owner (sizedBy rows owner words before f) (before ++ (f ∷ [])) fs)
-    (keeps rows owner (sizedBy rows owner words before f) (before ++ (f ∷ [])) fs)
+    (record { name = f .name; word = words; ty = f .ty } ∷ keptFields rows owner (sizedBy rows owner words before f) (before ++ (f ∷ [])) fs)
+    (keptFields rows owner (sizedBy rows owner words before f) (before ++ (f ∷ [])) fs)
 
 -- ---- what the code promises
 
 -- one field looked at
-pub record Looks (line owner code name head arg : ℕ) (s r : Summed) (b d d′ : List ℕ) : Type 0 where
+pub record Looks (line owner code name head arg : ℕ) (s r : Kept) (b d d′ : List ℕ) : Type 0 where
   pub fit : r .counts .notes * noteWidth ≤ length d′
   pub kept : r .counts .rows ≡ s .counts .rows
   pub few : r .words ≤ 65535
+  pub more : r .fields ≡ pick (eqb code 0) (s .fields + 1) (s .fields)
   pub size : (rows : List Row) → Keeps rows (s .counts .rows) b → r .words ≡ sized rows (s .words) code head arg
   pub notes : (rows : List Row) → Keeps rows (s .counts .rows) b → Notes (λ N D. looks D rows line owner (s .words) code name head arg) (s .counts) (r .counts) d d′
 
--- n fields looked at, and their words
-pub record Checks (ws : List ℕ) (at n line owner : ℕ) (s : Counts) (r : Summed) (b d d′ : List ℕ) : Type 0 where
+-- n fields looked at: how many are kept, and their words
+pub record Checks (ws : List ℕ) (at n line owner : ℕ) (s : Counts) (r : Kept) (b d d′ : List ℕ) : Type 0 where
   pub fit : r .counts .notes * noteWidth ≤ length d′
   pub kept : r .counts .rows ≡ s .rows
+  pub upto : r .fields ≤ n
   pub after : (ns : List ℕ) (m : ℕ) (v : Tree Expr (manyRows FieldRow)) (end : ℕ) → Stands ws ns m at v end → count v ≡ n
       → (N D : ℕ) (rows notes : List Row) → Held N D (running rows notes) s b d
       → Held N D (checks D rows line owner 0 [] (rowsOf fieldDecl v) (running rows notes)) (r .counts) b d′ × (r .words ≡ total rows owner 0 [] (rowsOf fieldDecl v))
+          × (r .fields ≡ length (keptFields rows owner 0 [] (rowsOf fieldDecl v)))
 
 -- one field entered, where it is kept
 pub record KeepsField (owner code name head arg : ℕ) (s r : Kept) (b b′ : List ℕ) : Type 0 where
@@ -133,7 +135,7 @@ pub record KeepsField (owner code name head arg : ℕ) (s r : Kept) (b b′ : Li
 -- the kept ones of n fields entered
 pub record Enters (ws : List ℕ) (at n owner : ℕ) (s r : Counts) (b b′ : List ℕ) : Type 0 where
   pub after : (ns : List ℕ) (m : ℕ) (v : Tree Expr (manyRows FieldRow)) (end : ℕ) → Stands ws ns m at v end → count v ≡ n
-      → Rows (λ N D. asking (λ rows. each (enter (some N)) (fieldRows owner 0 (keeps rows owner 0 [] (rowsOf fieldDecl v))))) s r b b′
+      → Rows (λ N D. asking (λ rows. each (enter (some N)) (fieldRows owner 0 (keptFields rows owner 0 [] (rowsOf fieldDecl v))))) s r b b′
 
 -- the fields of a TYPE, and the TYPE with those that are kept
 pub record Defines (ws : List ℕ) (at n line owner : ℕ) (s r : Counts) (b d b′ d′ : List ℕ) : Type 0 where

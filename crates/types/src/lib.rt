@@ -23,13 +23,7 @@ pub struct FieldAt {
     pub next: usize,
 }
 
-// The run, and the words of the fields that are kept so far.
-pub struct Summed {
-    pub counts: Counts,
-    pub words: u32,
-}
-
-// The same where they are entered, and how many they are.
+// The run, how many fields are kept so far, and their words.
 pub struct Kept {
     pub counts: Counts,
     pub fields: u32,
@@ -129,28 +123,31 @@ fn reject(d: &mut [u32], s: Counts, code: u32, line: u32, owner: u32, f: FieldAt
 }
 
 // A field looked at: its diagnostic, or its words, and 9 where they are too many.
-fn look(b: &[u32], d: &mut [u32], s: Summed, code: u32, line: u32, owner: u32, f: FieldAt) -> Summed
-    requires { ⌜ Fit (s .counts) (length (now b)) (length (now d)) × (s .words ≤ 65535) × (owner < 16777216) × (f .name < 16777216) × (f .arg < 16777216) ⌝ }
+fn look(b: &[u32], d: &mut [u32], s: Kept, code: u32, line: u32, owner: u32, f: FieldAt) -> Kept
+    requires { ⌜ Fit (s .counts) (length (now b)) (length (now d)) × (s .words ≤ 65535) × (s .fields < 16777216) × (owner < 16777216) × (f .name < 16777216) × (f .arg < 16777216) ⌝ }
     ensures { λ r. ⌜ Looks line owner code (f .name) (f .head) (f .arg) s r (now (b .entry)) (now (d .entry)) (now (d .exit)) ⌝ }
 {
     let c = s.counts;
     if code != 0 {
         let t = reject(d, c, code, line, owner, f);
-        return Summed {
+        return Kept {
             counts: t,
+            fields: s.fields,
             words: s.words,
         };
     }
     let more = lookup::type_words(b, c.rows, f.head, f.arg);
     if collect::TYPE_WORDS - s.words < more {
         let t = steps::stop(c, 9);
-        return Summed {
+        return Kept {
             counts: t,
+            fields: s.fields + 1,
             words: s.words,
         };
     }
-    Summed {
+    Kept {
         counts: c,
+        fields: s.fields + 1,
         words: s.words + more,
     }
 }
@@ -165,13 +162,14 @@ fn check(
     owner: u32,
     at: usize,
     n: u32,
-) -> Summed
-    requires { ⌜ Fit s (length (now b)) (length (now d)) × SomeFields (now words) at n × (owner < 16777216) ⌝ }
+) -> Kept
+    requires { ⌜ Fit s (length (now b)) (length (now d)) × SomeFields (now words) at n × (owner < 16777216) × (n < 16777216) ⌝ }
     ensures { λ r. ⌜ Checks (now (words .entry)) at n line owner s r (now (b .entry)) (now (d .entry)) (now (d .exit)) ⌝ }
 {
     let rows = s.rows;
-    let mut c = Summed {
+    let mut c = Kept {
         counts: s,
+        fields: 0,
         words: 0,
     };
     let mut a = at;
@@ -238,7 +236,8 @@ fn enter_fields(words: &[u32], b: &mut [u32], s: Counts, owner: u32, at: usize, 
     c.counts
 }
 
-// The n fields from `at` on of the TYPE: two passes, for a run that the first one stops enters no row.
+// The n fields from `at` on of the TYPE: two passes, for a run that the first one stops enters no row. Of the old fields only those go that the new
+// ones don't replace.
 fn fields(
     words: &[u32],
     b: &mut [u32],
@@ -257,7 +256,7 @@ fn fields(
     }
     let c = check(words, b, d, s, line, owner, at, n);
     let t = c.counts;
-    let t1 = steps::remove_under(b, t, 131, owner);
+    let t1 = steps::remove_under(b, t, 131, owner, c.fields);
     let t2 = steps::enter(b, t1, 130, owner, 0, c.words, line, 0, 0);
     enter_fields(words, b, t2, owner, at, n)
 }

@@ -25,7 +25,7 @@ field-code-requires : tie.Need-field-code-requires Inv-loop μ-loop
 field-code-requires c κs = (omega (arith, c .before .before .loop .inv .1, c .before .before .before .before .before .before .pre .0 .0), fewer (c .before .before .before .before .before .before .pre .1) (c .before .before .loop .inv .2 .upto), c .field-at .ensures .arg-small)
 
 look-requires : tie.Need-look-requires Inv-loop μ-loop
-look-requires c κs = ((omega (arith, c .before .before .before .before .loop .inv .2 .kept, c .before .before .before .before .before .before .before .before .pre .0 .0), c .before .before .before .before .loop .inv .2 .fit), c .before .before .before .before .loop .inv .2 .few, c .before .before .before .before .before .before .before .before .pre .2, c .before .before .field-at .ensures .name-small, c .before .before .field-at .ensures .arg-small)
+look-requires c κs = ((omega (arith, c .before .before .before .before .loop .inv .2 .kept, c .before .before .before .before .before .before .before .before .pre .0 .0), c .before .before .before .before .loop .inv .2 .fit), c .before .before .before .before .loop .inv .2 .few, omega (arith, c .before .before .before .before .loop .inv .2 .fields, c .before .before .before .loop-test .taken, c .before .before .before .before .before .before .before .before .pre .3), c .before .before .before .before .before .before .before .before .pre .2, c .before .before .field-at .ensures .name-small, c .before .before .field-at .ensures .arg-small)
 
 add-i : tie.Need-add-i Inv-loop μ-loop
 add-i c = omega (arith, c .before .before .before .before .before .before .loop-test .taken)

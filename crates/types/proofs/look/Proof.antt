@@ -11,7 +11,10 @@ same-length : tie.Need-same-length
 same-length c = search needs
 
 returns : tie.Need-returns
-returns c = look-rejected (c .before .before .before .before .before .before .before .before .args .line) (c .before .before .before .before .before .before .before .before .args .owner) (c .before .before .before .before .before .before .before .before .args .code) ((c .before .before .before .before .before .before .before .before .args .f) .name) ((c .before .before .before .before .before .before .before .before .args .f) .head) ((c .before .before .before .before .before .before .before .before .args .f) .arg) (c .before .before .before .before .before .before .before .before .args .s) (c .before .before .before .before .before .before .before .before .args .b .now) (c .before .before .before .before .before .before .before .before .args .d .now) (c .before .before .before .before .before .before .before .before .pre .1) (c .before .before .before .before .if1 .taken) (c .before .before .reject .ensures)
+returns c =
+    let k = c .before .before .before .before .before .before .before .before in
+    let a = k .args in
+    look-rejected (a .line) (a .owner) (a .code) (a .f .name) (a .f .head) (a .f .arg) (a .s) (a .b .now) (a .d .now) (k .pre .1) (c .before .before .before .before .if1 .taken) (c .before .before .reject .ensures)
 
 type-words-requires : tie.Need-type-words-requires
 type-words-requires c κs = search needs
@@ -22,14 +25,28 @@ sub-if2 c = search needs
 stop-requires : tie.Need-stop-requires
 stop-requires c κs = search needs
 
+add-t16 : tie.Need-add-t16
+add-t16 c = search needs
+
 returns-2 : tie.Need-returns-2
-returns-2 c = look-long (c .before .before .before .before .before .before .before .before .args .line) (c .before .before .before .before .before .before .before .before .args .owner) (c .before .before .before .before .before .before .before .before .args .code) ((c .before .before .before .before .before .before .before .before .args .f) .name) ((c .before .before .before .before .before .before .before .before .args .f) .head) ((c .before .before .before .before .before .before .before .before .args .f) .arg) (c .before .before .before .before .before .before .before .before .args .s) (c .before .before .before .before .before .before .before .before .args .b .now) (c .before .before .before .before .before .before .before .before .args .d .now) (c .before .before .before .before .before .before .before .before .pre .1) (c .before .before .before .before .if1 .left) (c .before .before .before .before .before .before .before .before .pre .0 .1) _ (c .before .before .before .type-words .ensures) (c .before .if2 .taken) (c .stop .ensures)
+returns-2 c =
+    let k = c .before .before .before .before .before .before .before .before .before in
+    let a = k .args in
+    look-long (a .line) (a .owner) (a .code) (a .f .name) (a .f .head) (a .f .arg) (a .s) (a .b .now) (a .d .now) (k .pre .1) (c .before .before .before .before .before .if1 .left) (k .pre .0 .1) _
+    (c .before .before .before .before .type-words .ensures) (c .before .before .if2 .taken) (c .before .stop .ensures)
 
 add-t15 : tie.Need-add-t15
 add-t15 c = search needs
 
+add-t17 : tie.Need-add-t17
+add-t17 c = search needs
+
 returns-3 : tie.Need-returns-3
-returns-3 c = look-short (c .before .before .before .before .before .before .before .before .args .line) (c .before .before .before .before .before .before .before .before .args .owner) (c .before .before .before .before .before .before .before .before .args .code) ((c .before .before .before .before .before .before .before .before .args .f) .name) ((c .before .before .before .before .before .before .before .before .args .f) .head) ((c .before .before .before .before .before .before .before .before .args .f) .arg) (c .before .before .before .before .before .before .before .before .args .s) (c .before .before .before .before .before .before .before .before .args .b .now) (c .before .before .before .before .before .before .before .before .args .d .now) (c .before .before .before .before .before .before .before .before .pre .1) (c .before .before .before .before .if1 .left) (c .before .before .before .before .before .before .before .before .pre .0 .1) _ (c .before .before .before .type-words .ensures) (c .before .if2 .left)
+returns-3 c =
+    let k = c .before .before .before .before .before .before .before .before .before in
+    let a = k .args in
+    look-short (a .line) (a .owner) (a .code) (a .f .name) (a .f .head) (a .f .arg) (a .s) (a .b .now) (a .d .now) (k .pre .1) (c .before .before .before .before .before .if1 .left) (k .pre .0 .1) _
+    (c .before .before .before .before .type-words .ensures) (c .before .before .if2 .left)
 
 pub look-spec : {M : Type 1} → statement M
 look-spec =
@@ -41,6 +58,8 @@ look-spec =
     type-words-requires
     sub-if2
     stop-requires
+    add-t16
     returns-2
     add-t15
+    add-t17
     returns-3)

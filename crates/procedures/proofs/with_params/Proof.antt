@@ -1,4 +1,5 @@
--- `with_params`: the old parameters go, the procedure and the new ones come: one replacement. Assumes nothing.
+-- `with_params`: the old parameters go but for those that are replaced, the procedure and the new ones come: one replacement. Assumes nothing.
+use native.Mathlib.Omega.{arith}
 use Rattle.procedures.proofs.Does.{with-params}
 use borrow.Author.Needs.{needs}
 use Rattle.procedures.proofs.with_params.Statement.{statement}
@@ -20,7 +21,9 @@ same-length : tie.Need-same-length
 same-length c = search needs
 
 returns : tie.Need-returns
-returns c = with-params ((c .before .before .before .before .before .before .before .before .before .before .before .before .before .before .before .args .p) .line) _ (c .before .before .before .before .before .before .before .before .bit .ensures .0) (c .before .before .before .before .before .before .before .before .before .before .before .remove-under .ensures) (c .before .before .before .before .before .before .enter .ensures) (c .before .before .param-rows .ensures)
+returns c =
+    let k = c .before .before .before .before .before .before .before .before .before .before .before .before .before .before .before in
+    with-params (k .args .p .line) _ (omega (arith, k .good)) (c .before .before .before .before .before .before .before .before .bit .ensures .0) (c .before .before .before .before .before .before .before .before .before .before .before .remove-under .ensures) (c .before .before .before .before .before .before .enter .ensures) (c .before .before .param-rows .ensures)
 
 pub with-params-spec : {M : Type 1} → statement M
 with-params-spec =

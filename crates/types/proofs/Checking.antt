@@ -152,8 +152,7 @@ module _ {ws : List ℕ} {at n line owner : ℕ} {s : Counts} {b d₀ : List ℕ
           let z : rowsOf fieldDecl (w .past .rest) ≡ [] = rest-none (w .past) (e ∙ sym last) in
           let l : M .state ≡ checks D rows line owner 0 [] (rowsOf fieldDecl v) (running rows notes) =
           ap (λ (l : List FieldDecl). checks D rows line owner (c .words) (w .past .before) l (M .state)) (sym z) ∙ M .left in
-          let none : c .fields ≡ c .fields + length (keptFields rows owner (c .words) (w .past .before) []) = omega arith in
-          (
+          let none : c .fields ≡ c .fields + length (keptFields rows owner (c .words) (w .past .before) []) = omega arith in (
             subst (λ (st : State). Held N D st (c .counts) b d) l (M .held),
             ap (total rows owner (c .words) (w .past .before)) (sym z) ∙ M .size,
             none ∙ ap (λ (l : List FieldDecl). c .fields + length (keptFields rows owner (c .words) (w .past .before) l)) (sym z) ∙ M .many,

@@ -123,7 +123,7 @@ pub record Checks (ws : List ℕ) (at n line owner : ℕ) (s : Counts) (r : Kept
   pub after : (ns : List ℕ) (m : ℕ) (v : Tree Expr (manyRows FieldRow)) (end : ℕ) → Stands ws ns m at v end → count v ≡ n
       → (N D : ℕ) (rows notes : List Row) → Held N D (running rows notes) s b d
       → Held N D (checks D rows line owner 0 [] (rowsOf fieldDecl v) (running rows notes)) (r .counts) b d′ × (r .words ≡ total rows owner 0 [] (rowsOf fieldDecl v))
-          × (r .fields ≡ length (keptFields rows owner 0 [] (rowsOf fieldDecl v)))
+      × (r .fields ≡ length (keptFields rows owner 0 [] (rowsOf fieldDecl v)))
 
 -- one field entered, where it is kept
 pub record KeepsField (owner code name head arg : ℕ) (s r : Kept) (b b′ : List ℕ) : Type 0 where

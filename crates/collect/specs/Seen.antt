@@ -12,5 +12,6 @@ pub record Seen : Type 0 where
   pub const-eval : List Row → Fold
   pub use-of : ℕ → Option ℕ
 
+-- what it sees of this one
 unfoldable pub see : Expr → Seen
 see e = record { const-eval = λ rows. constEval rows e; use-of = λ name. inExpr name e }

@@ -21,6 +21,7 @@ use Rattle.subscripts.specs.declared.Sought.{Sought}
 use Rattle.subscripts.specs.declared.Target.{Target}
 use Rattle.subscripts.specs.declared.Walked.{Walked}
 
+-- the code's answer as the definition's: the count, where a use was found
 unfoldable pub useOf : Use → Option ℕ
 useOf u = pick (u .found) (some (u .count)) nothing
 

@@ -56,6 +56,7 @@ pub record Is (v : Decl) (x : Declarator Seen) : Type 0 where
   pub head : headOf (x .ty) ≡ v .head
   pub arg : argOf (x .ty) ≡ v .arg
 
+-- its name and its type's argument are payloads
 abbrev pub Small : Decl → Type 0
 Small v = (v .name < 16777216) × (v .arg < 16777216)
 
@@ -80,6 +81,7 @@ pub record ReadyStmt (k : Kind) (bytes ends ws : List ℕ) (at : ℕ) : Type 0 w
 
 -- ---- what is asked
 
+-- whether a type, unless it is a record, is another one than the name's suffix says
 abbrev pub Contradicts : (bytes ends : List ℕ) (name head : ℕ) → Bool → Type 0
 Contradicts bytes ends name h r = (ty : TypeRef) → h ≡ head ty → r ≡ (not (isRecord ty) && disagrees (lastOf (stringAt bytes ends name)) ty)
 
@@ -100,6 +102,7 @@ clashOf erased is-redim preserve name rank old =
 
 -- ---- what is done, whatever declarator the code's is
 
+-- the definition's step for a declarator, in buffers of so many words
 abbrev pub declares : (bytes ends erased : List ℕ) (scope line : ℕ) (is-redim preserve : Bool) → Declarator Seen → Sized
 declares bytes ends erased scope line is-redim preserve x N D = declared (given (some N) (some D) bytes ends erased) scope line is-redim preserve x
 

@@ -65,6 +65,7 @@ unfolding resultOf Only
 only-result p _ runs = tt
 only-result p _ nine = type-words
 
+-- without limits no other number is given
 pub numbers : (at : ℕ) (bytes ends names words : List ℕ) → Only (analysis none none at bytes ends names words)
 unfolding analysis entryOf acceptedOf programOf Only
 numbers at bytes ends names words =

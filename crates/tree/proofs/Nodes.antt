@@ -26,6 +26,7 @@ module _ (ws ns : List ℕ) (n : ℕ) where
     pub there : Stands ws ns n (at + 1) fields end
     pub is : v ≡ Stmt kind (payOf (getD ws at 0)) fields
 
+  -- a statement: its kind and line in the head, its fields after it
   pub in-stmt : {at end : ℕ} {v : Tree Expr (one stmt)} → Stands ws ns n at v end → InStmt at v end
   unfolding wordsT Right
   in-stmt {at} {end} {v = Stmt k line r} s =
@@ -41,6 +42,7 @@ module _ (ws ns : List ℕ) (n : ℕ) where
     pub next : Stands ws ns n mid tail end
     pub is : r ≡ cons head tail
 
+  -- a row: its first field, and then the others
   pub in-row : {s : Sort} {ss : Sorts} {at end : ℕ} {r : Tree Expr (row (s & ss))} → Stands ws ns n at r end → InRow at r end
   unfolding wordsT Right
   in-row {r = cons v t} h = record { head = v; mid = _; tail = t; there = record { wrote = wrote-left (wordsT v) (wordsT t) (h .wrote); valid = h .valid .0 }; next = record { wrote = wrote-right (wordsT v) (h .wrote); valid = h .valid .1 }; is = refl }
@@ -51,6 +53,7 @@ module _ (ws ns : List ℕ) (n : ℕ) where
     pub there : Stands ws ns n (at + 1) items end
     pub is : v ≡ list items
 
+  -- a list: its count in the head, its rows after it
   pub in-list : {ss : Sorts} {at end : ℕ} {v : Tree Expr (one (many ss))} → Stands ws ns n at v end → InList at v end
   unfolding wordsT Right
   in-list {v = list rs} h =
@@ -66,6 +69,7 @@ module _ (ws ns : List ℕ) (n : ℕ) where
     pub counted : count rs ≡ count tail + 1
     pub is : rs ≡ more head tail
 
+  -- rows: the first, and then the others
   pub in-more : {ss : Sorts} {at end : ℕ} {rs : Tree Expr (rows ss)} → 0 < count rs → Stands ws ns n at rs end → InMore at rs end
   unfolding wordsT Right count
   in-more {rs = none} z h = absurd (omega arith)
@@ -77,6 +81,7 @@ module _ (ws ns : List ℕ) (n : ℕ) where
     pub there : Stands ws ns n at inner end
     pub is : v ≡ that (part inner)
 
+  -- an option whose word is not 0 is there
   pub in-opt : {ss : Sorts} {at end : ℕ} {v : Tree Expr (one (opt ss))} → (getD ws at 0 ≡ 0 → ⊥) → Stands ws ns n at v end → InOpt at v end
   unfolding wordsT Right
   in-opt {v = this r} z h = absurd (z (wrote-first (h .wrote) .is))
@@ -87,6 +92,7 @@ module _ (ws ns : List ℕ) (n : ℕ) where
     pub expression : Expr
     pub there : W.Stands ws (strings ns n) (at + 1) expression end
 
+  -- the expression of a CONST stands after its name
   pub in-const : {at end : ℕ} (r : Tree Expr (row (sorts const))) → Stands ws ns n at r end → InConst at r end
   unfolding sorts wordsT Right
   in-const {at} {end} (cons (word x) (cons (value e) done)) h =

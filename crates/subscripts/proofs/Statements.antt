@@ -419,7 +419,7 @@ pub targeted-below : (k : ℕ) → k < 66 → (k ≡ 88 → ⊥) → (k ≡ 96 �
 unfolding targeted
 targeted-below k a y z = rw (lt-leb 66 k a, ne-eqb k 88 y, ne-eqb k 96 z) refl
 
--- of those above them SWAP and READ alone
+-- nor is any above them but SWAP and READ
 pub targeted-above : (k : ℕ) → 70 ≤ k → (k ≡ 88 → ⊥) → (k ≡ 96 → ⊥) → false ≡ targeted k
 unfolding targeted
 targeted-above k a y z =

@@ -44,6 +44,7 @@ pub record Checking (ws : List ℕ) (at n line owner : ℕ) (s : Counts) (b d₀
   pub upto : i ≤ n
   pub walked : (ns : List ℕ) (m : ℕ) (v : Tree Expr (manyRows FieldRow)) (end : ℕ) → Stands ws ns m at v end → n ≤ count v → CheckingAt ws ns m v end line owner s b d₀ c a i d
 
+-- neither below nor above: all n
 pub all-of : (i n : ℕ) → i ≤ n → (i < n → ⊥) → i ≡ n
 all-of i n le out = go (order i n)
   where
@@ -51,6 +52,7 @@ all-of i n le out = go (order i n)
     go (inl h) = absurd (out h)
     go (inr h) = omega arith
 
+-- the kept fields are no more than those looked at
 pub more-fields : (code k k′ i : ℕ) → k′ ≡ pick (eqb code 0) (k + 1) k → k ≤ i → k′ ≤ i + 1
 more-fields code k k′ i e h = go (eqb code 0) e
   where
@@ -88,6 +90,7 @@ code-there {ws} {ns} {m} {v} {end} {a} {i} at owner rows f code p g en eh ea S U
     rw (en, eh, ea) at e
 
 module _ {ws : List ℕ} {at n line owner : ℕ} {s : Counts} {b d₀ : List ℕ} where
+  -- before the first all are left
   pub checking-all : s .notes * noteWidth ≤ length d₀ → Checking ws at n line owner s b d₀ (record { counts = s; fields = 0; words = 0 }) at 0 d₀
   checking-all h =
       record {
@@ -99,12 +102,14 @@ module _ {ws : List ℕ} {at n line owner : ℕ} {s : Counts} {b d₀ : List ℕ
         walked = λ ns m v end S e. record { past = rest-all S; mid = λ N D rows notes H. record { state = running rows notes; held = H; left = refl; size = refl; many = omega arith } };
       }
 
+  -- where some are left, the next field stands at a
   pub checking-some : {c : Kept} {a i : ℕ} {d : List ℕ} → SomeFields ws at n → Checking ws at n line owner s b d₀ c a i d → i < n → SomeTree (oneRow FieldRow) ws a
   checking-some {c} {a} {i} {d} F C h =
       let p = C .walked (F .names) (F .strings) (F .tree) (F .end) (F .stands) (F .enough) .past in
       let q = next-of (p .rest) (omega (arith, p .counted, F .enough)) (p .there) in
       record { names = F .names; strings = F .strings; tree = q .field; end = q .mid; stands = q .here }
 
+  -- one more looked at
   pub checking-next : {c c′ : Kept} {a i : ℕ} {d d′ : List ℕ} → Checking ws at n line owner s b d₀ c a i d → i < n → (f : FieldAt) → FieldIs ws a f → (code : ℕ)
       → ((rows : List Row) → Keeps rows (s .rows) b → Upto ws at i (λ fs. code ≡ codeOf rows owner fs (f .name) (f .head) (f .arg)))
       → Looks line owner code (f .name) (f .head) (f .arg) c c′ b d d′ → Checking ws at n line owner s b d₀ c′ (f .next) (i + 1) d′
@@ -137,6 +142,7 @@ module _ {ws : List ℕ} {at n line owner : ℕ} {s : Counts} {b d₀ : List ℕ
                 };
           }
 
+  -- none is left: all were looked at
   pub checking-done : {c : Kept} {a i : ℕ} {d : List ℕ} → Checking ws at n line owner s b d₀ c a i d → (i < n → ⊥) → Checks ws at n line owner s c b d₀ d
   unfolding checks total keptFields
   checking-done {c} {a} {i} {d} C h = record { fit = C .fit; kept = C .kept; upto = omega (arith, C .fields, C .upto); after = by }

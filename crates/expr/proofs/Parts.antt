@@ -9,7 +9,7 @@ use lib.Seq.{drop-cons, drop-drop, drop-append-seam}
 use Rattle.words.specs.Word.{wordOf}
 use Rattle.expr.specs.Stands.{Wrote}
 
--- no words stand at any place within the words, or at their end
+-- the empty run of words stands at every place up to the end
 pub wrote-none : (ws : List ℕ) (at : ℕ) → at ≤ length ws → Wrote ws at [] at
 wrote-none ws at h = record { span = omega arith; inside = h; is = refl }
 

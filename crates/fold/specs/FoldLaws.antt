@@ -91,7 +91,7 @@ module _ (n : ℕ) where
   negated-row (Float x) r = record { good = neg-finite x (r .good); known = tt; fit = neg-fits binary64 x (r .fit) }
   negated-row (Text t) r = tt
 
-  -- negating keeps it so
+  -- what negating gives may stand in a row, if its operand may
   pub negate-row : (f : Fold) → RowFold n f → RowFold n (negateOf f)
   unfolding negateOf
   negate-row (Is v) r = negated-row v r
@@ -149,6 +149,7 @@ module _ (n : ℕ) where
   binary-row op NotConstant r = tt
 
 -- ---- a good value's numbers
+-- its whole number is in range
 pub good-int : (v : Value) → Good v → InRange (intOf v)
 good-int (Integer z) h = h
 good-int (Long z) h = h

@@ -66,6 +66,7 @@ back-float : (low high : ℕ) → low < 4294967296 → high < 4294967296 → T (
 back-float low high h k f = toBits-ofBits binary64 (high * 4294967296 + low) (omega arith) (no-nan (ofWords low high) f)
 
 -- ---- the value of a value's words
+-- of a value that a row may hold it is this value
 pub value-words : (n : ℕ) (v : Value) → RowValue n v → valueOf (literalKind v) (lowOf v) (highOf v) ≡ v
 unfolding valueOf
 value-words n (Integer z) r = ap Integer (back-sign z (r .good))

@@ -27,7 +27,7 @@ whole-value h (fin t m e) s a c C v =
     ap (λ (b : Bool). signed b (near h (m * up e) (down e))) (v .0)
     ∙ ap (λ (n : ℕ). signed s n) (near-same h (m * up e) (down e) a c (down-pos e) C (v .1))
 
--- from its parts: the significand, shifted
+-- from its parts, up to an exponent of 1074: the significand over a power of two
 pub whole-shift : (h : Halves) (x : Float) (s : Bool) (exp sig : ℕ) → exp ≤ 1074 → PartsOf x s exp sig → wholeOf h x ≡ signed s (near h sig (2 ^ (1074 - exp)))
 whole-shift h x s exp sig l p =
     whole-value h x s (sig * 2 ^ exp) (2 ^ 1074) (pow-pos 1074) (p .value)
@@ -39,6 +39,7 @@ whole-shift h x s exp sig l p =
     there a b k = omega arith
 
 -- ---- the range
+-- up to 2147483647 it is in
 pub in-pos : (n : ℕ) → n ≤ 2147483647 → within 31 (signed false n) ≡ true
 in-pos n h = lt-ltb n 2147483648 (omega arith)
 

@@ -43,6 +43,7 @@ pub compare-is : (o : Ordering) (a b : ℕ) → Cmp o a b → compare a b ≡ o
 compare-is o a b h = one (compare a b) o a b (cmp a b) h
 
 -- ---- by the three cases
+-- less than half: the quotient
 pub near-lt : (h : Halves) (a b : ℕ) → a % b * 2 < b → near h a b ≡ a / b
 near-lt h a b k = ap (λ (o : Ordering). byHalf h (a / b) o) (compare-is Ordering·lt (a % b * 2) b k)
 

@@ -21,6 +21,7 @@ use Rattle.numbers.proofs.Order.{near-even, near-le, near-ge}
 use Rattle.numbers.proofs.Value.{pows, size-is, quot-ge, quot-lt}
 
 -- ---- of a value a / c
+-- narrowed, it is the fraction rounded to 32 bits
 pub narrowed-value : (x : Float) (s : Bool) (a c : ℕ) → 0 < c → HasValue x s a c → narrowed x ≡ round binary32 s a c
 unfolding narrowed
 narrowed-value nan s a c C v = absurd v
@@ -54,6 +55,7 @@ dropped exp sig small lead =
     go false h k = less (k tt)
 
 -- ---- the digits that are kept, and the places that they stand at
+-- the places
 abbrev pub spareOf : ℕ → ℕ
 spareOf exp = exp - 896
 
@@ -83,12 +85,13 @@ narrowed-is x s exp sig p =
     ∙ ap (λ (q : ℕ). units binary32 s q (exp - 896)) (kept-is exp sig (exp - 896) (reach exp) ∙ sym (near-even sig (2 ^ (925 + (exp - 896) - exp))))
 
 -- ---- bounds on what is kept
+-- at most 2 ^ 24
 pub kept-le : (exp sig : ℕ) → sig < 2 ^ 53 → keptOf exp sig ≤ 2 ^ 24
 kept-le exp sig h =
     le-trans (near-le Even sig (2 ^ (925 + (exp - 896) - exp)))
     (subst (λ (z : ℕ). z / 2 ^ (925 + (exp - 896) - exp) < 2 ^ 24) (mul-one sig) (quot-lt 24 53 (925 + (exp - 896) - exp) 0 sig (omega arith) h))
 
--- where digits were dropped, all 24 are there
+-- from an exponent of 897 on the leading digit is there
 pub kept-ge : (exp sig : ℕ) → 0 < exp - 896 → (0 < exp → 2 ^ 52 ≤ sig) → 2 ^ 23 ≤ keptOf exp sig
 kept-ge exp sig h lead =
     le-trans (subst (λ (z : ℕ). 2 ^ 23 ≤ z / 2 ^ (925 + (exp - 896) - exp)) (mul-one sig) (quot-ge 23 52 (925 + (exp - 896) - exp) 0 sig (omega arith) (lead (omega arith))))

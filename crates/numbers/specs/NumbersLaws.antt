@@ -18,6 +18,7 @@ use Rattle.numbers.specs.declared.Whole.the-variants.{At, Out}
 use Rattle.numbers.specs.Numbers.{within, wholeOf, longOf, pickWhole, doubleOf, ofWords, bitsOf}
 
 -- ---- finite floats
+-- a float that has a value is finite
 pub has-finite : (x : Float) (s : Bool) (a c : ℕ) → HasValue x s a c → T (finite x)
 has-finite nan s a c v = absurd v
 has-finite (inf t) s a c v = absurd v
@@ -48,6 +49,7 @@ pub double-finite : (z : ℤ) → natAbs z < 2 ^ 53 → T (finite (doubleOf z))
 double-finite z h = has-finite (doubleOf z) (not (nonNeg z)) (natAbs z) 1 (double-exact z h)
 
 -- ---- a whole number within 31 bits, and one that rounding gave
+-- within 31 bits it is from -2147483648 to 2147483648
 pub within-abs : (z : ℤ) → T (within 31 z) → natAbs z ≤ 2147483648
 within-abs (pos n) t = let h = ltb→lt n 2147483648 t in omega arith
 within-abs (negsuc n) t = ltb→lt n 2147483648 t
@@ -92,6 +94,7 @@ words-finite low high h k =
     ∙ fields-finite _ ((high * 4294967296 + low) % 9223372036854775808 / 4503599627370496) ((high * 4294967296 + low) % 4503599627370496)
 
 -- ---- a whole number's words
+-- of a negative number the low word is the number plus 2 ^ 32
 pub neg-low : (z : ℤ) → natAbs z < 4294967296 → ltZ z (pos 0) ≡ true → z +ℤ pos 4294967296 ≡ pos (bitsOf z % 4294967296)
 neg-low (pos n) h e = absurd (omega (arith, ltb-true n 0 e))
 neg-low (negsuc n) h e =

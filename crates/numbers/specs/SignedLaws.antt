@@ -17,6 +17,7 @@ pub never : {X : Type 0} → false ≡ true → X
 never e = absurd (subst T (sym e) tt)
 
 -- ---- what is read back
+-- a number that fits is read back as itself
 pub read : {z : ℤ} → SFits w64 z → toZ w64 (ofZ w64 z) ≡ z
 read {z} f = toZ-ofZ w64 z f
 
@@ -29,6 +30,7 @@ pub toZ-small : (n : ℕ) → n < 2 ^ 63 → toZ w64 n ≡ pos n
 toZ-small n h = ap (λ (b : Bool). sel b (pos n) (negsuc (2 ^ 64 - suc n))) (lt-ltb n (2 ^ 63) h)
 
 -- ---- how large
+-- what the range's test looks at is at most the magnitude
 pub mag-le : (z : ℤ) → mag z ≤ natAbs z
 mag-le (pos n) = le-refl n
 mag-le (negsuc n) = omega arith
@@ -80,6 +82,7 @@ module _ (x y : ℤ) (hx : natAbs x ≤ 2147483648) (hy : natAbs y ≤ 214748364
       (le-trans (le-of-eq (abs-mul x y)) (le-trans (mul-le-mul-right (natAbs y) hx) (mul-le-mul-left 2147483648 hy))) (omega arith)
 
 -- ---- a range from -(k + 1) to k
+-- below -(k + 1): out of the range
 pub below-range : (k : ℕ) (z : ℤ) → ltZ z (negsuc k) ≡ true → false ≡ ltb (mag z) (suc k)
 below-range k (pos a) e = never e
 below-range k (negsuc a) e = sym (le-ltb a (suc k) (ltb-true k a e))
@@ -90,6 +93,7 @@ in-range k (pos a) e = sym (leb·suc-suc a k)
 in-range k (negsuc a) e = let h : a ≤ k = ltb-false k a e in sym (lt-ltb a (suc k) (omega arith))
 
 -- ---- quotient and remainder
+-- a quotient is no larger than its dividend
 pub abs-quot : (x y : ℤ) → natAbs (quotZ x y) ≤ natAbs x
 abs-quot (pos a) (pos b) = div-le-self a b
 abs-quot (pos a) (negsuc b) = le-trans (le-of-eq (abs-neg (pos (a / suc b)))) (div-le-self a (suc b))
@@ -102,6 +106,7 @@ abs-rem (pos a) y = mod-le a (natAbs y)
 abs-rem (negsuc a) y = le-trans (le-of-eq (abs-neg (pos (suc a % natAbs y)))) (mod-le (suc a) (natAbs y))
 
 -- ---- 0 - x
+-- it is the negative of x
 pub minus-is : (x : ℤ) → pos 0 -ℤ x ≡ negℤ x
 minus-is x = +ℤ-idl (negℤ x)
 

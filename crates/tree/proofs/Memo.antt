@@ -163,6 +163,6 @@ module _ {ws ns : List ℕ} {n at : ℕ} (s : Step) (e : s ≡ stepOf (stmtAt ws
   pub past-wrong : {memo : List ℕ} (p : ℕ) → s ≡ Wrong p → Past ws ns n memo at p
   past-wrong p q = record { gives = λ R v end S d. let r = stmt-read S d in let z : _≡_ {A = ℕ} 0 1 = cc in absurd (omega arith) }
 
-  -- one too deep: nor does one here
+  -- a head too deep: here too none of at most 100 levels stands
   pub past-deep : {memo : List ℕ} (p : ℕ) → s ≡ Deep p → Past ws ns n memo at p
   past-deep p q = record { gives = λ R v end S d. let r = stmt-read S d in let z : _≡_ {A = ℕ} 0 1 = cc in absurd (omega arith) }

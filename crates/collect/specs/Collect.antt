@@ -88,6 +88,7 @@ pub record FieldInfo : Type 0 where
   pub word : ℕ
   pub ty : TypeRef
 
+-- a TYPE: the fields that are kept, and the words of all
 pub record RecordInfo : Type 0 where
   pub fields : List FieldInfo
   pub words : ℕ

@@ -8,6 +8,7 @@ use Rattle.fold.specs.declared.Fold.{Fold}
 use Rattle.consteval.specs.ConstEval.{constEval}
 use Rattle.subscripts.specs.Subscripts.{inExpr}
 
+-- its fold under given rows, and the subscripts of a name's first use
 pub record Seen : Type 0 where
   pub const-eval : List Row → Fold
   pub use-of : ℕ → Option ℕ

@@ -65,6 +65,7 @@ pub data Edge : Type 0 where
   folds : (words : List ℕ) → Outcome → Edge
   resolves : (words resolved : List ℕ) → Edge
 
+-- what either entry gives
 pub data Result : Type 0 where
   folded : Past → Result
   wrote : Written → Result

@@ -27,6 +27,7 @@ use Rattle.equivalence.specs.AnalysisLaws.{known, accepts}
 
 -- ---- the numbers
 
+-- the six numbers
 pub data Hinders : ℕ → Type 0 where
   size : Hinders 5
   strings : Hinders 1

@@ -65,6 +65,7 @@ unique bytes ends p q r s e =
 
 -- ---- what is known of an accepted program
 
+-- it passed each check, and each part is what its pass gave
 pub record Known (rows notes : Option ℕ) (bytes ends erased words : List ℕ) (a : Analysis) : Type 0 where
   pub sized : sizedProgram bytes ends words erased ≡ true
   pub strings : sound bytes ends ≡ true
@@ -73,6 +74,7 @@ pub record Known (rows notes : Option ℕ) (bytes ends erased words : List ℕ) 
   pub ran : analysed (given rows notes bytes ends erased) (a .tree) ≡ running (a .rows) (a .diagnostics)
   pub is : a .resolved ≡ resolvedUnder (a .rows) (a .tree)
 
+-- what came out of the run, and of resolving under its rows
 pub record Ran (p : Program) (s : State) (a : Analysis) : Type 0 where
   pub tree : a .tree ≡ p
   pub ran : s ≡ running (a .rows) (a .diagnostics)

@@ -1,6 +1,7 @@
 -- Lists of steps, perhaps empty: the reflexive and transitive closure of a relation. Assumes nothing.
 use mathlib.Core.Path.{_≡_, refl, subst, _∙_}
 
+-- steps of R from one end to the other
 pub data Chain {A : Type 0} (R : A → A → Type 0) : A → A → Type 0 where
   empty : {a : A} → Chain R a a
   more : {a b c : A} → R a b → Chain R b c → Chain R a c

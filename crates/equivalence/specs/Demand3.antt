@@ -29,6 +29,7 @@ pub record Agree (bytes ends : List ℕ) (first second : Analysis) : Type 0 wher
   pub first-again : (at : ℕ) → resolution (first .rows) at bytes ends (first .resolved) ≡ gives (first .resolved)
   pub second-again : (at : ℕ) → resolution (first .rows) at bytes ends (second .resolved) ≡ gives (second .resolved)
 
+-- both sentences of the demand
 pub record Demand3 (bytes ends : List ℕ) (first second : Analysis) : Type 0 where
   pub exactly : (first .resolved ≡ second .resolved) ↔ Steps (first .rows) (first .tree) (second .tree)
   pub whenever : first .resolved ≡ second .resolved → Agree bytes ends first second

@@ -4,6 +4,7 @@ use Rattle.fold.specs.Value.{literalKind, lowOf, highOf}
 use Rattle.fold.specs.declared.Fold.{Fold}
 use Rattle.fold.specs.declared.Fold.the-variants.{Is, Overflow, NotConstant}
 
+-- a constant, or a code
 pub data Outcome : Type 0 where
   -- words 2, 3 and 4 of a CONST row: literal kind 24 to 28, the 64-bit value or a string's number
   constant : (kind low high : ℕ) → Outcome

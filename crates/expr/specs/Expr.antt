@@ -27,6 +27,7 @@ mutual
     Field : Expr → ℕ → Expr  -- 22: base, field
     Paren : Expr → Expr  -- 23
 
+  -- several expressions
   pub data Exprs : Type 0 where
     none : Exprs
     more : Expr → Exprs → Exprs

@@ -29,6 +29,7 @@ front-length l i n old now e = rw (front l i n old now e) (sym (length-words l i
 
 -- ---- the image's test
 
+-- what the test asks, part by part
 pub record Facts (l : List ℕ) : Type 0 where
   pub strings-fit : strings l ≤ 1024
   pub words-fit : treeWords l ≤ 8192
@@ -62,6 +63,7 @@ is-well l f = rw (le-leb _ _ (f .strings-fit), le-leb _ _ (f .words-fit), le-leb
 
 -- ---- an image by the counts that were read of it
 
+-- the counts of an image, within the sizes, and its parts within the file
 pub record Shaped (l : List ℕ) (s w x k : ℕ) : Type 0 where
   pub strings-are : s ≡ strings l
   pub words-are : w ≡ treeWords l

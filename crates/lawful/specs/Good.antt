@@ -92,6 +92,7 @@ module _ (ns : List ℕ) (n : ℕ) where
 
   -- ---- a row that is there
 
+  -- the row of the key k, in order by itself
   pub record Found (k : ℕ) (r : Row) : Type 0 where
     pub is : key r ≡ k
     pub wide : length r ≡ width
@@ -122,6 +123,7 @@ module _ (ns : List ℕ) (n : ℕ) (G : Given) where
   Bounded (running rows notes) = Each (FineNote ns) notes × (fits noteWidth (G .note-room) notes ≡ true) × (fits width (G .row-room) rows ≡ true)
   Bounded (stopped k) = Unit {0}
 
+  -- a step that keeps a state good, and a good one bounded
   pub record Keeps (f : Step) : Type 0 where
     pub on : (st : State) → Good ns n st → Good ns n (f st)
     pub bounded : (st : State) → Good ns n st → Bounded st → Bounded (f st)

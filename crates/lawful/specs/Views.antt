@@ -83,18 +83,22 @@ module _ (ns : List ℕ) (n : ℕ) where
   OptFine absent = Unit {0}
   OptFine (some t) = TypeFine t
 
+  -- a field with a name's number and a type in order
   pub record FineField (f : FieldDecl) : Type 0 where
     pub name : Named ns (f .name)
     pub ty : TypeFine (f .ty)
 
+  -- an item with a name's number and a type in order or none
   pub record FineItem (i : ScopeItem) : Type 0 where
     pub name : Named ns (i .name)
     pub ty : OptFine (i .ty)
 
+  -- a parameter, the same
   pub record FineParam (p : Param) : Type 0 where
     pub name : Named ns (p .name)
     pub ty : OptFine (p .ty)
 
+  -- a declarator, the same, whose dimensions are few
   pub record FineDecl (d : Declarator Seen) : Type 0 where
     pub name : Named ns (d .name)
     pub dims : Small (indexed (d .dimensions))

@@ -9,6 +9,7 @@ use lib.ListN.{length, getD, replicate}
 use Rattle.words.specs.Word.{pick}
 use Rattle.text.specs.Text.{ascii}
 
+-- a name, and how many arguments
 pub record Builtin : Type 0 where
   pub name : List ℕ
   pub least : ℕ

@@ -19,6 +19,7 @@ pub record RowAt (ss : Sorts) (ws ns : List ℕ) (n at : ℕ) : Type 0 where
   pub end : ℕ
   pub stands : Stands ws ns n at tree end
 
+-- so many rows that stand there, whatever strings they have
 pub record SomeRows (ss : Sorts) (total : ℕ) (ws : List ℕ) (at : ℕ) : Type 0 where
   pub names : List ℕ
   pub strings : ℕ

@@ -42,6 +42,7 @@ quietI (rows ss) = quietR ss
 
 -- ---- items
 
+-- a word, a literal, an expression, several, or a tree of any shape
 pub data Item : Type 0 where
   -- an ordinary word
   wordItem : ℕ → Item

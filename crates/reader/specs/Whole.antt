@@ -16,6 +16,7 @@ use Rattle.tree.specs.Reader.{programAt}
 use Rattle.tree.proofs.Sound.{program-sound}
 use Rattle.reader.specs.Program.{wholeOf, erasedFrom, programOf, acceptedOf}
 
+-- the program stands from the first word to the last, at most 100 deep
 pub record Whole (ws ns : List ℕ) (n : ℕ) (p : Program) : Type 0 where
   pub stands : Stands ws ns n 0 p (length ws)
   pub shallow : depthT p ≤ 100

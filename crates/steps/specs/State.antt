@@ -10,6 +10,7 @@ use Rattle.words.specs.Word.{pick}
 use Rattle.table.specs.Rows.{Row, width, noteWidth, insert}
 
 infixl 20 _⨾_
+-- a run that goes on, or one that stopped
 pub data State : Type 0 where
   running : (rows notes : List Row) → State
   stopped : (number : ℕ) → State

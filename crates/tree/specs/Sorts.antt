@@ -10,6 +10,7 @@ pub data Leaf : Type 0 where
   mark : (kind from below : ℕ) → Leaf
 
 mutual
+  -- the sort of a field
   pub data Sort : Type 0 where
     leaf : Leaf → Sort
     expr stmt : Sort
@@ -23,6 +24,7 @@ mutual
     -- no word is right
     never : Sort
 
+  -- those of a row of fields
   pub data Sorts : Type 0 where
     nil : Sorts
     _&_ : Sort → Sorts → Sorts

@@ -9,6 +9,7 @@ use Rattle.tree.specs.Tree.{Shape, one, row, rows, Tree, word, value, Stmt, lis
 
 -- ---- the Rust's enum and structs, as far as collecting reads them (of LValue not `fields`). As sorts they stand in tree/specs/Sorts.antt
 
+-- a type
 pub data TypeRef : Type 0 where
   Integer Long Single Double : TypeRef
   FixedString Record : ℕ → TypeRef
@@ -41,27 +42,32 @@ abbrev pub argOf : Option TypeRef → ℕ
 argOf absent = 0
 argOf (some t) = arg t
 
+-- a target
 pub record LValue (E : Type 0) : Type 0 where
   pub name : ℕ
   pub indices : Option (List E)
 
+-- what DIM and REDIM declare
 pub record Declarator (E : Type 0) : Type 0 where
   pub name : ℕ
   pub dimensions : Option (List E)
   pub lowers : List (Option E)
   pub ty : Option TypeRef
 
+-- a parameter
 pub record Param : Type 0 where
   pub name : ℕ
   pub byval : Bool
   pub array : Bool
   pub ty : Option TypeRef
 
+-- what SHARED and STATIC name
 pub record ScopeItem : Type 0 where
   pub name : ℕ
   pub array : Bool
   pub ty : Option TypeRef
 
+-- a field of a TYPE
 pub record FieldDecl : Type 0 where
   pub name : ℕ
   pub ty : TypeRef
@@ -137,6 +143,7 @@ module _ {E : Type 0} where
 
 -- ---- a statement as collecting sees it: the kinds of its match (sema.rs), all others being `Other`
 
+-- what a statement shows
 pub data View (E : Type 0) : Type 0 where
   Label LabelName OptionBase : ℕ → View E
   TypeDef : (name : ℕ) → List FieldDecl → View E

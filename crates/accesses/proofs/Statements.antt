@@ -58,6 +58,7 @@ inside-other σ k x p q = rw (ne-eqb (numberOf k) 20 p, ne-eqb (numberOf k) 21 q
 
 -- ---- a CALL
 
+-- its name and its arguments, where the words have them, and its words when resolved
 pub record InCall (ws ns : List ℕ) (n at : ℕ) (v : Tree Expr (one stmt)) (end : ℕ) : Type 0 where
   pub name : ℕ
   pub args : Exprs

@@ -161,7 +161,7 @@ module _ (G : Given) where
   abbrev pub entry : Row → Step
   entry = enter (G .row-room)
 
-  -- the type isn't the one that the name's suffix says
+  -- the name has a suffix, and the type is another one than it says
   unfoldable pub differs : ℕ → TypeRef → Bool
   differs name ty = disagrees (lastOf (G .string name)) ty
 

@@ -42,6 +42,7 @@ of-kind {ns} {n} {ws} {bytes} {ends} {erased} {scope} {at} {s} {r} {b} {d} {b′
 
 -- ---- the kinds that do nothing
 
+-- the j-th kind has no arm in the match
 pub record Quiet (j : ℕ) : Type 0 where
   pub no-label : j ≡ 0 → ⊥
   pub no-labelName : j ≡ 1 → ⊥

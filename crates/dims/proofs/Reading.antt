@@ -203,6 +203,7 @@ low-end {ws} {at} {left} {any} T z = record {
 
 -- ---- a declarator: its name, the dimensions, the lower bounds, the type
 
+-- its parts, where the words have them
 pub record InDecl (ws ns : List ℕ) (n at : ℕ) (v : Tree Expr (row DeclaratorRow)) (end : ℕ) : Type 0 where
   pub name : ℕ
   pub dims : Tree Expr (one (opt (exprs & nil)))

@@ -85,7 +85,7 @@ pub record ReadyStmt (k : Kind) (bytes ends ws : List ℕ) (at : ℕ) : Type 0 w
 
 -- ---- what is asked
 
--- whether a type, unless it is a record, is another one than the name's suffix says
+-- whether a type that is no record is another one than the name's suffix, if it has one, says
 abbrev pub Contradicts : (bytes ends : List ℕ) (name head : ℕ) → Bool → Type 0
 Contradicts bytes ends name h r = (ty : TypeRef) → h ≡ head ty → r ≡ (not (isRecord ty) && disagrees (lastOf (stringAt bytes ends name)) ty)
 

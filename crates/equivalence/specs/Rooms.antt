@@ -100,7 +100,7 @@ roomed {S} {t} n fit not-fit r = go (leb n r) refl
     go true q = let h : n ≤ r = leb-true n r q in inl (λ R i. fit R (omega arith))
     go false q = inr (not-fit r q)
 
--- pushing a diagnostic
+-- pushing a diagnostic keeps them
 pub push-k : (row : Row) → Keeps (λ r d. push (some d) row) (push none row)
 unfolding push fits
 push-k row = pointwise (λ r d. push (some d) row) (push none row) (λ r d n. refl) (λ n. refl) go
@@ -117,7 +117,7 @@ push-k row = pointwise (λ r d. push (some d) row) (push none row) (λ r d n. re
           wider = λ r d. elim (roomed n fit full d) [ inl w ↦ inl (λ R D h i. w D i) | inr f ↦ inr f ];
         }
 
--- changing the rows
+-- so does changing the rows
 pub change-k : (f : List Row → List Row) → Keeps (λ r d. change (some r) f) (change none f)
 unfolding change fits
 change-k f = pointwise (λ r d. change (some r) f) (change none f) (λ r d n. refl) (λ n. refl) go
@@ -144,26 +144,26 @@ unfolding stop
 stop-k = pointwise (λ r d. stop 9) (stop 9) (λ r d n. refl) (λ n. refl) (λ rows notes. record { free = nine; enough = 0; long = λ r d h i. refl; wider = λ r d. inl (λ R D h i. refl) })
 
 module _ {F H : ℕ → ℕ → Step} {F₀ H₀ : Step} (f : Keeps F F₀) (h : Keeps H H₀) where
-  -- two steps in turn
+  -- two steps that keep them, in turn
   pub then-k : Keeps (λ r d s. H r d (F r d s)) (λ s. H₀ (F₀ s))
   then-k = record { on = λ S t m. h .on (λ r d. F r d (S r d)) (F₀ t) (f .on S t m) }
 
-  -- the one that a test picks of two
+  -- the one of two such steps that a test picks
   pub pick-k : (b : Bool) → Keeps (λ r d. pick b (F r d) (H r d)) (pick b F₀ H₀)
   pick-k true = f
   pick-k false = h
 
--- under a test
+-- such a step under a test
 pub when-k : {F : ℕ → ℕ → Step} {F₀ : Step} (b : Bool) → Keeps F F₀ → Keeps (λ r d. when b (F r d)) (when b F₀)
 when-k true f = f
 when-k false f = nothing-k
 
--- a step that the rows decide
+-- a step that the rows decide, where each that they may choose keeps them
 pub asking-k : {F : ℕ → ℕ → List Row → Step} {F₀ : List Row → Step} → ((rows : List Row) → Keeps (λ r d. F r d rows) (F₀ rows)) → Keeps (λ r d. asking (F r d)) (asking F₀)
 unfolding asking
 asking-k {F} {F₀} f = pointwise (λ r d. asking (F r d)) (asking F₀) (λ r d n. refl) (λ n. refl) (λ rows notes. f rows .on (λ r d. running rows notes) (running rows notes) (constant rows notes))
 
--- over a list
+-- such a step for each of a list
 pub each-k : {A : Type 0} {F : ℕ → ℕ → A → Step} {F₀ : A → Step} → ((x : A) → Keeps (λ r d. F r d x) (F₀ x)) → (xs : List A) → Keeps (λ r d. each (F r d) xs) (each F₀ xs)
 unfolding each
 each-k f [] = nothing-k

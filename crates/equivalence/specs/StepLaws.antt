@@ -61,7 +61,7 @@ mutual
   stepE (in-field {n = n} s) = ap (λ x. Field x n) (stepE s)
   stepE {k} (in-paren s) = ap (keep k) (stepE s)
 
-  -- and of a list
+  -- and what it makes of a list
   pub stepL : {T : Tables} {σ : ℕ} {m : Places} {es ds : Exprs} → StepL T σ m es ds → resL T σ m es ≡ resL T σ m ds
   stepL {T} {σ} {m} (here {es = es} s) = ap (λ x. more x (resL T σ (after m) es)) (stepE s)
   stepL {T} {σ} {m} (there {e = e} s) = ap (more (resE T σ (m 0) e)) (stepL s)
@@ -90,7 +90,7 @@ mutual
   reachE T σ k (Field e n) = under (λ x. Field x n) (λ x y r. in-field r) (reachE T σ false e)
   reachE T σ k (Paren e) = unwrap k (reachE T σ false e)
 
-  -- and from a list
+  -- and from a list to what it makes of it
   pub reachL : (T : Tables) (σ : ℕ) (m : Places) (es : Exprs) → Chain (StepL T σ m) es (resL T σ m es)
   reachL T σ m none = empty
   reachL T σ m (more e es) = then (under (λ x. more x es) (λ x y r. here r) (reachE T σ (m 0) e)) (under (more (resE T σ (m 0) e)) (λ x y r. there r) (reachL T σ (after m) es))

@@ -11,7 +11,7 @@ pub data Outcome : Type 0 where
   -- 11 overflow, 12 not constant
   code : ℕ → Outcome
 
--- of each answer
+-- the words of what folding answers
 unfoldable pub outcomeOf : Fold → Outcome
 outcomeOf (Is v) = constant (literalKind v) (lowOf v) (highOf v)
 outcomeOf Overflow = code 11

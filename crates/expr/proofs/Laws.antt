@@ -32,6 +32,7 @@ bind-got (got a m) h = (a, m, refl, h)
 bind-got (wrong p) h = absurd (wrong-got h)
 bind-got (deep p) h = absurd (deep-got h)
 
+-- the word at a place
 pub record IsRaw (ws : List ℕ) (at a m : ℕ) : Type 0 where
   pub inside : at < length ws
   pub is : a ≡ getD ws at 0
@@ -45,6 +46,7 @@ raw-got {ws} {at} {a} {m} e =
     let e1 = h .1 in
     record { inside = ltb-true at (length ws) (h .0); is = cc; to = cc }
 
+-- a word of kind k with a payload below n: its payload
 pub record IsLeaf (ws : List ℕ) (k n at x m : ℕ) : Type 0 where
   pub inside : at < length ws
   pub kind : kindOf (getD ws at 0) ≡ k
@@ -64,6 +66,7 @@ leaf-got {ws} {k} {n} {at} {x} {m} e =
     let is : x ≡ payOf w = cc in
     record { inside = ltb-true at (length ws) (h1 .0); kind = eqb-true (kindOf w) k (h2 .0); below = rw is (ltb-true (payOf w) n (h3 .0)); is = is; to = cc }
 
+-- the number of a name
 pub record IsName (ws ns : List ℕ) (at x m : ℕ) : Type 0 where
   pub inside : at < length ws
   pub kind : kindOf (getD ws at 0) ≡ 2
@@ -83,6 +86,7 @@ name-got {ws} {ns} {at} {x} {m} e =
     let q : x ≡ payOf w = cc in
     record { inside = ltb-true at (length ws) (h1 .0); kind = eqb-true (kindOf w) 2 (h2 .0); is = q; named = rw q (h3 .0); to = cc }
 
+-- a head of a kind from a to b
 pub record IsHead (ws : List ℕ) (a b at k m : ℕ) : Type 0 where
   pub inside : at < length ws
   pub from : a ≤ k
@@ -136,6 +140,7 @@ got-16 q h =
     let v = map-got _ _ (rw q at h) in
     record { lit = v .0; reads = v .1; is = v .2 }
 
+-- 17: a name
 pub record OfVar (ws : List ℕ) (n : Strings) (sub : ℕ → Got Expr) (m : ℕ) (e : Expr) (end : ℕ) : Type 0 where
   pub name : ℕ
   pub reads : nameAt ws (n .names) m ≡ got name end
@@ -148,6 +153,7 @@ got-17 q h =
     let v = map-got _ _ (rw q at h) in
     record { name = v .0; reads = v .1; is = v .2 }
 
+-- 18: a name and a list
 pub record OfElem (ws : List ℕ) (n : Strings) (sub : ℕ → Got Expr) (m : ℕ) (e : Expr) (end : ℕ) : Type 0 where
   pub name : ℕ
   pub mid : ℕ
@@ -164,6 +170,7 @@ got-18 q h =
     let w = map-got _ _ (v .3) in
     record { name = v .0; mid = v .1; items = w .0; reads = v .2; list = w .1; is = w .2 }
 
+-- 19: an operator and an expression
 pub record OfUnary (ws : List ℕ) (n : Strings) (sub : ℕ → Got Expr) (m : ℕ) (e : Expr) (end : ℕ) : Type 0 where
   pub op : ℕ
   pub mid : ℕ
@@ -180,6 +187,7 @@ got-19 q h =
     let w = map-got _ _ (v .3) in
     record { op = v .0; mid = v .1; arg = w .0; reads = v .2; inner = w .1; is = w .2 }
 
+-- 20: an operator and two expressions
 pub record OfBinary (ws : List ℕ) (n : Strings) (sub : ℕ → Got Expr) (m : ℕ) (e : Expr) (end : ℕ) : Type 0 where
   pub op : ℕ
   pub mid : ℕ
@@ -200,6 +208,7 @@ got-20 q h =
     let x = map-got _ _ (w .3) in
     record { op = v .0; mid = v .1; lhs = w .0; mid₂ = w .1; rhs = x .0; reads = v .2; left = w .2; right = x .1; is = x .2 }
 
+-- 21: a name and a list
 pub record OfCall (ws : List ℕ) (n : Strings) (sub : ℕ → Got Expr) (m : ℕ) (e : Expr) (end : ℕ) : Type 0 where
   pub name : ℕ
   pub mid : ℕ
@@ -216,6 +225,7 @@ got-21 q h =
     let w = map-got _ _ (v .3) in
     record { name = v .0; mid = v .1; items = w .0; reads = v .2; list = w .1; is = w .2 }
 
+-- 22: an expression and a name
 pub record OfField (ws : List ℕ) (n : Strings) (sub : ℕ → Got Expr) (m : ℕ) (e : Expr) (end : ℕ) : Type 0 where
   pub arg : Expr
   pub mid : ℕ
@@ -232,6 +242,7 @@ got-22 q h =
     let w = map-got _ _ (v .3) in
     record { arg = v .0; mid = v .1; name = w .0; inner = v .2; reads = w .1; is = w .2 }
 
+-- 23: an expression
 pub record OfParen (ws : List ℕ) (n : Strings) (sub : ℕ → Got Expr) (m : ℕ) (e : Expr) (end : ℕ) : Type 0 where
   pub arg : Expr
   pub inner : sub m ≡ got arg end

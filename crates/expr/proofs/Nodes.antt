@@ -55,6 +55,7 @@ within {ws} {n} {at} {e} {end} s = record { moves = go e (s .wrote .span); insid
     go (Field e x) h = omega arith
     go (Paren e) h = omega arith
 
+-- a binary operator: its two sides, one after the other
 pub record InBinary (ws : List ℕ) (n : Strings) (at : ℕ) (e : Expr) (end : ℕ) : Type 0 where
   pub op : ℕ
   pub lhs : Expr
@@ -74,6 +75,7 @@ in-binary {ws} {n} {at} {e} {end} k s =
     let l = v .left in
     record { op = v .op; lhs = v .lhs; mid = v .mid₂; rhs = v .rhs; op-is = L .is; left = stands (N .levels) (rw (L .to) at l); right = stands (N .levels) (v .right); is = v .is }
 
+-- parentheses: the expression after the head
 pub record InParen (ws : List ℕ) (n : Strings) (at : ℕ) (e : Expr) (end : ℕ) : Type 0 where
   pub arg : Expr
   pub inner : Stands ws n (at + 1) arg end
@@ -105,6 +107,7 @@ kind-of {ws} {n} {at} {e} {end} s = go e (s .wrote)
     go (Field e x) h = kind-first ws at 22 end _ h
     go (Paren e) h = kind-first ws at 23 end _ h
 
+-- a literal: its own words after the head
 pub record InLit (ws : List ℕ) (n : Strings) (at : ℕ) (e : Expr) (end : ℕ) : Type 0 where
   pub lit : Literal
   pub wrote : Wrote ws (at + 1) (wordsL lit) end
@@ -127,6 +130,7 @@ in-lit {ws} {n} {at} {e} {end} k s =
     let L = lit-sound ws (n .count) (at + 1) (v .lit) end (v .reads) in
     record { lit = v .lit; wrote = L .0; valid = L .1; kind = kind-lit ws (at + 1) (v .lit) end (L .0); is = v .is }
 
+-- a unary operator: the expression after its word
 pub record InUnary (ws : List ℕ) (n : Strings) (at : ℕ) (e : Expr) (end : ℕ) : Type 0 where
   pub arg : Expr
   pub inner : Stands ws n (at + 2) arg end
@@ -142,6 +146,7 @@ in-unary {ws} {n} {at} {e} {end} k s =
     let i = stands (N .levels) (v .inner) in
     record { arg = v .arg; inner = rw p at i; is = v .is ∙ ap (λ (o : ℕ). Unary o (v .arg)) (L .is) }
 
+-- a field: the expression, and its name's word
 pub record InField (ws : List ℕ) (n : Strings) (at : ℕ) (e : Expr) (end : ℕ) : Type 0 where
   pub arg : Expr
   pub mid : ℕ
@@ -170,6 +175,7 @@ in-list ws n d at es end h =
     let R = exprs-sound ws n d (exprAt ws n d) (sound ws n d) (v .count) (at + 1) es end (omega (arith, L .inside)) (rw (L .to) at i) in
     record { count = R .counted ∙ L .is; items = record { wrote = R .wrote; valid = R .valid } }
 
+-- an element or a call: its list after the name
 pub record InElem (ws : List ℕ) (n : Strings) (at : ℕ) (e : Expr) (end : ℕ) : Type 0 where
   pub name : ℕ
   pub args : Exprs

@@ -63,11 +63,13 @@ test-got {ws} ok {at} {x} {m} e =
     let q : x ≡ getD ws at 0 = cc in
     (record { inside = ltb-true at (length ws) (h1 .0); is = q; to = cc }, rw q (h2 .0))
 
+-- a valid expression stands there, at most d deep
 pub record Right (ws : List ℕ) (n : Strings) (d at : ℕ) (e : Expr) (end : ℕ) : Type 0 where
   pub wrote : Wrote ws at (words e) end
   pub valid : Valid n e
   pub deep : depth e ≤ d
 
+-- so many do
 pub record Rights (ws : List ℕ) (n : Strings) (d at : ℕ) (es : Exprs) (end count : ℕ) : Type 0 where
   pub wrote : Wrote ws at (wordsAll es) end
   pub valid : Valids n es

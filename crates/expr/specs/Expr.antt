@@ -66,7 +66,7 @@ unfoldable mutual
 
 -- for contracts inside and proofs: how deep a tree is, an expression inside another being one deeper
 unfoldable mutual
-  -- of an expression
+  -- how deep an expression is
   pub depth : Expr → ℕ
   depth (Lit l) = 1
   depth (Var x) = 1
@@ -77,7 +77,7 @@ unfoldable mutual
   depth (Field e x) = depth e + 1
   depth (Paren e) = depth e + 1
 
-  -- of several: the deepest
+  -- how deep several are: the deepest
   pub depths : Exprs → ℕ
   depths none = 0
   depths (more e es) = max (depth e) (depths es)
@@ -124,7 +124,7 @@ module _ (n : Strings) where
     Valid (Field e x) = Valid e × Named (n .names) x
     Valid (Paren e) = Valid e
 
-    -- each of several
+    -- each of several is valid
     pub Valids : Exprs → Type 0
     Valids none = Unit {0}
     Valids (more e es) = Valid e × Valids es

@@ -14,11 +14,11 @@ use Rattle.fold.specs.declared.Value.the-variants.{Integer, Long, Single
 -- ---- for contracts inside and proofs. The range of the numbers: Integer and Long from -2147483648 to 2147483648, floats finite (`finite` of the
 -- library, of a float; that of expr/specs/Expr.antt is of its high word)
 
--- of a whole number
+-- the range of a whole number
 abbrev pub InRange : ℤ → Type 0
 InRange z = natAbs z ≤ 2147483648
 
--- of a value
+-- a value in this range
 abbrev pub Good : Value → Type 0
 Good (Integer z) = InRange z
 Good (Long z) = InRange z

@@ -31,11 +31,11 @@ wordsAt l i (suc n) = wordAt l i ∷ wordsAt l (i + 4) n
 unfoldable pub strings : List ℕ → ℕ
 strings l = wordAt l 0
 
--- of tree words
+-- the count of tree words
 unfoldable pub treeWords : List ℕ → ℕ
 treeWords l = wordAt l 4
 
--- of erased names
+-- the count of erased names
 unfoldable pub erasedNames : List ℕ → ℕ
 erasedNames l = wordAt l 8
 

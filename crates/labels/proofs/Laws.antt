@@ -42,6 +42,7 @@ use Rattle.labels.specs.Labels.{ConstAt, sayBase}
 
 -- ---- a statement whose first field is a plain word: its line, and the word's payload
 
+-- where the words have them
 pub record Leads (ws : List ℕ) (at line x : ℕ) : Type 0 where
   pub inside : at + 1 < length ws
   pub line-is : payOf (getD ws at 0) ≡ line

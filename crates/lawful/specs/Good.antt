@@ -42,7 +42,7 @@ module _ (ns : List ℕ) (n : ℕ) where
     pub narrow : Narrow rows
     pub consts : Consts n rows
 
-  -- of a state
+  -- a state is good: its rows are, or its number leaves zeros
   abbrev pub Good : State → Type 0
   Good (running rows notes) = GoodRows rows
   Good (stopped k) = zeroing k ≡ true
@@ -54,7 +54,7 @@ module _ (ns : List ℕ) (n : ℕ) where
     pub narrow : getD r 1 0 < 4294967296
     pub consts : (rows : List Row) → Consts n rows → Consts n (insert r rows)
 
-  -- no rows are such
+  -- no rows are good rows
   pub no-rows : GoodRows []
   unfolding Each
   no-rows = record { table = tt; ok = tt; narrow = tt; consts = consts-none n }
@@ -63,7 +63,7 @@ module _ (ns : List ℕ) (n : ℕ) where
   pub other : (r : Row) → length r ≡ width → rowOk ns r ≡ true → (kindOf (getD r 0 0) ≡ 132 → ⊥) → getD r 1 0 < 4294967296 → Entry r
   other r w o k h = record { wide = w; ok = o; narrow = h; consts = λ rows C. consts-other C r k h }
 
-  -- they stay such when a row is entered that may be
+  -- good rows stay good when a row is entered that may be
   pub insert-good : (r : Row) (rows : List Row) → Entry r → GoodRows rows → GoodRows (insert r rows)
   insert-good r rows E g =
       record {
@@ -73,7 +73,7 @@ module _ (ns : List ℕ) (n : ℕ) where
         consts = E .consts rows (g .consts);
       }
 
-  -- when several are
+  -- when several such rows are
   pub insert-all-good : (new rows : List Row) → Each Entry new → GoodRows rows → GoodRows (insertAll new rows)
   unfolding Each insertAll
   insert-all-good [] rows E g = g
@@ -128,7 +128,7 @@ module _ (ns : List ℕ) (n : ℕ) (G : Given) where
     pub on : (st : State) → Good ns n st → Good ns n (f st)
     pub bounded : (st : State) → Good ns n st → Bounded st → Bounded (f st)
 
-  -- pushing a diagnostic that names names
+  -- pushing a diagnostic that names names keeps a state good and bounded
   pub push-k : {note : Row} → FineNote ns note → Keeps (push (G .note-room) note)
   unfolding push zeroing Each
   push-k {note} F = record { on = by; bounded = bound }
@@ -149,7 +149,7 @@ module _ (ns : List ℕ) (n : ℕ) (G : Given) where
       bound (running rows notes) g h = room rows (notes ++ (note ∷ [])) (fits noteWidth (G .note-room) (notes ++ (note ∷ []))) refl (each-append (FineNote ns) notes (note ∷ []) (h .0) (F, tt)) (h .2)
       bound (stopped k) g h = tt
 
-  -- changing the rows to such rows
+  -- so does a change that makes good rows of good rows
   pub change-k : (f : List Row → List Row) → ((rows : List Row) → GoodRows ns n rows → GoodRows ns n (f rows)) → Keeps (change (G .row-room) f)
   unfolding change zeroing
   change-k f h = record { on = by; bounded = bound }
@@ -192,25 +192,25 @@ module _ (ns : List ℕ) (n : ℕ) (G : Given) where
       bound (running rows notes) g b = tt
       bound (stopped m) g b = tt
 
-  -- two steps in turn
+  -- two steps that keep it so, in turn
   pub then-k : {f h : Step} → Keeps f → Keeps h → Keeps (λ st. h (f st))
   then-k {f} F H = record { on = λ st g. H .on (f st) (F .on st g); bounded = λ st g b. H .bounded (f st) (F .on st g) (F .bounded st g b) }
 
-  -- the one that a test picks of two, each to be shown only where it is picked
+  -- the one of two that a test picks; each need keep it so only where it is picked
   pub pick-k : {f h : Step} (b : Bool) → (b ≡ true → Keeps f) → (b ≡ false → Keeps h) → Keeps (pick b f h)
   pick-k true F H = F refl
   pick-k false F H = H refl
 
-  -- under a test, to be shown only where it holds
+  -- a step under a test; it need keep it so only where the test holds
   pub if-k : {f : Step} (b : Bool) → (b ≡ true → Keeps f) → Keeps (when b f)
   if-k true F = F refl
   if-k false F = nothing-k
 
-  -- under a test, shown whether it holds or not
+  -- a step that keeps it so, under a test
   pub when-k : {f : Step} (b : Bool) → Keeps f → Keeps (when b f)
   when-k b F = if-k b (λ e. F)
 
-  -- a step that such rows decide
+  -- a step that the rows decide, where each that good rows may choose keeps it so
   pub asking-k : {f : List Row → Step} → ((rows : List Row) → GoodRows ns n rows → Keeps (f rows)) → Keeps (asking f)
   unfolding asking
   asking-k {f} F = record { on = by; bounded = bound }
@@ -223,7 +223,7 @@ module _ (ns : List ℕ) (n : ℕ) (G : Given) where
       bound (running rows notes) g b = F rows g .bounded (running rows notes) g b
       bound (stopped k) g b = tt
 
-  -- over a list, each of whose elements is as the step needs it
+  -- a step for each of a list, where it keeps it so for each element as P says
   pub each-k : {A : Type 0} {P : A → Type 0} {f : A → Step} → ((x : A) → P x → Keeps (f x)) → (xs : List A) → Each P xs → Keeps (each f xs)
   unfolding each Each
   each-k F [] a = nothing-k

@@ -545,7 +545,7 @@ module _ (ns : List ℕ) (n : ℕ) (rows : List Row) (g : GoodRows ns n rows) (N
   pub image-lent : Lent ns rows (length rows) (image width N rows)
   image-lent = good-lent ns n g (holds-image N rows (g .table) fit)
 
-  -- the test says so
+  -- the test of a lent table says so
   pub image-checked : checked ns (image width N rows) ≡ Rows (length rows)
   image-checked = checked-complete ns rows (length rows) (image width N rows) image-lent
 

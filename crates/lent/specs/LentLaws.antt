@@ -130,7 +130,7 @@ bad-not m s e f =
 module _ (names : List ℕ) where
   -- ---- a turn of the scan
 
-  -- a zero where a row would begin: no more rows
+  -- a zero where a row would begin: what is left must be zeros
   pub scan-ended : (f lo n : ℕ) (b : List ℕ) → getD b 0 0 ≡ 0 → scan names f lo n b ≡ endedAt n b
   unfolding scan
   scan-ended zero lo n b e = refl
@@ -161,11 +161,11 @@ module _ (names : List ℕ) where
   -- ---- the same from within a buffer b, at row n of the cap that fit
 
   module _ (b : List ℕ) (cap lo n : ℕ) where
-    -- a zero at row n: no more rows
+    -- a zero at row n: what is left must be zeros
     pub turn-ended : getD b (n * width) 0 ≡ 0 → scan names (cap - n) lo n (drop (n * width) b) ≡ endedAt n (drop (n * width) b)
     turn-ended e = scan-ended (cap - n) lo n (drop (n * width) b) (head-at b n ∙ e)
 
-    -- no more rows fit
+    -- as many rows as fit: what is left must be zeros
     pub turn-done : cap ≤ n → scan names (cap - n) lo n (drop (n * width) b) ≡ endedAt n (drop (n * width) b)
     unfolding scan
     turn-done h =

@@ -42,7 +42,7 @@ module _ (names : List ℕ) where
       rw (k, p, lt-ltb number 16777216 h, s)
 
   module _ (name : ℕ) (h : name < 16777216) (n : isMarked names name ≡ true) where
-    -- 129: in a scope
+    -- 129: a label's row in a scope
     pub label-ok : (scope : ℕ) → scopeOk names scope ≡ true → rowOk names (labelRow name scope) ≡ true
     unfolding rowOk kindOk wordsOk wordOk
     label-ok scope s =
@@ -147,7 +147,7 @@ module _ (names : List ℕ) where
         let p : payOf (wordOf 141 name) ≡ name = omega arith in
         rw (k, p, n)
 
-    -- 142: in a scope
+    -- 142: an unranked parameter's row in a scope
     pub unranked-ok : (scope : ℕ) → scopeOk names scope ≡ true → rowOk names (unrankedRow name scope) ≡ true
     unfolding rowOk kindOk wordsOk wordOk
     unranked-ok scope s =

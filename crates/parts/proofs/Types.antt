@@ -71,6 +71,7 @@ head-some Double = lit< tt
 head-some (FixedString n) = lit< tt
 head-some (Record x) = lit< tt
 
+-- an AS clause that is there: its type stands at the same place
 pub record InAs (ws ns : List ℕ) (n at end : ℕ) (v : Tree Expr (one (opt (TypeSort & nil)))) : Type 0 where
   pub inner : Tree Expr (one TypeSort)
   pub there : Stands ws ns n at inner end

@@ -77,6 +77,7 @@ pub record Next (ns : List ℕ) (n d : ℕ) (xs : List Item) (head : List ℕ) (
 abbrev pub callParts : ℕ → Exprs → List Item → List Item
 callParts f es rest = wordItem (wordOf 2 f) ∷ wordItem (wordOf 1 (manyE es)) ∷ exprsItem es ∷ rest
 
+-- which token comes first, if any is left
 pub data Front (ns : List ℕ) (n d : ℕ) (xs : List Item) : Type 0 where
   isOver : wordsIs xs ≡ [] → outerIs xs ≡ [] → ((g : Piece Expr → List ℕ) → writtenIs g xs ≡ []) → Front ns n d xs
   isWord : (w : ℕ) (rest : List Item) → ordinary (kindOf w) ≡ true → Next ns n d xs (w ∷ []) rest rest [] (λ g. w ∷ []) → Front ns n d xs
@@ -190,6 +191,7 @@ pub record WordsAt (ws ns : List ℕ) (n d at : ℕ) (xs : List Item) (end c : �
   pub stmts : outerIs xs ≡ outerIs rest
   pub writes : (g : Piece Expr → List ℕ) → Parted g → writtenIs g xs ≡ take c (drop at ws) ++ writtenIs g rest
 
+-- parentheses, and what stands after them
 pub record ParenAt (ws ns : List ℕ) (n d at : ℕ) (xs : List Item) (end : ℕ) : Type 0 where
   pub inner : Expr
   pub rest : List Item
@@ -209,6 +211,7 @@ pub record CallAt (ws ns : List ℕ) (n d at : ℕ) (xs : List Item) (end : ℕ)
   pub stmts : outerIs xs ≡ outerIs rest
   pub writes : (g : Piece Expr → List ℕ) → Parted g → writtenIs g xs ≡ g (exprPiece (Call name args)) ++ writtenIs g rest
 
+-- a statement: `there` for a scan that goes into it, `whole` and `after` for one that takes it at once
 pub record StmtAt (ws ns : List ℕ) (n d at : ℕ) (xs : List Item) (end : ℕ) : Type 0 where
   pub kind : Kind
   pub line : ℕ

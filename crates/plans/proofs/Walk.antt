@@ -57,6 +57,7 @@ body-sort = refl
 
 -- ---- an expression
 
+-- a field that is an expression: it stands there, and is its one piece
 pub record InValue (ws ns : List ℕ) (n at : ℕ) (v : Tree Expr (one expr)) (end : ℕ) : Type 0 where
   pub expression : Expr
   pub there : W.Stands ws (strings ns n) at expression end
@@ -178,6 +179,7 @@ pub record Here (i : Shape) (ns : List ℕ) (n d : ℕ) (ws : List ℕ) (at a : 
 
 -- ---- several rows
 
+-- of v, so many rows are left after i
 pub record RowsPart (ws ns : List ℕ) (n : ℕ) {ss : Sorts} (v : Tree Expr (rows ss)) (at end a i : ℕ) (P : List (Piece Expr) → Type 0) : Type 0 where
   pub part : Rest ws ns n v (rows ss) at end a P
   pub few : count (part .left) + i ≡ count v

@@ -19,7 +19,7 @@ ordinary k = ltb k 21 || (eqb k 22 || between 28 64 k)
 
 -- no leaf and no choice of the sort begins like one of those
 unfoldable mutual
-  -- of a sort; what stands in an expression or a statement doesn't count
+  -- so of a sort; what stands in an expression or a statement doesn't count
   pub quiet : Sort → Bool
   quiet (leaf l) = ordinary (kindL l)
   quiet expr = true
@@ -29,12 +29,12 @@ unfoldable mutual
   quiet (either k ss s) = ordinary k && (quietR ss && quiet s)
   quiet never = true
 
-  -- of a row's sorts
+  -- of each sort of a row
   pub quietR : Sorts → Bool
   quietR nil = true
   quietR (s & ss) = quiet s && quietR ss
 
--- of any shape
+-- of a shape's sorts
 unfoldable pub quietI : Shape → Bool
 quietI (one s) = quiet s
 quietI (row ss) = quietR ss
@@ -100,7 +100,7 @@ outer (cons v r) = outer v ++ outer r
 outer nothing = []
 outer (add r rs) = outer r ++ outer rs
 
--- of an item
+-- those in an item
 unfoldable pub outerI : Item → List (Piece Expr)
 outerI (wordItem w) = []
 outerI (litItem l) = []
@@ -108,7 +108,7 @@ outerI (exprItem e) = []
 outerI (exprsItem es) = []
 outerI (treeItem v) = outer v
 
--- of several, one after another
+-- those in several, one after another
 unfoldable pub outerIs : List Item → List (Piece Expr)
 outerIs [] = []
 outerIs (x ∷ xs) = outerI x ++ outerIs xs
@@ -120,7 +120,7 @@ unfoldable pub eachE : (Piece Expr → List ℕ) → Exprs → List ℕ
 eachE g none = []
 eachE g (more e es) = g (exprPiece e) ++ eachE g es
 
--- of an item
+-- an item's
 unfoldable pub writtenI : (Piece Expr → List ℕ) → Item → List ℕ
 writtenI g (wordItem w) = w ∷ []
 writtenI g (litItem l) = wordsL l
@@ -128,7 +128,7 @@ writtenI g (exprItem e) = g (exprPiece e)
 writtenI g (exprsItem es) = eachE g es
 writtenI g (treeItem v) = written g v
 
--- of several, one after another
+-- those of several, one after another
 unfoldable pub writtenIs : (Piece Expr → List ℕ) → List Item → List ℕ
 writtenIs g [] = []
 writtenIs g (x ∷ xs) = writtenI g x ++ writtenIs g xs

@@ -41,6 +41,7 @@ flag-is w x e h = ap (λ (y : ℕ). eqb y 1) (ap payOf e ∙ pay-is 3 x h)
 
 -- ---- a parameter: three words, and its AS clause
 
+-- its parts, where the words have them
 pub record InParam (ws ns : List ℕ) (n at end : ℕ) (p : Param) : Type 0 where
   pub inside : at + 2 < length ws
   pub name : payOf (getD ws at 0) ≡ p .name

@@ -14,6 +14,7 @@ use Rattle.parts.specs.Turns.{Turn, turn-start, turn-some, turn-next, turn-end}
 use Rattle.procedures.specs.Post.{ParamOf, ParamIs, ParamsAt, SomeParams}
 use Rattle.procedures.specs.declared.ParamAt.{ParamAt}
 
+-- i of k parameters read
 pub record Walked (P : List Param → Type 0) (ws : List ℕ) (from k at i : ℕ) : Type 0 where
   pub turn : Turn param (λ ps. (length ps ≡ i) × P ps) ws from k at (k - i)
 

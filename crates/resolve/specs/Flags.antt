@@ -15,7 +15,7 @@ keep true e = Paren e
 keep false e = e
 
 unfoldable mutual
-  -- of an expression, with its flag
+  -- an expression resolved, by its flag
   pub resE : Tables → ℕ → Bool → Expr → Expr
   resE T σ k (Lit l) = Lit l
   resE T σ k (Var n) = Var n
@@ -26,7 +26,7 @@ unfoldable mutual
   resE T σ k (Field e n) = Field (resE T σ false e) n
   resE T σ k (Paren e) = keep k (resE T σ false e)
 
-  -- of a list: m tells each member's flag by its position
+  -- a list resolved: m tells each member's flag by its position
   pub resL : Tables → ℕ → Places → Exprs → Exprs
   resL T σ m none = none
   resL T σ m (more e es) = more (resE T σ (m 0) e) (resL T σ (after m) es)
@@ -71,7 +71,7 @@ mutual
 pub resE-plain : (T : Tables) (σ : ℕ) (e : Expr) → resE T σ false e ≡ resolveExpr T σ e
 resE-plain T σ e = resE-is T σ false e ∙ passed-false e (resolveExpr T σ e)
 
--- of a tree of any shape
+-- a tree of any shape resolved
 unfoldable pub res : Tables → ℕ → Places → {i : Shape} → Tree Expr i → Tree Expr i
 res T σ m (word x) = word x
 res T σ m (value e) = value (resE T σ (m 0) e)

@@ -77,6 +77,7 @@ moves s = let w = within s in (w .moves, w .inside)
 
 -- ---- a call, and a pair
 
+-- a call: its name, its list's head, and its arguments
 pub record InCall (ws : List ℕ) (n : Strings) (at : ℕ) (e : Expr) (end : ℕ) : Type 0 where
   pub name : ℕ
   pub args : Exprs
@@ -108,6 +109,7 @@ in-call {ws} {n} {at} {e} {end} q s = go e (sym (kind-of s) ∙ q) (s .wrote) (s
     go (Field e x) k w v = absurd (omega (arith, k))
     go (Paren e) k w v = absurd (omega (arith, k))
 
+-- a pair: the expression in it
 pub record InPair (ws : List ℕ) (n : Strings) (at : ℕ) (e : Expr) (end : ℕ) : Type 0 where
   pub arg : Expr
   pub is : e ≡ Paren arg

@@ -28,11 +28,11 @@ module _ {rows : List Row} {n : ℕ} {buf : List ℕ} (K : Keeps rows n buf) whe
   pub keeps-fits : n * width ≤ length buf
   keeps-fits = holds-fits (K .runs .filled)
 
-  -- there are n
+  -- the table has n rows
   pub keeps-count : length rows ≡ n
   keeps-count = ap length (K .all) ∙ both-count (K .runs)
 
-  -- they are a table
+  -- its rows are in order
   pub keeps-table : Table 0 rows
   keeps-table = subst (Table 0) (sym (K .all)) (both-table (K .runs))
 

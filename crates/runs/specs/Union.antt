@@ -47,7 +47,7 @@ unfolding Apart find
 apart-none k rows [] r a f = refl
 apart-none k rows (x ∷ xs) r a f = find-ne k x xs (λ e. found-clash (ap (λ (n : ℕ). find n rows) (sym e) ∙ a .0) f) ∙ apart-none k rows xs r (a .1) f
 
--- and the other way
+-- and one that is in the other is not in the one
 pub none-apart : (k : ℕ) (rows more : List Row) (r : Row) → Apart more rows → find k more ≡ some r → find k rows ≡ none
 none-apart k rows more r a f = go (find k rows) refl
   where

@@ -91,32 +91,32 @@ each-next f done x F G = same (λ N D. each (λ x. f x N D) (done ++ (x ∷ []))
 abbrev pub Stays : Step → Type 0
 Stays f = (k : ℕ) → f (stopped k) ≡ stopped k
 
--- two such steps in turn are one
+-- two such steps in turn are such a step
 pub stays-then : (f g : Step) → Stays f → Stays g → Stays (f ⨾ g)
 stays-then f g p q k = ap g (p k) ∙ q k
 
--- under a test
+-- such a step under a test
 pub stays-when : (t : Bool) (f : Step) → Stays f → Stays (when t f)
 stays-when true f p k = p k
 stays-when false f p k = refl
 
--- the one that a test picks of two
+-- the one of two such steps that a test picks
 pub stays-pick : (t : Bool) (f g : Step) → Stays f → Stays g → Stays (pick t f g)
 stays-pick true f g p q k = p k
 stays-pick false f g p q k = q k
 
--- over a list
+-- such a step for each of a list
 pub stays-each : {A : Type 0} (f : A → Step) (xs : List A) → ((x : A) → Stays (f x)) → Stays (each f xs)
 unfolding each
 stays-each f [] p k = refl
 stays-each f (x ∷ xs) p k = ap (each f xs) (p x k) ∙ stays-each f xs p k
 
--- every step that the rows decide
+-- every step that the rows decide is such a step
 pub stays-asking : (f : List Row → Step) → Stays (asking f)
 unfolding asking
 stays-asking f k = refl
 
--- the step that stops
+-- so is stopping
 pub stays-stop : (n : ℕ) → Stays (stop n)
 unfolding stop
 stays-stop n k = refl
@@ -131,7 +131,7 @@ pub stays-enter : (N : ℕ) (row : Row) → Stays (enter (some N) row)
 unfolding enter change
 stays-enter N row k = refl
 
--- pushing a diagnostic
+-- and pushing a diagnostic
 pub stays-push : (D : ℕ) (note : Row) → Stays (push (some D) note)
 unfolding push
 stays-push D note k = refl

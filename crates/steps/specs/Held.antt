@@ -107,7 +107,7 @@ unfoldable pub notesLeft : ℕ → State → List ℕ
 notesLeft D (running rows notes) = image noteWidth D notes
 notesLeft D (stopped k) = zeros D
 
--- all three
+-- the answer and both buffers are so
 pub record Left (N D : ℕ) (st : State) (r : Counts) (b d : List ℕ) : Type 0 where
   pub answer : r ≡ countsOf st
   pub rows : b ≡ rowsLeft N st

@@ -76,7 +76,7 @@ module _ {A : Type 0} {bytes ends : List ℕ} {sized : Bool} {t u : Told A} wher
       let h = verdict-breaks (o .at) p (sound bytes ends) (sym f ∙ o .is) in
       record { at = o .at; place = o .place; is = rw (s, h .0, ← h .1) e }
 
-  -- both checks are passed: with what it tells behind them
+  -- neither is so: with what it tells behind the two checks
   pub answers-inner : sized ≡ true → sound bytes ends ≡ true → t ≡ u → Answers sized bytes ends t u
   unfolding entryOf unless
   answers-inner s o e = record { at = 0; place = λ f. absurd (false≢true (sym f ∙ o)); is = rw (s, o) e }

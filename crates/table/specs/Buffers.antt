@@ -289,7 +289,7 @@ room-full n row rows after I = picked-full (Room n rows row) (length (insert row
 pub more-done : (n : ℕ) (row : Row) (rows : List Row) (m : ℕ) (after : List ℕ) → Pushed row rows n (Done m) after → More n rows ≡ true
 more-done n row rows m after P = picked-done (More n rows) m (length rows + 1) (P .answer) .0
 
--- Full: it had none
+-- Full: the diagnostic had no room
 pub more-full : (n : ℕ) (row : Row) (rows : List Row) (after : List ℕ) → Pushed row rows n Full after → More n rows ≡ false
 more-full n row rows after P = picked-full (More n rows) (length rows + 1) (P .answer)
 

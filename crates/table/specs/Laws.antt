@@ -373,7 +373,7 @@ insert-len r (x ∷ xs) = go (insert-len r xs) (ltb (key x) (key r)) (eqb (key x
     go ih false true = omega arith
     go ih false false = omega arith
 
--- nor do several
+-- nor do several rows
 pub insert-all-len : (new rows : List Row) → length rows ≤ length (insertAll new rows)
 unfolding insertAll
 insert-all-len [] rows = omega arith

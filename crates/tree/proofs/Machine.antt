@@ -297,6 +297,7 @@ module _ (ws ns : List ℕ) (n : ℕ) where
 
   -- ---- the loop's invariant, over the list that is the stack
 
+  -- what was asked is still to be answered, no heavier than at first, and the stack has room
   pub record Held (f₀ : Frame) (at₀ : ℕ) (st : List Frame) (sp at : ℕ) (f : Frame) : Type 0 where
     pub is : frameAt ws ns n f₀ at₀ ≡ whole (onStack st) sp f at
     pub light : weight (onStack st) sp f at ≤ (length ws - at₀) * 1099511627776 + sizeF f₀

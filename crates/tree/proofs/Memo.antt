@@ -115,6 +115,7 @@ memo-first = record { same = refl; keeps = keeps-none }
 
 -- ---- a field that was read, by its own words or by a call: what its turn says, and the memo
 
+-- the field's answer is the turn's, and the memo is right
 pub record Settled (ws ns : List ℕ) (n left at sort : ℕ) (first memo : List ℕ) (t : Turn) : Type 0 where
   pub reads : t .kind ≡ 0 → fieldStep ws ns n left (sortAt sort) at ≡ Read (record { at = t .at })
   pub stops : (t .kind ≡ 0 → ⊥) → fieldStep ws ns n left (sortAt sort) at ≡ failedOf t

@@ -19,6 +19,7 @@ use Rattle.tree.proofs.Sound.{is-got}
 use Rattle.tree.proofs.Complete.{may, mayR, clear, clearR, not-first, kind-number}
 
 module _ (ws ns : List ℕ) (n : ℕ) where
+  -- a statement: its kind, its line and its fields
   pub record InStmt (at : ℕ) (v : Tree Expr (one stmt)) (end : ℕ) : Type 0 where
     pub kind : Kind
     pub fields : Tree Expr (row (sorts kind))
@@ -34,6 +35,7 @@ module _ (ws ns : List ℕ) (n : ℕ) where
       let b = s .valid .0 in
       record { kind = k; fields = r; number = omega (arith, ap kindOf (f .is), kind-is (64 + numberOf k) line b); there = record { wrote = f .rest; valid = s .valid .1 }; is = ap (λ x. Stmt k x r) (sym (ap payOf (f .is) ∙ pay-is (64 + numberOf k) line b)) }
 
+  -- a row that isn't empty: its first field and the others
   pub record InRow {s : Sort} {ss : Sorts} (at : ℕ) (r : Tree Expr (row (s & ss))) (end : ℕ) : Type 0 where
     pub head : Tree Expr (one s)
     pub mid : ℕ
@@ -47,6 +49,7 @@ module _ (ws ns : List ℕ) (n : ℕ) where
   unfolding wordsT Right
   in-row {r = cons v t} h = record { head = v; mid = _; tail = t; there = record { wrote = wrote-left (wordsT v) (wordsT t) (h .wrote); valid = h .valid .0 }; next = record { wrote = wrote-right (wordsT v) (h .wrote); valid = h .valid .1 }; is = refl }
 
+  -- a list: its rows, as many as its head says
   pub record InList {ss : Sorts} (at : ℕ) (v : Tree Expr (one (many ss))) (end : ℕ) : Type 0 where
     pub items : Tree Expr (rows ss)
     pub counted : count items ≡ payOf (getD ws at 0)
@@ -60,6 +63,7 @@ module _ (ws ns : List ℕ) (n : ℕ) where
       let f = wrote-first (h .wrote) in
       record { items = rs; counted = sym (ap payOf (f .is) ∙ pay-is 1 (count rs) (h .valid .0)); there = record { wrote = f .rest; valid = h .valid .1 }; is = refl }
 
+  -- rows that are left: the first and the others
   pub record InMore {ss : Sorts} (at : ℕ) (rs : Tree Expr (rows ss)) (end : ℕ) : Type 0 where
     pub head : Tree Expr (row ss)
     pub mid : ℕ

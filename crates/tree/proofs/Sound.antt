@@ -26,6 +26,7 @@ use Rattle.tree.specs.Sorts.{Leaf, Sort, leaf, expr, stmt, many, group, 
 use Rattle.tree.specs.Tree.{strings, Shape, one, row, rows, Tree, word, value, Stmt, list, part, this, that, done, cons, none, more, count, kindL, okL, wordsT, depthT, Right}
 use Rattle.tree.specs.Reader.{wordAt, neverAt, isAt, stmtHead, rowsAt, fieldAt, rowAt, restAt, stmtAt, programAt}
 
+-- a word of kind k whose payload is right
 pub record IsWord (ws : List ℕ) (k : ℕ) (ok : ℕ → Bool) (at x m : ℕ) : Type 0 where
   pub inside : at < length ws
   pub kind : kindOf (getD ws at 0) ≡ k
@@ -151,6 +152,7 @@ pub number-of : (r : ℕ) → r < 54 → numberOf (kindAt r) ≡ r
 unfolding number-test allB kindAt kinds numberOf
 number-of r h = eqb-true (numberOf (kindAt r)) r (all-at number-test 54 refl r h)
 
+-- a statement's head
 pub record IsHead (ws : List ℕ) (at w m : ℕ) : Type 0 where
   pub inside : at < length ws
   pub is : w ≡ getD ws at 0

@@ -25,6 +25,7 @@ pub record SayingAt (ws ns : List ℕ) (m : ℕ) (v : Tree Expr (manyRows FieldR
   pub enough : left ≤ count rest
   pub same : (rows : List Row) → Keeps rows k b → said rows owner field (take n (rowsOf fieldDecl v)) ≡ said rows owner field (take left (rowsOf fieldDecl rest))
 
+-- the same of whatever fields stand there
 pub record Saying (ws : List ℕ) (at n owner field a left k : ℕ) (b : List ℕ) : Type 0 where
   pub of : (ns : List ℕ) (m : ℕ) (v : Tree Expr (manyRows FieldRow)) (end : ℕ) → Stands ws ns m at v end → n ≤ count v → SayingAt ws ns m v end n owner field a left k b
 

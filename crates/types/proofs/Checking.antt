@@ -25,6 +25,7 @@ use Rattle.types.specs.declared.FieldAt.{FieldAt}
 use Rattle.types.specs.declared.Kept.{Kept}
 use Rattle.types.proofs.Walk.{next-of, Rest, rest-all, rest-next, rest-before, rest-none}
 
+-- between two fields: the state, and that what is left leads to the same end, with the same words and as many kept
 pub record Mid (N D : ℕ) (rows notes : List Row) (line owner : ℕ) (fs : List FieldDecl) (c : Kept) (b d : List ℕ) (before after : List FieldDecl) : Type 0 where
   pub state : State
   pub held : Held N D state (c .counts) b d
@@ -32,10 +33,12 @@ pub record Mid (N D : ℕ) (rows notes : List Row) (line owner : ℕ) (fs : List
   pub size : total rows owner (c .words) before after ≡ total rows owner 0 [] fs
   pub many : c .fields + length (keptFields rows owner (c .words) before after) ≡ length (keptFields rows owner 0 [] fs)
 
+-- after i fields of v, under whatever rows the run began with
 pub record CheckingAt (ws ns : List ℕ) (m : ℕ) (v : Tree Expr (manyRows FieldRow)) (end line owner : ℕ) (s : Counts) (b d₀ : List ℕ) (c : Kept) (a i : ℕ) (d : List ℕ) : Type 0 where
   pub past : Rest ws ns m v end a i
   pub mid : (N D : ℕ) (rows notes : List Row) → Held N D (running rows notes) s b d₀ → Mid N D rows notes line owner (rowsOf fieldDecl v) c b d (past .before) (rowsOf fieldDecl (past .rest))
 
+-- the same of whatever fields stand there, and the counts fit
 pub record Checking (ws : List ℕ) (at n line owner : ℕ) (s : Counts) (b d₀ : List ℕ) (c : Kept) (a i : ℕ) (d : List ℕ) : Type 0 where
   pub fit : c .counts .notes * noteWidth ≤ length d
   pub kept : c .counts .rows ≡ s .rows

@@ -95,15 +95,18 @@ module _ (owner N : ℕ) (rows : List Row) (whole : State) (k k′ w w′ code n
 
 -- ---- the loop
 
+-- between two fields: the state, and that what is left leads to the same end
 pub record Mid (N D owner : ℕ) (st₀ : State) (fs : List FieldDecl) (c : Kept) (b d : List ℕ) (before after : List FieldDecl) : Type 0 where
   pub state : State
   pub held : Held N D state (c .counts) b d
   pub inside : Inside owner N (rowsIn st₀) (Entering owner fs N D st₀) (c .fields) (c .words) before after state
 
+-- after i fields of v, whatever state the run began with
 pub record EnteringAt (ws ns : List ℕ) (m : ℕ) (v : Tree Expr (manyRows FieldRow)) (end owner : ℕ) (s : Counts) (b₀ : List ℕ) (c : Kept) (a i : ℕ) (b : List ℕ) : Type 0 where
   pub past : Rest ws ns m v end a i
   pub mid : (d : List ℕ) (N D : ℕ) (st₀ : State) → Held N D st₀ s b₀ d → Mid N D owner st₀ (rowsOf fieldDecl v) c b d (past .before) (rowsOf fieldDecl (past .rest))
 
+-- the same of whatever fields stand there, and the counts fit
 pub record EnteringMid (ws : List ℕ) (at n owner : ℕ) (s : Counts) (b₀ : List ℕ) (c : Kept) (a i : ℕ) (b : List ℕ) : Type 0 where
   pub fit : c .counts .rows * width ≤ length b
   pub kept : c .counts .notes ≡ s .notes

@@ -21,6 +21,7 @@ use Rattle.types.proofs.Alike.{Small}
 
 -- ---- one field
 
+-- its name and its type, where the words have them
 pub record FieldParts (ws ns : List ℕ) (n at : ℕ) (v : Tree Expr (oneRow FieldRow)) (end : ℕ) : Type 0 where
   pub type : Tree Expr (one TypeSort)
   pub inside : at < length ws

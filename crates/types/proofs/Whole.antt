@@ -82,6 +82,7 @@ module _ {ws : List ℕ} {at n line owner : ℕ} {s : Counts} {b d : List ℕ} w
 
 -- ---- the statement
 
+-- its parts, where the words have them, and what collecting sees of it
 pub record TypeParts (ws ns : List ℕ) (n at line : ℕ) (r : Tree Expr (oneRow (sorts typeKind))) (end : ℕ) : Type 0 where
   pub name : ℕ
   pub decls : Tree Expr (manyRows FieldRow)

@@ -44,7 +44,7 @@ subscripts (some es) = that (part (cons (list (exprRows es)) done))
 abbrev pub Type′ : Type 0
 Type′ = Tree Expr (one (opt (TypeRef & nil)))
 
--- none
+-- no type
 abbrev pub typeless : Type′
 typeless = this done
 

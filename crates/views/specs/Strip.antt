@@ -4,7 +4,7 @@ use Rattle.expr.specs.Expr.{Expr, Exprs, Lit, Var, Elem, Unary, Binary, Call, F
 use Rattle.tree.specs.Tree.{Shape, Tree, over}
 
 unfoldable mutual
-  -- of an expression
+  -- an expression without them
   pub stripE : Expr → Expr
   stripE (Lit l) = Lit l
   stripE (Var n) = Var n
@@ -15,11 +15,11 @@ unfoldable mutual
   stripE (Field e n) = Field (stripE e) n
   stripE (Paren e) = stripE e
 
-  -- of each of several
+  -- several, each without them
   pub stripL : Exprs → Exprs
   stripL none = none
   stripL (more e es) = more (stripE e) (stripL es)
 
--- of all expressions of a tree
+-- a tree with all its expressions so
 unfoldable pub strip : {i : Shape} → Tree Expr i → Tree Expr i
 strip t = over stripE t

@@ -27,6 +27,7 @@ module _ (T : Tables) (σ : ℕ) where
   each-args none = refl
   each-args (more e es) = ap₂ (λ (x : Expr) (l : List ℕ). words x ++ l) (passed-false e (resolveExpr T σ e)) (each-args es)
 
+  -- of an expression that is no call and no parentheses the parts are resolved by themselves
   pub parted : Parted (resolved T σ)
   unfolding resolveExpr words
   parted = record {
@@ -38,6 +39,7 @@ module _ (T : Tables) (σ : ℕ) where
     of-field = λ e x. refl;
   }
 
+  -- a tree's resolved words are its words with each piece resolved
   pub tree-is : {i : Shape} (v : Tree Expr i) → wordsT (resolveTree T σ nowhere v) ≡ written (resolved T σ) v
   unfolding written resolveTree wordsT nowhere after
   tree-is (word x) = refl

@@ -70,9 +70,11 @@ module _ {ns ws buf : List ℕ} {count scope at to size : ℕ} (r : ReadyToken n
   here : StmtAt ws ns (length ns) maxDepth at (r .items) (r .end)
   here = at-stmt (r .there) (r .before) (omega (arith, l)) (omega (arith, u))
 
+  -- some statement stands there
   pub some-stmt : SomeTree (one stmt) ws at
   some-stmt = record { names = ns; strings = length ns; tree = Stmt (here .kind) (here .line) (here .fields); end = here .mid; stands = here .whole }
 
+  -- its fields may be scanned, in its scope, up to its end
   pub ready-inner : {end inner size′ : ℕ} → PastStmt ns ws at end → InsideAt ws at scope inner → size′ ≡ size → ReadyScan ns ws buf count inner (at + 1) end (to + 1) size′
   ready-inner P I q =
       let e = P .gives (Stmt (here .kind) (here .line) (here .fields)) (here .mid) (here .whole) (here .shallow) in
@@ -83,6 +85,7 @@ module _ {ns ws buf : List ℕ} {count scope at to size : ℕ} (r : ReadyToken n
         there = rw e (inner-items here);
       }
 
+-- its head copied and its fields scanned: the statement is done
 pub procedure-done : {ns ws buf out last : List ℕ} {count scope at to end inner t : ℕ} → 84 ≤ kindOf (getD ws at 0) → kindOf (getD ws at 0) < 86 → PastStmt ns ws at end → InsideAt ws at scope inner
     → DoneScan ns ws buf (set out to (getD ws at 0)) last count inner (at + 1) end (to + 1) t → DoneToken ns ws buf out last count scope at to end t
 procedure-done {ns} {ws} {scope = scope} {at} {end = end} l u P I d = record {
@@ -113,6 +116,7 @@ moved-on {T} {σ} {to = to} {out} {t = t} p q = record {
 pub record Scanned (ns ws buf out : List ℕ) (count scope at end to a t : ℕ) (now : List ℕ) : Type 0 where
   pub gives : (rs : List Row) → Holds rs count buf → (xs : List Item) → StandsAll ws ns (length ns) maxDepth at xs end → Moved (tablesOf rs) scope ns ws xs at end to out a t now
 
+-- at the start nothing is written
 pub scan-start : (ns ws buf out : List ℕ) (count scope at end to : ℕ) → Scanned ns ws buf out count scope at end to at to out
 scan-start ns ws buf out count scope at end to = record { gives = λ rs H xs s. moved-start (tablesOf rs) scope to out s }
 
@@ -120,6 +124,7 @@ module _ {ns ws buf out : List ℕ} {count scope at end to size a t : ℕ} {now 
   own : Moved (tablesOf (r .room .rows)) scope ns ws (r .items) at end to out a t now
   own = w .gives (r .room .rows) (r .room .holds) (r .items) (r .there)
 
+  -- the place is not before the start
   pub scan-from : at ≤ a
   scan-from = omega (arith, own .short)
 
@@ -134,6 +139,7 @@ module _ {ns ws buf out : List ℕ} {count scope at end to size a t : ℕ} {now 
       let m = e .0 in
       (e .1, items-inside (m .there) .0)
 
+-- one more token
 pub scan-step : {ns ws buf out : List ℕ} {count scope at end to a t : ℕ} {now last : List ℕ} {a′ t′ : ℕ} → Scanned ns ws buf out count scope at end to a t now → a < end → DoneToken ns ws buf now last count scope a t a′ t′ → Scanned ns ws buf out count scope at end to a′ t′ last
 scan-step {end = end} w h d = record {
   gives = λ rs H xs s.
@@ -141,6 +147,7 @@ scan-step {end = end} w h d = record {
       moved-on p (d .gives rs H (p .left) end (p .there) h .0);
 }
 
+-- at the end all is written
 pub scan-done : {ns ws buf out : List ℕ} {count scope at end to a t : ℕ} {now : List ℕ} → Scanned ns ws buf out count scope at end to a t now → end ≤ a → DoneScan ns ws buf out now count scope at end to t
 scan-done {scope = scope} w h = record {
   gives = λ rs H xs s.
@@ -152,9 +159,11 @@ scan-done {scope = scope} w h = record {
 
 -- ---- a program
 
+-- a program may be scanned from the first word to the last
 pub ready-scan : {ns ws buf : List ℕ} {count size : ℕ} → ReadyProgram ns ws buf count size → ReadyScan ns ws buf count 0 0 (length ws) 0 size
 ready-scan r = record { room = r .room; few = r .few; items = treeItem (r .program) ∷ []; there = items-tree quiet-body (r .stands) (r .shallow) }
 
+-- and scanned so it is resolved
 pub program-done : {ns ws buf out last : List ℕ} {count size t : ℕ} → ReadyProgram ns ws buf count size → DoneScan ns ws buf out last count 0 0 (length ws) 0 t → ResolvedProgram ns ws buf out last count t
 unfolding writtenI writtenIs resolveArrayAccesses clear
 program-done {ns} {ws} {out = out} {last} {t = t} r d = record {

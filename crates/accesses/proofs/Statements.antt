@@ -58,6 +58,7 @@ inside-other σ k x p q = rw (ne-eqb (numberOf k) 20 p, ne-eqb (numberOf k) 21 q
 
 -- ---- a CALL
 
+-- its name and its arguments, where the words have them, and its words when resolved
 pub record InCall (ws ns : List ℕ) (n at : ℕ) (v : Tree Expr (one stmt)) (end : ℕ) : Type 0 where
   pub name : ℕ
   pub args : Exprs
@@ -90,6 +91,7 @@ a-call {ws} {ns} {n} {at} {end} {line} (cons (word x) (cons (list rs) done)) s =
       is = λ T σ. ap₂ (λ (k : ℕ) (y : List ℕ). wordOf 86 line ∷ wordOf 2 x ∷ wordOf 1 k ∷ y) (count-tree T σ (places T x) rs) (append-nil (wordsT (resolveTree T σ (places T x) rs)) ∙ resolve-members T σ (places T x) rs) ∙ rw (f .is, g .is, third) refl;
     }
 
+-- its name and its arguments stand after the head, and resolved it is its first three words and its arguments
 pub in-call : {ws ns : List ℕ} {n at end : ℕ} {v : Tree Expr (one stmt)} → kindOf (getD ws at 0) ≡ 86 → Stands ws ns n at v end → InCall ws ns n at v end
 unfolding kindAt kinds
 in-call {ws} {ns} {n} {at} {end} {v = Stmt k line r} q s = subst (λ (k : Kind). (r : Tree Expr (row (sorts k))) → Stands ws ns n at (Stmt k line r) end → InCall ws ns n at (Stmt k line r) end) (sym (of-number k 22 (omega (arith, head-kind s, q)))) (λ r s. a-call r s) r s

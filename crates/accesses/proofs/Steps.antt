@@ -38,6 +38,7 @@ use Rattle.accesses.proofs.Statements.{stmt-words, in-call, inside-othe
 
 -- ---- places
 
+-- what is asked of rows, scope and room holds at a later place too
 pub room-at : {ws buf : List ℕ} {count scope at to size : ℕ} → Room ws buf count scope at to size → (a t : ℕ) → t ≤ a → {size′ : ℕ} → size′ ≡ size → Room ws buf count scope a t size′
 room-at r a t h q = record { rows = r .rows; holds = r .holds; held = r .held; scoped = r .scoped; behind = h; fits = omega (arith, r .fits) }
 
@@ -52,9 +53,11 @@ token-inside {ws = ws} {at = at} r =
 pub one-word : (ws : List ℕ) (at : ℕ) → at < length ws → take 1 (drop at ws) ≡ getD ws at 0 ∷ []
 one-word ws at h = ap (λ (l : List ℕ). take 1 l) (drop-cons ws at 0 h)
 
+-- two of them
 pub two-words : (ws : List ℕ) (at : ℕ) → at + 2 ≤ length ws → take 2 (drop at ws) ≡ getD ws at 0 ∷ getD ws (at + 1) 0 ∷ []
 two-words ws at h = rw (add-one at) (ap (λ (l : List ℕ). take 2 l) (drop-cons ws at 0 (omega arith) ∙ ap (λ (l : List ℕ). getD ws at 0 ∷ l) (drop-cons ws (suc at) 0 (omega arith))))
 
+-- and three
 pub three-words : (ws : List ℕ) (at : ℕ) → at + 3 ≤ length ws → take 3 (drop at ws) ≡ getD ws at 0 ∷ getD ws (at + 1) 0 ∷ getD ws (at + 2) 0 ∷ []
 three-words ws at h =
     let b : at + 2 ≡ suc (suc at) = omega arith in
@@ -78,9 +81,11 @@ taking {ws = ws} {at = at} {c = c} r W =
     (h, omega (arith, r .room .behind, r .room .fits))
 
 module _ {ns ws buf : List ℕ} {count scope at to size : ℕ} (r : ReadyToken ns ws buf count scope at to size) where
+  -- there is room for a literal's head with one raw word
   pub raw-room : 24 ≤ kindOf (getD ws at 0) → kindOf (getD ws at 0) ≤ 25 → (at + 2 ≤ length ws) × (to + 2 ≤ size)
   raw-room h l = taking r (at-raw (r .there) (r .before) h l)
 
+  -- and for one with two
   pub raws-room : 26 ≤ kindOf (getD ws at 0) → kindOf (getD ws at 0) ≤ 27 → (at + 3 ≤ length ws) × (to + 3 ≤ size)
   raws-room h l = taking r (at-raws (r .there) (r .before) h l)
 
@@ -92,6 +97,7 @@ raw-done {ws = ws} {out = out} {scope = scope} {at} {to} h l e = record {
       (copied W (tablesOf rs) scope (e .0) (e .1) (e .2 ∙ ap (λ (k : List ℕ). sets out to k) (sym (two-words ws at (words-inside W)))), omega (arith, e .0));
 }
 
+-- with two
 pub raws-done : {ns ws buf out last : List ℕ} {count scope at to a t : ℕ} → 26 ≤ kindOf (getD ws at 0) → kindOf (getD ws at 0) ≤ 27 → (a ≡ at + 3) × (t ≡ to + 3) × (last ≡ sets out to (getD ws at 0 ∷ getD ws (at + 1) 0 ∷ getD ws (at + 2) 0 ∷ [])) → DoneToken ns ws buf out last count scope at to a t
 raws-done {ws = ws} {out = out} {scope = scope} {at} {to} h l e = record {
   gives = λ rs H xs end s z.
@@ -101,6 +107,7 @@ raws-done {ws = ws} {out = out} {scope = scope} {at} {to} h l e = record {
 
 -- ---- parentheses
 
+-- a pair that is no argument's goes: nothing is written
 pub paren-done : {ns ws buf out : List ℕ} {count scope at to : ℕ} → kindOf (getD ws at 0) ≡ 23 → DoneToken ns ws buf out out count scope at to (at + 1) to
 unfolding writtenI writtenIs
 paren-done {scope = scope} {at} {to} h = record {
@@ -128,6 +135,7 @@ pub record Plain (k : ℕ) : Type 0 where
   pub no-raw : 23 ≤ k → k < 28 → ⊥
   pub no-procedure : 84 ≤ k → k < 87 → ⊥
 
+-- by the kinds that it is not
 pub is-plain : (k : ℕ) → (k ≡ 21 → ⊥) → (k ≡ 23 → ⊥) → (k ≡ 24 → ⊥) → (k ≡ 25 → ⊥) → (k ≡ 26 → ⊥) → (k ≡ 27 → ⊥) → (k ≡ 84 → ⊥) → (k ≡ 85 → ⊥) → (k ≡ 86 → ⊥) → Plain k
 is-plain k a b c d e f g h i = record { no-call = a; no-raw = λ x y. five x y (past 27 k (past 26 k (past 25 k (past 24 k (past 23 k x b) c) d) e) f); no-procedure = λ x y. three x y (past 86 k (past 85 k (past 84 k x g) h) i) }
   where
@@ -137,6 +145,7 @@ is-plain k a b c d e f g h i = record { no-call = a; no-raw = λ x y. five x y (
     three : 84 ≤ k → k < 87 → 87 ≤ k → ⊥
     three x y z = omega (arith, y, z)
 
+-- the kinds below 21 are such
 pub low-plain : (k : ℕ) → k < 21 → Plain k
 low-plain k h = record { no-call = λ e. omega (arith, e, h); no-raw = λ x y. omega (arith, x, h); no-procedure = λ x y. omega (arith, x, h) }
 
@@ -200,6 +209,7 @@ pub record HeadAt (h : Tables → ℕ → ℕ → ℕ) (ws ns : List ℕ) (at : 
   pub writes : (T : Tables) (σ : ℕ) → writtenIs (resolved T σ) xs ≡ h T σ name ∷ getD ws (at + 1) 0 ∷ getD ws (at + 2) 0 ∷ (wordsAll (resolveArgs T σ (places T name) args) ++ writtenIs (resolved T σ) rest)
 
 module _ {ws ns : List ℕ} {at : ℕ} {xs : List Item} {end : ℕ} (s : StandsAll ws ns (length ns) maxDepth at xs end) (z : at < end) where
+  -- a call in an expression, whose head may change
   pub call-head : kindOf (getD ws at 0) ≡ 21 → HeadAt calledHead ws ns at xs end
   call-head k =
       let C = at-call s z k in
@@ -218,6 +228,7 @@ module _ {ws ns : List ℕ} {at : ℕ} {xs : List Item} {end : ℕ} (s : StandsA
         writes = λ T σ. C .writes (resolved T σ) (parted T σ) ∙ ap (λ (l : List ℕ). l ++ writtenIs (resolved T σ) (C .rest)) (ap (λ (e : Expr). words (resolveExpr T σ e)) (D .is) ∙ call-words T σ (D .name) (D .args) ∙ ap₂ (λ (x y : ℕ). calledHead T σ (D .name) ∷ x ∷ y ∷ wordsAll (resolveArgs T σ (places T (D .name)) (D .args))) (sym (D .called)) (sym (D .listed)));
       }
 
+  -- a CALL, whose head stays
   pub calling-head : kindOf (getD ws at 0) ≡ 86 → HeadAt (λ T σ f. getD ws at 0) ws ns at xs end
   calling-head k =
       let S = at-stmt s z (omega (arith, k)) (omega (arith, k)) in
@@ -297,6 +308,7 @@ pub not-procedure : (f : ℕ) {count : ℕ} {buf : List ℕ} {b : Bool} → ((rs
 unfolding tablesOf
 not-procedure f g e rs H = sym (g rs (holds-keeps H)) ∙ e
 
+-- a call of no procedure: its head is an element's where the name is a visible array
 pub array-head : (scope f : ℕ) {count w : ℕ} {buf : List ℕ} {b : Bool} → w ≡ wordOf (pick b 18 21) 0 → ((rs : List Row) → Holds rs count buf → b ≡ tablesOf rs .array scope f) → ((rs : List Row) → Holds rs count buf → tablesOf rs .procedure f ≡ false)
     → (rs : List Row) → Holds rs count buf → w ≡ calledHead (tablesOf rs) scope f
 unfolding element
@@ -310,17 +322,21 @@ module _ {ns ws buf : List ℕ} {count scope at to size : ℕ} (r : ReadyToken n
       let x : at + 3 ≤ length ws = head-inside C in
       (x, omega (arith, r .room .behind, r .room .fits))
 
+  -- there is room for a call's first three words
   pub call-room : kindOf (getD ws at 0) ≡ 21 → (at + 3 ≤ length ws) × (to + 3 ≤ size)
   call-room k = head-room (call-head (r .there) (r .before) k)
 
+  -- and for those of a CALL
   pub calling-room : kindOf (getD ws at 0) ≡ 86 → (at + 3 ≤ length ws) × (to + 3 ≤ size)
   calling-room k = head-room (calling-head (r .there) (r .before) k)
 
+  -- a call may be resolved
   pub ready-call : kindOf (getD ws at 0) ≡ 21 → Ready ws buf count scope at to size
   ready-call k =
       let C = at-call (r .there) (r .before) k in
       record { some = record { strings = strings ns (length ns); tree = Call (C .name) (C .args); end = C .mid; stands = C .whole }; room = r .room }
 
+  -- so may the arguments of a CALL
   pub ready-args : kindOf (getD ws at 0) ≡ 86 → {size′ : ℕ} → size′ ≡ size → ReadyAll ws buf count scope (at + 3) (to + 3) size′ (payOf (getD ws (at + 2) 0))
   ready-args k q =
       let C = calling-head (r .there) (r .before) k in
@@ -337,14 +353,17 @@ module _ {ns ws buf out : List ℕ} {count scope at to : ℕ} where
         (head-moved C (tablesOf rs) scope (ap (λ (x : ℕ). tablesOf rs .procedure x) (sym (name-is C)) ∙ f rs H) (g rs H ∙ ap (λ (x : ℕ). h (tablesOf rs) scope x) (name-is C)) (e .0) (e .1) (e .2), omega (arith, e .0));
   }
 
+  -- a call of no procedure: its first three words are written, its arguments are still to come
   pub call-head-done : {last : List ℕ} {w a t : ℕ} → kindOf (getD ws at 0) ≡ 21 → ((rs : List Row) → Holds rs count buf → tablesOf rs .procedure (payOf (getD ws (at + 1) 0)) ≡ false) → ((rs : List Row) → Holds rs count buf → w ≡ calledHead (tablesOf rs) scope (payOf (getD ws (at + 1) 0)))
       → (a ≡ at + 3) × (t ≡ to + 3) × (last ≡ sets out to (w ∷ getD ws (at + 1) 0 ∷ getD ws (at + 2) 0 ∷ [])) → DoneToken ns ws buf out last count scope at to a t
   call-head-done k f g e = heads-done {h = calledHead} (λ xs end s z. call-head s z k) f g e
 
+  -- the same of a CALL of no procedure
   pub calling-head-done : {last : List ℕ} {a t : ℕ} → kindOf (getD ws at 0) ≡ 86 → ((rs : List Row) → Holds rs count buf → tablesOf rs .procedure (payOf (getD ws (at + 1) 0)) ≡ false)
       → (a ≡ at + 3) × (t ≡ to + 3) × (last ≡ sets out to (getD ws at 0 ∷ getD ws (at + 1) 0 ∷ getD ws (at + 2) 0 ∷ [])) → DoneToken ns ws buf out last count scope at to a t
   calling-head-done k f e = heads-done {h = λ T σ f. getD ws at 0} (λ xs end s z. calling-head s z k) f (λ rs H. refl) e
 
+  -- a whole call resolved
   pub call-done : {last : List ℕ} {a t : ℕ} → kindOf (getD ws at 0) ≡ 21 → Resolved ws buf out last count scope at to a t → DoneToken ns ws buf out last count scope at to a t
   call-done k d = record {
     gives = λ rs H xs end s z.
@@ -353,6 +372,7 @@ module _ {ns ws buf out : List ℕ} {count scope at to : ℕ} where
         (whole-moved C (tablesOf rs) scope e, omega (arith, e .past, N.moves (C .whole)));
   }
 
+  -- a CALL with its arguments resolved
   pub calling-done : {one last : List ℕ} {a t : ℕ} → kindOf (getD ws at 0) ≡ 86 → one ≡ sets out to (getD ws at 0 ∷ getD ws (at + 1) 0 ∷ getD ws (at + 2) 0 ∷ []) → ResolvedArgs (payOf (getD ws (at + 1) 0)) (payOf (getD ws (at + 2) 0)) ws buf one last count scope (at + 3) (to + 3) a t → DoneToken ns ws buf out last count scope at to a t
   calling-done {one} {last} {a} {t} k n d = record {
     gives = λ rs H xs end s z.

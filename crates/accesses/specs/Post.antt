@@ -49,12 +49,14 @@ pub record DoneToken (ns ws buf out last : List ℕ) (count scope at to at′ to
 
 -- ---- the scan, up to an end
 
+-- items stand from `at` to `end`, and there is room for what is written of them
 pub record ReadyScan (ns ws buf : List ℕ) (count scope at end to size : ℕ) : Type 0 where
   pub room : Room ws buf count scope at to size
   pub few : length ns ≤ maxStrings
   pub items : List Item
   pub there : StandsAll ws ns (length ns) maxDepth at items end
 
+-- whatever items stand there: their resolved words are written from `to` on
 pub record DoneScan (ns ws buf out last : List ℕ) (count scope at end to to′ : ℕ) : Type 0 where
   pub gives : (rs : List Row) → Holds rs count buf → (xs : List Item) → StandsAll ws ns (length ns) maxDepth at xs end → Put (writtenIs (resolved (tablesOf rs) scope) xs) out last to end to′ end
 

@@ -64,6 +64,7 @@ module _ {bytes ends erased ws marks : List ℕ} (P : Passed bytes ends erased w
   good-ok (running rows notes) g = g .ok
   good-ok (stopped k) g = tt
 
+  -- the collision check may run on the settled rows
   pub check-ready : {c : Counts} {b b′ d : List ℕ} → Kept marks (length ends) c b d → Settles c b b′ → ReadyRows bytes ends b′ c × Fit c (length b′) (length d)
   check-ready {c} {b} {b′} K S =
       let named : c .stop ≡ 0 → NamesHeld marks c b′ = λ h. names-held (K .state) (K .held) (good-ok (K .state) (K .good)) S h in
@@ -86,6 +87,7 @@ unfolding countsOf Ends
 stop-zeroing (running rows notes) L E h = absurd (h (ap (λ (c : Counts). c .stop) (L .answer)))
 stop-zeroing (stopped k) L E h = ap (λ (c : Counts). zeroing (c .stop)) (L .answer) ∙ E
 
+-- it has a number that leaves zeros
 pub stopped-zeroing : {bytes ends erased ws marks : List ℕ} → Passed bytes ends erased ws marks → {r : Counts} {b d b′ d′ : List ℕ} → Tabled bytes ends erased ws r b d b′ d′ → (r .stop ≡ 0 → ⊥) → zeroing (r .stop) ≡ true
 stopped-zeroing P T h = stop-zeroing _ (T .left (P .program) (P .accepted)) (T .ends-in (P .program) (P .accepted)) h
 
@@ -180,6 +182,7 @@ module _ {bytes ends erased ws marks : List ℕ} (P : Passed bytes ends erased w
 
 -- ---- 2, 3 and 4, and 10
 
+-- 2, 3 or 4: the buffers are as they came
 pub not-accepted : (bytes ends erased ws notes rows out : List ℕ) {f : Refusal} → acceptedOf (namesOf bytes ends) ws erased ≡ stops (numberOf f) (placeOf f)
     → Tells (Refused f) notes rows out notes rows out (work (length rows) (length notes) (length out) bytes ends erased ws)
 unfolding refused work after
@@ -193,6 +196,7 @@ short-tells {ws = ws} P notes rows out h = rw (P .accepted, lt-leb (length ws) (
 
 -- ---- the entry
 
+-- what is told behind 5 and 1 is told by the entry
 pub entry-tells : {bytes ends erased words : List ℕ} {r : Answer} {notes rows out notes′ rows′ out′ : List ℕ} {t : Told Analysis}
     → Answers (sizedProgram bytes ends words erased) bytes ends t (work (length rows) (length notes) (length out) bytes ends erased words) → Tells r notes rows out notes′ rows′ out′ t
     → Analyses bytes ends erased words r notes rows out notes′ rows′ out′
@@ -204,6 +208,7 @@ pub size-tells : (notes rows out : List ℕ) → Tells (Refused Size) notes rows
 unfolding refused zeroing
 size-tells notes rows out = refused-tells Size notes rows out refl
 
+-- 1
 pub breaks-tells : (p : ℕ) (notes rows out : List ℕ) → Tells (Refused (Strings p)) notes rows out notes rows out (stops 1 p)
 unfolding refused zeroing
 breaks-tells p notes rows out = refused-tells (Strings p) notes rows out refl

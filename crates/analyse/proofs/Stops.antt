@@ -32,6 +32,7 @@ either-zeroing : (st t : State) → Free t → (st ≡ t) ⊎ Full st → Zeroin
 either-zeroing st t f (inl e) = subst Zeroing (sym e) (free-zeroing t f)
 either-zeroing st t f (inr g) = full-zeroing st g
 
+-- so it is of every program
 pub analysed-zeroing : (N D : ℕ) (bytes ends erased : List ℕ) (p : Program) → Zeroing (analysed (given (some N) (some D) bytes ends erased) p)
 analysed-zeroing N D bytes ends erased p =
     let m = analysed-meets (λ n. stringAt bytes ends n) erased p in

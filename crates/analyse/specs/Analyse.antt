@@ -41,6 +41,7 @@ unfoldable pub told : Answer → Told Given
 told (Refused f) = refused f
 told (Done n) = gives n
 
+-- the same of what the definition tells
 unfoldable pub counted : Told Analysis → Told Given
 counted (stops n p) = stops n p
 counted (gives a) = gives (record { notes = length (a .diagnostics); rows = length (a .rows); words = length (a .resolved) })
@@ -70,6 +71,7 @@ pub record Fits (rows notes out : ℕ) (a : Analysis) : Type 0 where
   pub notes-fit : length (a .diagnostics) * noteWidth ≤ notes
   pub words-fit : length (a .resolved) ≤ out
 
+-- where something is given, it fits
 unfoldable pub Formed : (rows notes out : ℕ) → Told Analysis → Type 0
 Formed rows notes out (stops n p) = Unit {0}
 Formed rows notes out (gives a) = Fits rows notes out a

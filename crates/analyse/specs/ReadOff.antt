@@ -23,6 +23,7 @@ pub record Shown : Type 0 where
   pub diagnostics : List Row
   pub resolved : List ℕ
 
+-- what the definition gives, but for the tree; or its number and place
 unfoldable pub shownOf : Told Analysis → Told Shown
 shownOf (stops n p) = stops n p
 shownOf (gives a) = gives (record { rows = a .rows; diagnostics = a .diagnostics; resolved = a .resolved })

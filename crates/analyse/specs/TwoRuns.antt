@@ -152,6 +152,7 @@ module _ {bytes ends erased words words₂ : List ℕ} {n n₂ : Given} {notes r
             };
       }
 
+  -- so it is of what two calls of `analyse` leave that give no number
   pub demand-3-code : {out out₂ : List ℕ} → Analyses bytes ends erased words (Done n) notes rows out notes′ rows′ out′ → Analyses bytes ends erased words₂ (Done n₂) notes₂ rows₂ out₂ notes₂′ rows₂′ out₂′
       → TwoRuns bytes ends words words₂ (length rows) (length rows₂) (length notes) (length notes₂) n n₂ rows′ rows₂′ notes′ notes₂′ out′ out₂′
   demand-3-code p q = two (stood p) (stood q)

@@ -57,6 +57,7 @@ pub collected-strip : {i : Shape} (G : Given) (t : Tree Expr i) → collected G 
 unfolding collected
 collected-strip G t = ap (λ s. collect G 0 s (running [] [])) (blind t)
 
+-- also after the check of names
 pub analysed-strip : {i : Shape} (G : Given) (t : Tree Expr i) → analysed G (strip t) ≡ analysed G t
 unfolding analysed
 analysed-strip G t = ap (checkNameCollisions G) (collected-strip G t)

@@ -49,6 +49,7 @@ lastOf [] = 0
 lastOf (b ∷ []) = b
 lastOf (b ∷ (c ∷ bs)) = lastOf (c ∷ bs)
 
+-- a number is in a list
 unfoldable pub member : ℕ → List ℕ → Bool
 member x [] = false
 member x (y ∷ ys) = eqb y x || member x ys
@@ -57,9 +58,11 @@ member x (y ∷ ys) = eqb y x || member x ys
 unfoldable pub disagrees : (last : ℕ) → TypeRef → Bool
 disagrees last ty = suffix last && not (eqb (fromTypeRef (head ty)) (fromSuffix last))
 
+-- a type that is a TYPE's name
 abbrev pub isRecord : TypeRef → Bool
 isRecord t = eqb (head t) 45  -- TypeRef::Record
 
+-- some of the options is there
 unfoldable pub anySome : {A : Type 0} → List (Option A) → Bool
 anySome [] = false
 anySome (x ∷ xs) = isSome x || anySome xs
@@ -85,6 +88,7 @@ pub record FieldInfo : Type 0 where
   pub word : ℕ
   pub ty : TypeRef
 
+-- a TYPE: the fields that are kept, and the words of all
 pub record RecordInfo : Type 0 where
   pub fields : List FieldInfo
   pub words : ℕ
@@ -129,10 +133,12 @@ pub record Proc : Type 0 where
 
 -- ---- rows of a TYPE, a procedure, an item
 
+-- the rows of fields, with ordinals from the given one on
 unfoldable pub fieldRows : (type ordinal : ℕ) → List FieldInfo → List Row
 fieldRows type i [] = []
 fieldRows type i (f ∷ fs) = fieldRow type i (f .name) (f .word) (head (f .ty)) (arg (f .ty)) ∷ fieldRows type (i + 1) fs
 
+-- the rows of parameters, the same
 unfoldable pub paramRows : (proc ordinal : ℕ) → List Param → List Row
 paramRows proc i [] = []
 paramRows proc i (p ∷ ps) = paramRow proc i (p .name) (p .byval) (p .array) (headOf (p .ty)) (argOf (p .ty)) ∷ paramRows proc (i + 1) ps
@@ -151,9 +157,11 @@ module _ (G : Given) where
   abbrev pub error : Row → Step
   error = push (G .note-room)
 
+  -- a row is entered
   abbrev pub entry : Row → Step
   entry = enter (G .row-room)
 
+  -- the name has a suffix, and the type is another one than it says
   unfoldable pub differs : ℕ → TypeRef → Bool
   differs name ty = disagrees (lastOf (G .string name)) ty
 
@@ -168,12 +176,14 @@ module _ (G : Given) where
 
   -- ---- StmtKind::Label, StmtKind::LabelName
 
+  -- a line number; a second one is entered too, and said
   unfoldable pub label : (scope line n : ℕ) → Step
   label scope line n =
       asking (λ rows.
       entry (lineRow n scope)
       ⨾ when (has rows 128 n 0) (error (duplicateLine line n)))
 
+  -- a label, the same
   unfoldable pub labelName : (scope line name : ℕ) → Step
   labelName scope line name =
       asking (λ rows.
@@ -195,6 +205,7 @@ module _ (G : Given) where
       (pick (leb (withField rows info f .words) 65535) (fields rows line name (withField rows info f) fs) (stop 9))
       (fields rows line name info fs)
 
+  -- the whole TYPE, with what is said of its name and its place first
   unfoldable pub typeDef : (scope line name : ℕ) → List FieldDecl → Step
   typeDef scope line name fs =
       asking (λ rows. when (has rows 130 name 0) (error (typeDefined line name (rowWord 3 (find (entryKey 130 name 0) rows)))))  -- word 3: its line
@@ -203,16 +214,19 @@ module _ (G : Given) where
 
   -- ---- StmtKind::OptionBase, StmtKind::Const
 
+  -- a second one, or one after an array, is said and still counts
   unfoldable pub optionBase : (line n : ℕ) → Step
   optionBase line n =
       asking (λ rows. pick (has rows 143 0 0) (error (optionBaseTwice line)) (when (anyArray rows) (error (optionBaseLate line))))
       ⨾ entry (optionBaseRow n)
 
+  -- a value is entered, a failure said
   unfoldable pub folded : (line name : ℕ) → Fold → Step
   folded line name (Is v) = entry (constOf name v)
   folded line name Overflow = error (constOverflow line name)
   folded line name NotConstant = error (notConstant line name)
 
+  -- a name that has a value is said; the new value counts, if there is one
   unfoldable pub const : (line name : ℕ) → Seen → Step
   const line name e =
       asking (λ rows. when (has rows 132 name 0) (error (constDefined line name)))
@@ -230,6 +244,7 @@ module _ (G : Given) where
   typed scope name none = nothing
   typed scope name (some ty) = entry (typedVarRow name scope (head ty) (arg ty))
 
+  -- the type that a STATIC item declares, unless it is an array
   unfoldable pub itemType : (scope : ℕ) → ScopeItem → Step
   itemType scope i = when (not (i .array)) (typed scope (i .name) (i .ty))
 
@@ -242,6 +257,7 @@ module _ (G : Given) where
 
   -- ---- StmtKind::Dim, StmtKind::Redim
 
+  -- the AS clause of a declarator
   unfoldable pub declaredAs : (scope line : ℕ) (is-redim : Bool) (name : ℕ) → Option TypeRef → Step
   declaredAs scope line is-redim name none = nothing
   declaredAs scope line is-redim name (some ty) =
@@ -265,20 +281,25 @@ module _ (G : Given) where
       ⨾ asking (λ rows. redeclared line is-redim preserve name (length dims) (find (entryKey 133 name scope) rows))
       ⨾ asking (λ rows. entry (arrayRow name scope (length dims) line (anySome lowers || eqb (rowWord 4 (find (entryKey 133 name scope) rows)) 1)))
 
+  -- a declarator: its type, then its dimensions
   unfoldable pub declared : {E : Type 0} (scope line : ℕ) (is-redim preserve : Bool) → Declarator E → Step
   declared scope line is-redim preserve d =
       declaredAs scope line is-redim (d .name) (d .ty)
       ⨾ declaredArray scope line is-redim preserve (d .name) (d .lowers) (d .dimensions)
 
+  -- its name, for all procedures
   unfoldable pub sharedAll : {E : Type 0} → Declarator E → Step
   sharedAll d = entry (dimSharedRow (d .name) (isSome (d .dimensions)))
 
+  -- DIM SHARED of several, at module level alone
   unfoldable pub dimShared : {E : Type 0} (scope line : ℕ) → List (Declarator E) → Step
   dimShared scope line ds = pick (eqb scope 0) (each sharedAll ds) (error (dimSharedInside line))
 
+  -- DIM
   unfoldable pub dim : {E : Type 0} (scope line : ℕ) → List (Declarator E) → (shared : Bool) → Step
   dim scope line ds shared = when shared (dimShared scope line ds) ⨾ each (declared scope line false false) ds
 
+  -- REDIM
   unfoldable pub redim : {E : Type 0} (scope line : ℕ) → List (Declarator E) → (preserve : Bool) → Step
   redim scope line ds preserve = each (declared scope line true preserve) ds
 
@@ -288,6 +309,7 @@ module _ (G : Given) where
   unfoldable pub paramString : (line name : ℕ) → Param → Step
   paramString line name p = when (not (eqb (fixedLength (p .ty)) 0)) (error (fixedParam line (p .name) name (fixedLength (p .ty))))
 
+  -- the parameters in order, then the result
   unfoldable pub checkVariableLengthStrings : (line : ℕ) → Proc → Step
   checkVariableLengthStrings line f =
       each (paramString line (f .name)) (f .params)
@@ -303,6 +325,7 @@ module _ (G : Given) where
   ranked scope line name (some rank) = entry (arrayRow name scope rank line true)
   ranked scope line name none = entry (arrayRow name scope 1 line true) ⨾ entry (unrankedRow name scope)
 
+  -- its rank is that of its first use in the body
   unfoldable pub arrayParam : (scope line : ℕ) → Tree Seen (one body) → Param → Step
   arrayParam scope line b p = when (p .array) (ranked scope line (p .name) (subscriptCount (λ name (e : Seen). e .use-of name) (p .name) b))
 
@@ -311,9 +334,11 @@ module _ (G : Given) where
   paramType scope line name none = nothing
   paramType scope line name (some ty) = undefined ty (λ (r : ℕ). paramUndefined line name r) ⨾ entry (typedVarRow name scope (head ty) (arg ty))
 
+  -- a parameter that is no array
   unfoldable pub typedParam : (scope line : ℕ) → Param → Step
   typedParam scope line p = when (not (p .array)) (paramType scope line (p .name) (p .ty))
 
+  -- a whole procedure, but for its body
   unfoldable pub procedure : (scope line : ℕ) → Proc → Step
   procedure scope line f =
       resultType line (f .name) (f .ret-ty)
@@ -328,6 +353,7 @@ module _ (G : Given) where
 
   -- ---- the match: what a statement does, but for its bodies
 
+  -- by the statement's kind; all others do nothing
   unfoldable pub statement : (scope line : ℕ) → View Seen → Step
   statement scope line (Label n) = label scope line n
   statement scope line (LabelName name) = labelName scope line name
@@ -350,20 +376,24 @@ module _ (G : Given) where
 
   -- ---- `check_name_collisions`: each array in row order, a procedure before a builtin
 
+  -- an array whose name a procedure has, or else a builtin
   unfoldable pub collides : (line name : ℕ) → Option Row → Step
   collides line name (some proc) = error (arrayAndProc line name (getD proc 2 0) (getD proc 3 0))  -- words 2 and 3: is function, line
   collides line name none = when (isBuiltin (G .string name)) (error (arrayAndBuiltin line name))
 
+  -- a row, if it is an array's
   unfoldable pub collision : List Row → Row → Step
   collision rows r =
       let name = payOf (getD r 0 0) in  -- word 0: kind and name
       when (eqb (kindOf (getD r 0 0)) 133) (collides (getD r 3 0) name (find (entryKey 135 name 0) rows))  -- word 3: the array's line
 
+  -- all rows in order
   unfoldable pub checkNameCollisions : Step
   checkNameCollisions = asking (λ rows. each (collision rows) rows)
 
   -- ---- a whole program, from empty tables
 
+  -- its rows and diagnostics, or the number that stopped it
   unfoldable pub collected : {i : Shape} → Tree Expr i → State
   collected t = collect 0 (over see t) (running [] [])
 

@@ -14,9 +14,11 @@ named x = x + 1
 abbrev pub plain : (code line : ℕ) → Row
 plain code line = code ∷ line ∷ 0 ∷ 0 ∷ 0 ∷ 0 ∷ []
 
+-- a message with one name
 abbrev pub of : (code line name : ℕ) → Row
 of code line name = code ∷ line ∷ named name ∷ 0 ∷ 0 ∷ 0 ∷ []
 
+-- with two names
 abbrev pub ofTwo : (code line first second : ℕ) → Row
 ofTwo code line a b = code ∷ line ∷ named a ∷ named b ∷ 0 ∷ 0 ∷ []
 

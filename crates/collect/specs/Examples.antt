@@ -30,6 +30,7 @@ unfoldable pub opened : {i : Shape} → Given → Tree Expr i → Step
 unfolding sorts over Views.optional Views.rowsOf Views.items Views.isSet Views.typeRef Views.asType Views.expression Views.expressions Views.lower Views.lvalue Views.declarator Views.param Views.scopeItem Views.fieldDecl Views.view Views.inner Views.walk U.own U.plain U.uses S.orElse S.firstOf S.subscripted S.inExpr S.indexed S.inLvalue S.inStmt S.subscriptCount many C.lastOf C.member C.disagrees C.anySome C.anyArray C.fixedLength C.hasField C.typeRejected C.rejected C.withField C.fieldRows C.paramRows C.marked C.constOf C.differs C.undefined C.label C.labelName C.fields C.typeDef C.optionBase C.folded C.const C.item C.typed C.itemType C.items C.declaredAs C.redeclared C.declaredArray C.declared C.sharedAll C.dimShared C.dim C.redim C.paramString C.checkVariableLengthStrings C.resultType C.ranked C.arrayParam C.paramType C.typedParam C.procedure C.statement C.collect C.collides C.collision C.checkNameCollisions C.collected C.analysed T.asking T.each T.stop T.fits T.change T.enter T.push see literal constEval valueOf F.negateOf F.divOf F.wholeDivOf F.arithOf F.opOf F.binaryOf key find insert insertAll remove replace between suffix L.typeWords L.fromSuffix L.fromTypeRef N.isBuiltin N.builtin N.entryOf N.same N.builtins N.takes ascii
 opened G t = collect G 0 (over see t)
 
+-- both, one after the other
 unfoldable pub openedBoth : {i : Shape} → Given → Tree Expr i → Step
 unfolding opened
 openedBoth G t s = checkNameCollisions G (opened G t s)

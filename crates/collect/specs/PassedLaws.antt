@@ -48,6 +48,7 @@ by-names : {bytes ends marks : List ℕ} (erased ws : List ℕ) (a : Accepted) �
     → toldProgram a ≡ verdict (acceptedOf (namesOf bytes ends) ws erased)
 by-names erased ws a N e = e ∙ ap (λ (ns : List ℕ). verdict (acceptedOf ns ws erased)) (N .names)
 
+-- the code's Fine: the program is accepted
 pub passed : {bytes ends erased ws marks : List ℕ} {a : Accepted} → Named bytes ends marks → length marks ≤ maxStrings → toldProgram a ≡ verdict (acceptedOf marks ws erased) → a ≡ Fine
     → Passed bytes ends erased ws marks
 unfolding toldProgram
@@ -55,6 +56,7 @@ passed {bytes} {ends} {erased} {ws} {a = a} N few e q =
     let g = verdict-gives (acceptedOf (namesOf bytes ends) ws erased) (sym (ap toldProgram q) ∙ by-names erased ws a N e) in
     record { named = N; few = few; program = g .value; accepted = g .is }
 
+-- the code's refusal: the definition stops with its number and place
 pub not-passed : {bytes ends marks : List ℕ} (erased ws : List ℕ) {a : Accepted} {f : Refusal} → Named bytes ends marks → toldProgram a ≡ verdict (acceptedOf marks ws erased) → a ≡ Refused f
     → acceptedOf (namesOf bytes ends) ws erased ≡ stops (numberOf f) (placeOf f)
 unfolding toldProgram refused
@@ -67,6 +69,7 @@ module _ {bytes ends erased ws marks : List ℕ} (P : Passed bytes ends erased w
   pub marks-many : length marks ≡ length ends
   marks-many = ap length (P .named .names) ∙ names-length bytes ends
 
+  -- the program that is accepted stands from the first word to the last
   pub passed-whole : (p : Program) → acceptedOf (namesOf bytes ends) ws erased ≡ gives p → Whole ws marks (length ends) p
   passed-whole p a =
       let w : Whole ws marks (length marks) p = rw (P .named .names) (accepted-whole (namesOf bytes ends) ws erased p a) in
@@ -99,5 +102,6 @@ leaves-accepted : (ns ws erased : List ℕ) → Leaves (acceptedOf ns ws erased)
 unfolding acceptedOf programOf
 leaves-accepted ns ws erased = leaves-erased (programOf ns ws) (erasedFrom ns 0 erased) (leaves-whole ws (programAt ws ns (length ns)))
 
+-- a number of the checks leaves the buffers as they came
 pub accepted-leaves : (ns ws erased : List ℕ) {n p : ℕ} → acceptedOf ns ws erased ≡ stops n p → zeroing n ≡ false
 accepted-leaves ns ws erased e = subst (λ (t : Told Program). Leaves t) e (leaves-accepted ns ws erased)

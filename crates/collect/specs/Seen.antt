@@ -8,9 +8,11 @@ use Rattle.fold.specs.declared.Fold.{Fold}
 use Rattle.consteval.specs.ConstEval.{constEval}
 use Rattle.subscripts.specs.Subscripts.{inExpr}
 
+-- its fold under given rows, and the subscripts of a name's first use
 pub record Seen : Type 0 where
   pub const-eval : List Row → Fold
   pub use-of : ℕ → Option ℕ
 
+-- what it sees of this one
 unfoldable pub see : Expr → Seen
 see e = record { const-eval = λ rows. constEval rows e; use-of = λ name. inExpr name e }

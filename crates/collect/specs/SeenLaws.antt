@@ -7,6 +7,7 @@ use Rattle.subscripts.specs.Subscripts.{inExpr, subscriptCount}
 use Rattle.subscripts.specs.Over.{subscriptCount-over}
 use Rattle.collect.specs.Seen.{Seen, see}
 
+-- `subscript_count` over what is seen of a tree is that over the tree
 pub seen-count : {i : Shape} (name : ℕ) (v : Tree Expr i) → subscriptCount (λ name (e : Seen). e .use-of name) name (over see v) ≡ subscriptCount (λ name (e : Expr). inExpr name e) name v
 unfolding see
 seen-count name v = subscriptCount-over see (λ name (e : Expr). inExpr name e) (λ name (e : Seen). e .use-of name) name (λ e. refl) v

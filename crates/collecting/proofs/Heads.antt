@@ -42,6 +42,7 @@ of-kind {ns} {n} {ws} {bytes} {ends} {erased} {scope} {at} {s} {r} {b} {d} {b′
 
 -- ---- the kinds that do nothing
 
+-- the j-th kind has no arm in the match
 pub record Quiet (j : ℕ) : Type 0 where
   pub no-label : j ≡ 0 → ⊥
   pub no-labelName : j ≡ 1 → ⊥
@@ -55,6 +56,7 @@ pub record Quiet (j : ℕ) : Type 0 where
   pub no-optionBase : j ≡ 28 → ⊥
   pub no-typeDef : j ≡ 29 → ⊥
 
+-- a statement of such a kind leaves the state
 pub quiet : (G : Given) (scope line : ℕ) (k : Kind) (r : Tree Expr (row (sorts k))) → Quiet (numberOf k) → (st : State) → st ≡ statement G scope line (view k (over see r)) st
 unfolding sorts view statement numberOf
 quiet G scope line label r q st = absurd (q .no-label refl)
@@ -112,6 +114,7 @@ quiet G scope line setField r q st = refl
 quiet G scope line getPut r q st = refl
 quiet G scope line lock r q st = refl
 
+-- so nothing needs to be done for it
 pub nothing-said : {ws ns : List ℕ} {n : ℕ} {bytes ends erased : List ℕ} {scope at : ℕ} {s : Counts} {b d : List ℕ} → Fit s (length b) (length d) → Quiet (kindOf (getD ws at 0) - 64) → Stated ws ns n bytes ends erased scope at s s b d b d
 nothing-said {ws} {ns} {n} {bytes} {ends} {erased} {scope} {at} {s} {b} {d} fit q = record {
   does = λ k line f end h.

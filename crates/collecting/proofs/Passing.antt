@@ -61,15 +61,19 @@ alone G scope v st = ap (λ (l : List (Piece Expr)). each (piece G scope) l st) 
 
 -- ---- kinds that do nothing
 
+-- below the statements
 pub idle-low : {k : ℕ} → k < 64 → Idle k
 idle-low h = record { no-label = λ e. omega arith; no-labelName = λ e. omega arith; no-dim = λ e. omega arith; no-shared = λ e. omega arith; no-static = λ e. omega arith; no-redim = λ e. omega arith; no-sub = λ e. omega arith; no-function = λ e. omega arith; no-const = λ e. omega arith; no-optionBase = λ e. omega arith; no-typeDef = λ e. omega arith }
 
+-- from LET to DECLARE, but for DIM
 pub idle-middle : {k : ℕ} → 66 ≤ k → k < 81 → (k ≡ 79 → ⊥) → Idle k
 idle-middle l u n = record { no-label = λ e. omega arith; no-labelName = λ e. omega arith; no-dim = n; no-shared = λ e. omega arith; no-static = λ e. omega arith; no-redim = λ e. omega arith; no-sub = λ e. omega arith; no-function = λ e. omega arith; no-const = λ e. omega arith; no-optionBase = λ e. omega arith; no-typeDef = λ e. omega arith }
 
+-- from CALL to EXIT SUB, but for CONST
 pub idle-high : {k : ℕ} → 86 ≤ k → k < 92 → (k ≡ 89 → ⊥) → Idle k
 idle-high l u n = record { no-label = λ e. omega arith; no-labelName = λ e. omega arith; no-dim = λ e. omega arith; no-shared = λ e. omega arith; no-static = λ e. omega arith; no-redim = λ e. omega arith; no-sub = λ e. omega arith; no-function = λ e. omega arith; no-const = n; no-optionBase = λ e. omega arith; no-typeDef = λ e. omega arith }
 
+-- all after TYPE
 pub idle-top : {k : ℕ} → 94 ≤ k → Idle k
 idle-top h = record { no-label = λ e. omega arith; no-labelName = λ e. omega arith; no-dim = λ e. omega arith; no-shared = λ e. omega arith; no-static = λ e. omega arith; no-redim = λ e. omega arith; no-sub = λ e. omega arith; no-function = λ e. omega arith; no-const = λ e. omega arith; no-optionBase = λ e. omega arith; no-typeDef = λ e. omega arith }
 
@@ -117,9 +121,11 @@ module _ {ws ns : List ℕ} {n at to : ℕ} {xs : List Item} where
 
 -- ---- nothing is said from a place up to another
 
+-- a place to itself
 pub passes-none : {ws : List ℕ} {from to : ℕ} → Passes ws from from to
 passes-none = record { ahead = omega arith; past = λ ns n xs h. record { items = xs; there = h; alike = λ G scope st. refl } }
 
+-- one stretch after another
 pub passes-then : {ws : List ℕ} {a b c to : ℕ} → Passes ws a b to → Passes ws b c to → Passes ws a c to
 passes-then P Q = record {
   ahead = omega (arith, P .ahead, Q .ahead);
@@ -130,6 +136,7 @@ passes-then P Q = record {
 }
 
 module _ {ws : List ℕ} {at to : ℕ} (z : at < to) where
+  -- one word that is no literal's head with raw words, and of such a kind
   pub pass-single : (24 ≤ kindOf (getD ws at 0) → kindOf (getD ws at 0) ≤ 27 → ⊥) → Idle (kindOf (getD ws at 0)) → Passes ws at (at + 1) to
   pass-single o I = record { ahead = omega arith; past = λ ns n xs h. past-single h z o I }
 
@@ -140,12 +147,14 @@ module _ {ws : List ℕ} {at to : ℕ} (z : at < to) where
   pass (single o I e) f = rw e (pass-single o I)
   pass (doing D e) f = absurd (f e)
 
+-- where none is taken, the statement does something
 pub none-taken : {k r : ℕ} → Takes k r → r ≡ 0 → Doing k
 none-taken (two l u e) z = absurd (omega arith)
 none-taken (three l u e) z = absurd (omega arith)
 none-taken (single o I e) z = absurd (omega arith)
 none-taken (doing D e) z = D
 
+-- at most three words are taken at once
 pub few-taken : {k r : ℕ} → Takes k r → r ≤ 3
 few-taken (two l u e) = omega arith
 few-taken (three l u e) = omega arith
@@ -154,8 +163,10 @@ few-taken (doing D e) = omega arith
 
 -- ---- some items
 
+-- past words that say nothing some items stand
 pub some-on : {ws : List ℕ} {from at to : ℕ} → SomeItems ws from to → Passes ws from at to → SomeItems ws at to
 some-on S P = let p = P .past (S .names) (S .strings) (S .items) (S .there) in record { names = S .names; strings = S .strings; items = p .items; there = p .there }
 
+-- the place is inside the words
 pub some-inside : {ws : List ℕ} {at to : ℕ} → SomeItems ws at to → (at ≤ to) × (to ≤ length ws)
 some-inside S = items-inside (S .there)

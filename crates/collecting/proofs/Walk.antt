@@ -33,6 +33,7 @@ use Rattle.collecting.proofs.Passing.{opened, closed, alone}
 
 -- ---- how far the scan is
 
+-- at the start nothing is done
 pub scan-start : {ws ns bytes ends erased : List ℕ} {scope from to : ℕ} {s : Counts} {b d : List ℕ} → Scanning ws ns bytes ends scope from to s b d → SoFar ws ns bytes ends erased scope from from to s s b d b d
 scan-start R = record { ahead = omega arith; left = λ xs h. record { items = xs; there = h; before = λ N D. nothing; does = nothing-does (R .kept .fit); rest = λ N D st. refl }; kept = R .kept }
 
@@ -40,6 +41,7 @@ scan-start R = record { ahead = omega arith; left = λ xs h. record { items = xs
 pub scanning-some : {ws ns bytes ends : List ℕ} {scope from to : ℕ} {s : Counts} {b d : List ℕ} → Scanning ws ns bytes ends scope from to s b d → SomeItems ws from to
 scanning-some {ns = ns} {ends = ends} R = record { names = ns; strings = length ends; items = R .items; there = R .there }
 
+-- at the end all is done
 pub scan-end : {ws ns bytes ends erased : List ℕ} {scope from at to : ℕ} {s t : Counts} {b d b′ d′ : List ℕ} → SoFar ws ns bytes ends erased scope from at to s t b d b′ d′ → to ≤ at → Scanned ws ns bytes ends erased scope from to s t b d b′ d′
 unfolding each
 scan-end {bytes = bytes} {ends} {erased} {scope} w z = record {
@@ -52,6 +54,7 @@ scan-end {bytes = bytes} {ends} {erased} {scope} w z = record {
 
 -- ---- a procedure
 
+-- a kind that does something and is no procedure's opens no scope
 pub no-procedure : {k : ℕ} → Doing k → (k ≡ 84 → ⊥) → (k ≡ 85 → ⊥) → Alone k
 no-procedure D f g = record { from = D .from; upto = D .upto; no-sub = f; no-function = g }
 
@@ -117,16 +120,20 @@ module _ {ws ns bytes ends erased : List ℕ} {scope at to : ℕ} {xs : List Ite
 -- ---- the steps of the loop
 
 module _ {ws ns bytes ends erased : List ℕ} {scope from at to : ℕ} {s t : Counts} {b d b′ d′ : List ℕ} (w : SoFar ws ns bytes ends erased scope from at to s t b d b′ d′) where
+  -- past words that say nothing
   pub scan-past : {a : ℕ} → Passes ws at a to → SoFar ws ns bytes ends erased scope from a to s t b d b′ d′
   scan-past P = record { ahead = omega (arith, w .ahead, P .ahead); left = λ xs h. left-past (w .left xs h) P; kept = w .kept }
 
+  -- at the place some items stand
   pub scan-some : Scanning ws ns bytes ends scope from to s b d → SomeItems ws at to
   scan-some R = let L = w .left (R .items) (R .there) in record { names = ns; strings = length ends; items = L .items; there = L .there }
 
 module _ {ws ns bytes ends erased : List ℕ} {scope from at to : ℕ} {s t : Counts} {b d b′ d′ : List ℕ} (w : SoFar ws ns bytes ends erased scope from at to s t b d b′ d′) (z : at < to) where
+  -- past the head of a statement that opens no scope
   pub scan-stmt : {r : Counts} {b″ d″ : List ℕ} → Alone (kindOf (getD ws at 0)) → Stated ws ns (length ends) bytes ends erased scope at t r b′ d′ b″ d″ → Kept ns (length ends) r b″ d″ → SoFar ws ns bytes ends erased scope from (at + 1) to s r b d b″ d″
   scan-stmt o S K = record { ahead = omega (arith, w .ahead); left = λ xs h. let L = w .left xs h in left-stmt L (at-stmt (L .there) z (o .from) (omega (arith, o .upto))) (o .no-sub) (o .no-function) S; kept = K }
 
+  -- past a whole procedure
   pub scan-procedure : {within e : ℕ} {r u : Counts} {b″ d″ b‴ d‴ : List ℕ} → 84 ≤ kindOf (getD ws at 0) → kindOf (getD ws at 0) < 86 → Ends ws ns (length ends) at e → at < e → InsideAt ws at scope within → Stated ws ns (length ends) bytes ends erased scope at t r b′ d′ b″ d″
       → Scanned ws ns bytes ends erased within (at + 1) e r u b″ d″ b‴ d‴ → SoFar ws ns bytes ends erased scope from e to s u b d b‴ d‴
   scan-procedure l u E h I S T = record {
@@ -147,13 +154,16 @@ module _ {ws ns bytes ends erased : List ℕ} {scope from at to : ℕ} {s t : Co
       stmt-there : StmtAt ws ns (length ends) 100 at (w .left (R .items) (R .there) .items) to
       stmt-there = at-stmt (w .left (R .items) (R .there) .there) z l u
 
+      -- the statement at the place may be collected
       pub stmt-ready : Ready (one stmt) ws ns bytes ends scope at t b′ d′
       stmt-ready = let M = stmt-there in record { tree = record { tree = Stmt (M .kind) (M .line) (M .fields); end = M .mid; stands = M .whole; shallow = M .shallow }; around = R .around; kept = w .kept }
 
+      -- so may a procedure, with its end
       pub procedure-ready : {e : ℕ} → Ends ws ns (length ends) at e → 84 ≤ kindOf (getD ws at 0) → kindOf (getD ws at 0) < 86 → ReadyProcedure ws ns bytes ends scope at e t b′ d′
       unfolding stmt-ready stmt-there
       procedure-ready E p q = let M = stmt-there in record { ready = stmt-ready; over-at = sym (E _ (M .mid) (M .whole) (M .shallow)); from = p; upto = omega arith }
 
+      -- some statement stands there
       pub stmt-some : SomeTree (one stmt) ws at
       stmt-some = to-some (stmt-ready .tree)
 
@@ -164,6 +174,7 @@ module _ {ws ns bytes ends erased : List ℕ} {scope from at to : ℕ} {s t : Co
           let q = E _ (M .mid) (M .whole) (M .shallow) in
           (omega (arith, q, items-inside (body-items M) .0), omega (arith, q, items-inside (M .after) .0))
 
+      -- after it the buffers keep a good state
       pub stated-kept : Words32 ws → {r : Counts} {b″ d″ : List ℕ} → Stated ws ns (length ends) bytes ends erased scope at t r b′ d′ b″ d″ → Kept ns (length ends) r b″ d″
       unfolding Right
       stated-kept W32 S =
@@ -180,6 +191,7 @@ module _ {ws ns bytes ends erased : List ℕ} {scope from at to : ℕ} {s t : Co
             good = statement-good ns (length ends) G scope (M .line) (M .kind) (M .fields) (R .around .counted) (R .around .scoped) (M .whole .valid) (stands-known W32 (fields (M .whole))) .on (K .state) (K .good);
           }
 
+      -- the body of a procedure may be scanned, in its scope
       pub body-ready : Words32 ws → {within e : ℕ} {r : Counts} {b″ d″ : List ℕ} → Ends ws ns (length ends) at e → InsideAt ws at scope within → Kept ns (length ends) r b″ d″ → Scanning ws ns bytes ends within (at + 1) e r b″ d″
       unfolding Right
       body-ready W32 {within} {e} E I K =
@@ -201,6 +213,7 @@ module _ {ws ns bytes ends : List ℕ} {scope at : ℕ} {s : Counts} {b d : List
   pub memo-ends : {memo : List ℕ} → Remembers ws ns (length ns) memo → Remembers ws ns (length ends) memo
   memo-ends {memo} m = subst (λ (k : ℕ). Remembers ws ns k memo) (R .ready .around .counted) m
 
+  -- it may be scanned to the end of the words
   pub whole-scanning : Scanning ws ns bytes ends scope at (length ws) s b d
   whole-scanning = record {
     items = treeItem (R .ready .tree .tree) ∷ [];
@@ -209,6 +222,7 @@ module _ {ws ns bytes ends : List ℕ} {scope at : ℕ} {s : Counts} {b d : List
     kept = R .ready .kept;
   }
 
+  -- and scanned so it is collected
   pub whole-scanned : {erased : List ℕ} {r : Counts} {b′ d′ : List ℕ} → Scanned ws ns bytes ends erased scope at (length ws) s r b d b′ d′ → Collects ws ns bytes ends erased scope at (length ws) s r b d b′ d′
   unfolding collect clear clearR
   whole-scanned {erased} {r} {b′} {d′} S = record { does = λ v end h. go v end h; kept = S .kept }

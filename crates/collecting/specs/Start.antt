@@ -15,6 +15,7 @@ use Rattle.lawful.specs.Good.{no-rows}
 use Rattle.lawful.specs.Views.{module-scope}
 use Rattle.collecting.specs.Walk.{ReadyWhole}
 
+-- the walk may begin at the first word, in the module's scope
 pub start-ready : {bytes ends erased ws marks : List ℕ} {s : Counts} {b d : List ℕ} {N D : ℕ} → Passed bytes ends erased ws marks → Held N D (running [] []) s b d
     → ReadyWhole ws marks bytes ends 0 0 s b d
 start-ready {ends = ends} {ws = ws} {marks = marks} {N = N} {D} P H =

@@ -31,6 +31,7 @@ use Rattle.collection.specs.declared.Answer.the-variants.{Refused, Done}
 
 -- ---- 2, 3 and 4
 
+-- they are told, and the buffers are as they came
 pub refused-tells : (bytes ends erased ws : List ℕ) (N D : ℕ) {f : Refusal} (b d : List ℕ) → acceptedOf (namesOf bytes ends) ws erased ≡ stops (numberOf f) (placeOf f)
     → Tells (Refused f) b d b d (work N D bytes ends erased ws)
 unfolding work after told refused
@@ -40,6 +41,7 @@ refused-tells bytes ends erased ws N D {f} b d r =
 
 -- ---- the run
 
+-- begun, collected and finished: the buffers hold what the run left
 pub run-tabled : {bytes ends erased ws ns : List ℕ} {next : ℕ} {s t r : Counts} {b d b₁ d₁ b₂ d₂ b′ d′ : List ℕ} → Words32 ws → Passed bytes ends erased ws ns → Held (length b) (length d) (running [] []) s b₁ d₁
     → Collects ws ns bytes ends erased 0 0 next s t b₁ d₁ b₂ d₂ → ((N D : ℕ) (st : State) → Held N D st t b₂ d₂ → Left N D st r b′ d′) → Tabled bytes ends erased ws ns r b d b′ d′
 unfolding collected
@@ -71,6 +73,7 @@ module _ (ns : List ℕ) (n : ℕ) (b d b′ d′ : List ℕ) (r : Counts) where
   done-tells (stopped k) L g h = absurd (stops-some g (sym (ap (λ (c : Counts). c .stop) (L .answer)) ∙ h))
 
 module _ {bytes ends erased ws ns : List ℕ} {r : Counts} {b d b′ d′ : List ℕ} (P : Passed bytes ends erased ws ns) (T : Tabled bytes ends erased ws ns r b d b′ d′) where
+  -- a run that stopped did so with a number that leaves zeros
   pub run-stops : (r .stop ≡ 0 → ⊥) → zeroing (r .stop) ≡ true
   run-stops h = stopping ns (length ends) b d b′ d′ r _ (T .left (P .program) (P .accepted)) (T .good (P .program) (P .accepted)) h
 
@@ -78,18 +81,22 @@ module _ {bytes ends erased ws ns : List ℕ} {r : Counts} {b d b′ d′ : List
   unfolding work after
   work-is = rw (P .accepted) refl
 
+  -- its number is told
   pub run-refused : (r .stop ≡ 0 → ⊥) → {f : Refusal} → Numbered (r .stop) f → Tells (Refused f) b d b′ d′ (work (length b) (length d) bytes ends erased ws)
   run-refused h {f} F = subst (Tells (Refused f) b d b′ d′) (sym work-is) (stop-tells ns (length ends) b d b′ d′ r _ (T .left (P .program) (P .accepted)) (T .good (P .program) (P .accepted)) h F)
 
+  -- one that went through tells its counts
   pub run-done : r .stop ≡ 0 → Tells (Done (record { rows = r .rows; notes = r .notes })) b d b′ d′ (work (length b) (length d) bytes ends erased ws)
   run-done h = subst (Tells (Done (record { rows = r .rows; notes = r .notes })) b d b′ d′) (sym work-is) (done-tells ns (length ends) b d b′ d′ r _ (T .left (P .program) (P .accepted)) (T .good (P .program) (P .accepted)) h)
 
 -- ---- 5 and 1 leave the buffers
 
+-- 5
 pub leaves-size : (b d : List ℕ) → Leaves (told b d (Refused Size)) b d b d
 unfolding told refused zeroing
 leaves-size b d = (refl, refl)
 
+-- 1
 pub leaves-breaks : (b d : List ℕ) (p : ℕ) → Leaves (told b d (Refused (Strings p))) b d b d
 unfolding told refused zeroing
 leaves-breaks b d p = (refl, refl)

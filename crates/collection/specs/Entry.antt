@@ -44,6 +44,7 @@ work N D bytes ends erased words = after (acceptedOf (namesOf bytes ends) words 
 
 -- ---- the answer, with both buffers as they are afterwards
 
+-- document 01's number and place, or the counts and what stands in the buffers
 unfoldable pub told : (b d : List ℕ) → Answer → Told Buffers
 told b d (Refused f) = refused f
 told b d (Done n) = gives (record { rows = n .rows; notes = n .notes; row-words = b; note-words = d })

@@ -79,6 +79,7 @@ module _ {bytes ends buf : List ℕ} {n : ℕ} (L : LentReady bytes ends buf n) 
   abbrev pub fresh : Counts
   fresh = record { stop = 0; rows = n; notes = 0 }
 
+  -- the check may run
   pub ready : Ready bytes ends buf fresh
   ready = record { strings = L .strings; held = λ go. record { rows = rowsOf n buf; holds = L .lent .holds; named = arrays-named (namesOf bytes ends) (rowsOf n buf) (L .lent .ok) } }
 
@@ -86,6 +87,7 @@ module _ {bytes ends buf : List ℕ} {n : ℕ} (L : LentReady bytes ends buf n) 
     after-run : Held (length buf) (length d) (checkNameCollisions (given (some (length buf)) (some (length d)) bytes ends []) (running (rowsOf n buf) [])) t buf d₂
     after-run = C .does [] .after (length buf) (length d) (running (rowsOf n buf) []) (record { rows-long = refl; notes-long = l; inside = (refl, holds-keeps (L .lent .holds), E) })
 
+    -- it went through: how many diagnostics there are
     pub over-fine : t .stop ≡ 0 → Tells d (Noted (t .notes)) d₂ (overOf bytes ends buf (length d) n)
     unfolding overOf saidOf endOf toldAs counted leftOf
     over-fine go = by (checkNameCollisions (given (some (length buf)) (some (length d)) bytes ends []) (running (rowsOf n buf) [])) after-run
@@ -96,6 +98,7 @@ module _ {bytes ends buf : List ℕ} {n : ℕ} (L : LentReady bytes ends buf n) 
             let z : k ≡ 0 = sym (H .inside .0) ∙ go in
             absurd (omega (arith, H .inside .1))
 
+    -- it stopped: 8, and zeros
     pub over-full : (t .stop ≡ 0 → ⊥) → {d₃ : List ℕ} → d₃ ≡ zeros (length d₂) → Tells d (Refused DiagnosticsFull) d₃ (overOf bytes ends buf (length d) n)
     unfolding overOf saidOf endOf toldAs counted leftOf refused
     over-full h {d₃} z = by (checkNameCollisions (given (some (length buf)) (some (length d)) bytes ends []) (running (rowsOf n buf) [])) after-run (check-eight (given (some (length buf)) (some (length d)) bytes ends []) (rowsOf n buf))
@@ -107,6 +110,7 @@ module _ {bytes ends buf : List ℕ} {n : ℕ} (L : LentReady bytes ends buf n) 
 -- ---- number 6
 
 module _ {bytes ends names : List ℕ} (buf : List ℕ) (M : Named bytes ends names) {k : Checked} (e : k ≡ checked names buf) where
+  -- no lent table: 6, and the buffer as it came
   pub rows-bad : (d : List ℕ) → k ≡ Bad → Tells d (Refused RowsRefused) d (checkedOf bytes ends buf (length d))
   unfolding checkedOf saidOf lentRows after toldAs counted leftOf refused
   rows-bad d q =
@@ -117,9 +121,11 @@ module _ {bytes ends names : List ℕ} (buf : List ℕ) (M : Named bytes ends na
     is-rows : checked (namesOf bytes ends) buf ≡ Rows n
     is-rows = ap (λ (l : List ℕ). checked l buf) (sym (M .names)) ∙ sym e ∙ q
 
+    -- a lent table: its rows passed
     pub lent-ready : LentReady bytes ends buf n
     lent-ready = record { strings = M .strings; lent = checked-sound (namesOf bytes ends) n buf is-rows }
 
+    -- then what the check tells is told
     pub rows-fine : {d d′ : List ℕ} {r : Collided} → Tells d r d′ (overOf bytes ends buf (length d) n) → Tells d r d′ (checkedOf bytes ends buf (length d))
     unfolding checkedOf overOf lentRows after
     rows-fine T = rw is-rows T
@@ -127,6 +133,7 @@ module _ {bytes ends names : List ℕ} (buf : List ℕ) (M : Named bytes ends na
 -- ---- numbers 5 and 1
 
 module _ {bytes ends buf d : List ℕ} where
+  -- one of them: the buffer as it came
   pub entry-shut : {f : Refusal} → Answers (sized bytes ends) bytes ends (refused f) (gives (tt {0})) → Entry bytes ends buf d (Refused f) d
   unfolding refused entryOf unless toldAs counted leftOf
   entry-shut {f} a = record { at = a .at; place = a .place; tells = go (sized bytes ends) (sound bytes ends) (a .is) }
@@ -138,6 +145,7 @@ module _ {bytes ends buf d : List ℕ} where
       go true false e = record { told = cc; left = refl }
       go false t e = record { told = cc; left = refl }
 
+  -- neither: what is told behind them
   pub entry-open : {r : Collided} {d′ : List ℕ} → Answers (sized bytes ends) bytes ends (gives (tt {0})) (gives (tt {0})) → Tells d r d′ (checkedOf bytes ends buf (length d)) → Entry bytes ends buf d r d′
   unfolding entryOf unless
   entry-open {r} {d′} a T = record { at = a .at; place = a .place; tells = go (sized bytes ends) (sound bytes ends) (a .is) }

@@ -51,10 +51,12 @@ a-builtin none least most e =
 a-builtin (some b) least most e = refl
 
 module _ (name : List ℕ) where
+  -- the code knows no arguments: it is none
   pub is-none : {a : Arguments} → a ≡ argumentsOf (builtin name) → a ≡ Unknown → false ≡ isBuiltin name
   unfolding isBuiltin
   is-none e q = no-builtin (builtin name) (sym q ∙ e)
 
+  -- it knows them: it is one
   pub is-some : {a : Arguments} {least most : ℕ} → a ≡ argumentsOf (builtin name) → a ≡ Takes least most → true ≡ isBuiltin name
   unfolding isBuiltin
   is-some {least = least} {most = most} e q = a-builtin (builtin name) least most (sym q ∙ e)
@@ -63,6 +65,7 @@ module _ (name : List ℕ) where
 
 module _ {bytes ends b : List ℕ} {count i : ℕ} {s r : Counts} {d d′ : List ℕ} {f : Found}
     (told : (rows : List Row) → Keeps rows count b → rowIn b f ≡ find (entryKey 135 (payOf (headAt b i)) 0) rows) where
+  -- a procedure has the name: 27
   pub collides-proc : (j : ℕ) → f ≡ At j → Notes (pushing (arrayAndProc (wordAt b i 3) (payOf (headAt b i)) (wordAt b j 2) (wordAt b j 3))) s r d d′ → Collides bytes ends b count i s r d d′
   unfolding collides pushing
   collides-proc j e F = record {
@@ -73,6 +76,7 @@ module _ {bytes ends b : List ℕ} {count i : ℕ} {s r : Counts} {d d′ : List
         rw (there, two, three) F;
   }
 
+  -- none has: 28 where a builtin has
   pub collides-none : f ≡ Nothing → {x : Bool} → x ≡ isBuiltin (stringAt bytes ends (payOf (headAt b i))) → Notes (noting x (arrayAndBuiltin (wordAt b i 3) (payOf (headAt b i)))) s r d d′
       → Collides bytes ends b count i s r d d′
   unfolding collides noting
@@ -119,6 +123,7 @@ pub record Between (b : List ℕ) (count from to : ℕ) : Type 0 where
   pub from-is : (rows : List Row) → Holds rows count b → from ≡ rank arraysFrom rows
   pub to-is : (rows : List Row) → Holds rows count b → to ≡ rank arraysTo rows
 
+-- the code's two searches give them
 pub between : {b : List ℕ} {count from to k l : ℕ} → k ≡ arraysFrom → l ≡ arraysTo → ((rows : List Row) → Holds rows count b → from ≡ rank k rows)
     → ((rows : List Row) → Holds rows count b → to ≡ rank l rows) → Between b count from to
 between p q f t = record { from-is = λ rows H. f rows H ∙ ap (λ (k : ℕ). rank k rows) p; to-is = λ rows H. t rows H ∙ ap (λ (k : ℕ). rank k rows) q }
@@ -133,6 +138,7 @@ pub record Upto (bytes ends b : List ℕ) (count from to : ℕ) (s : Counts) (d 
   pub done : (rows : List Row) → Holds rows count b → (erased : List ℕ) → Does (λ N D. each (collision (given (some N) (some D) bytes ends erased) rows) (take i rows)) s t b d b d′
 
 module _ {bytes ends b d : List ℕ} {s : Counts} where
+  -- before the first array nothing is done
   pub upto-start : Ready bytes ends b s → s .stop ≡ 0 → Fit s (length b) (length d) → {from to : ℕ} → Between b (s .rows) from to → Upto bytes ends b (s .rows) from to s d s d from
   upto-start R go fit {from} {to} B =
       let h = R .held go in
@@ -155,6 +161,7 @@ module _ {bytes ends b d : List ℕ} {s : Counts} where
         let q = U .bounds .to-is rows H in
         (omega (arith, q, rank-le arraysTo rows), array-between rows (H .table) (keeps-small W (holds-keeps H)) i (omega (arith, p, U .low)) (omega (arith, q)))
 
+    -- the row there names an array
     pub named-at : Ready bytes ends b s → s .stop ≡ 0 → s .rows * width ≤ length b → i < to → NamedAt bytes ends b (s .rows) i
     named-at R go fit h =
         let n = R .held go in
@@ -179,6 +186,7 @@ module _ {bytes ends b d : List ℕ} {s : Counts} where
         (each-next (λ (x : Row) N D. collision (given (some N) (some D) bytes ends erased) rows x) (take i rows) (getD rows i []) F
         (when-yes (eqb (kindOf (getD (getD rows i []) 0 0)) 133) (eq-eqb (kindOf (getD (getD rows i []) 0 0)) 133 (a .1)) (rw (zero-is, three-is) at G)))
 
+    -- one more array
     pub upto-next : i < to → Ready bytes ends b s → s .stop ≡ 0 → {u : Counts} {d″ : List ℕ} → length d″ ≡ length d′ → Collides bytes ends b (s .rows) i t u d′ d″ → Upto bytes ends b (s .rows) from to s d u d″ (i + 1)
     upto-next h R go {u} {d″} l C =
         let w = R .held go in

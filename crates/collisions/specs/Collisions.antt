@@ -37,6 +37,7 @@ pub record Checks (bytes ends : List ℕ) (s r : Counts) (b d d′ : List ℕ) :
 abbrev pub headAt : List ℕ → ℕ → ℕ
 headAt b i = getD b (i * width) 0
 
+-- word j of row i
 abbrev pub wordAt : List ℕ → (i j : ℕ) → ℕ
 wordAt b i j = getD b (i * width + j) 0
 

@@ -23,6 +23,7 @@ use Rattle.collisions.specs.Entry.{endOf, saidOf, checkedOf, counted, le
 abbrev pub bytes : List ℕ
 bytes = 65 ∷ 76 ∷ 69 ∷ 78 ∷ 83 ∷ []
 
+-- their ends
 abbrev pub ends : List ℕ
 ends = 1 ∷ 4 ∷ 5 ∷ []
 
@@ -30,6 +31,7 @@ ends = 1 ∷ 4 ∷ 5 ∷ []
 abbrev pub arrays : List Row
 arrays = arrayRow 0 0 1 3 false ∷ arrayRow 1 0 1 4 false ∷ arrayRow 1 3 1 5 false ∷ arrayRow 2 0 1 6 false ∷ []
 
+-- in row order; 27 alone where both a procedure and a builtin have the name; 8 where a diagnostic has no room; A collides with none
 pub said :
     (saidOf bytes ends [] 24 (arrays ++ (procRow 2 true 7 40 0 ∷ [])) ≡ gives ((28 ∷ 4 ∷ 2 ∷ 0 ∷ 0 ∷ 0 ∷ []) ∷ (28 ∷ 5 ∷ 2 ∷ 0 ∷ 0 ∷ 0 ∷ []) ∷ (27 ∷ 6 ∷ 3 ∷ 0 ∷ 1 ∷ 7 ∷ []) ∷ []))
     × (saidOf bytes ends [] 24 (arrayRow 1 0 1 4 false ∷ procRow 1 false 7 0 0 ∷ []) ≡ gives ((27 ∷ 4 ∷ 2 ∷ 0 ∷ 0 ∷ 7 ∷ []) ∷ []))

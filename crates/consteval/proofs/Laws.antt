@@ -45,12 +45,15 @@ left-at {ws} {n} at {m} {e} s =
 -- ---- what is ready at a place is ready in its parts, and its answer is good
 
 module _ {ws : List ℕ} {at : ℕ} {buf : List ℕ} {count : ℕ} where
+  -- an expression stands there
   pub some-expr : Ready ws at buf count → SomeExpr ws at
   some-expr R = record { strings = R .strings; expr = R .expr; end = R .end; stands = R .stands }
 
+  -- the buffer holds the CONST rows
   pub holds-consts : Ready ws at buf count → HoldsConsts buf count
   holds-consts R = record { strings = R .strings .count; rows = R .rows; holds = R .holds; consts = R .consts }
 
+  -- where the head is a literal's, one stands there
   pub literal-at : Ready ws at buf count → kindOf (getD ws at 0) ≡ 16 → LiteralAt ws at
   literal-at R k = record { some = some-expr R; kind = k }
 
@@ -58,6 +61,7 @@ module _ {ws : List ℕ} {at : ℕ} {buf : List ℕ} {count : ℕ} where
   ready : {m : ℕ} (R : Ready ws at buf count) {e : Expr} {end : ℕ} → Stands ws (R .strings) m e end → Ready ws m buf count
   ready R {e} {end} s = record { strings = R .strings; expr = e; end = end; stands = s; rows = R .rows; holds = R .holds; consts = R .consts }
 
+  -- its answer is good
   pub good : Words32 ws → Ready ws at buf count → {r : Folded} → Evaluates ws at buf count r → GoodFold (r .fold)
   good W R {r} E =
       let a = E _ _ _ (R .stands) (R .rows) (R .holds) .answer in
@@ -67,12 +71,14 @@ module _ {ws : List ℕ} {at : ℕ} {buf : List ℕ} {count : ℕ} where
   pub moves : Ready ws at buf count → {r : Folded} → Evaluates ws at buf count r → at < r .next
   moves R {r} E = omega (arith, within (R .stands) .moves, E _ _ _ (R .stands) (R .rows) (R .holds) .past)
 
+  -- the place is within the words
   pub here : Ready ws at buf count → at < length ws
   here R = let w = within (R .stands) in omega (arith, w .moves, w .inside)
 
 -- ---- the arms, in the order of the match
 
 module _ {ws : List ℕ} {at : ℕ} {buf : List ℕ} {count : ℕ} where
+  -- what is so without rows is so with them
   pub alone : {r : Folded} → EvaluatesAlone ws at r → Evaluates ws at buf count r
   alone E n e end s rows h = E n e end s rows
 
@@ -80,15 +86,18 @@ module _ {ws : List ℕ} {at : ℕ} {buf : List ℕ} {count : ℕ} where
   pub name-fits : kindOf (getD ws at 0) ≡ 17 → Ready ws at buf count → at + 1 < length ws
   name-fits k R = let v = in-var k (R .stands) in omega (arith, v .to, R .stands .wrote .inside)
 
+  -- by the CONST row of the name
   pub name-is : kindOf (getD ws at 0) ≡ 17 → {f : Fold} → ((rows : List Row) → Keeps rows count buf → f ≡ constant rows (payOf (getD ws (at + 1) 0))) → Evaluates ws at buf count (record { fold = f; next = at + 2 })
   unfolding constEval
   name-is k F n e end s rows h = let v = in-var k s in record { answer = F rows h ∙ sym (ap (constEval rows) (v .is)); past = v .to }
 
   -- a unary operator
   module _ (k : kindOf (getD ws at 0) ≡ 19) where
+    -- its operand is ready
     pub operand : Ready ws at buf count → Ready ws (at + 2) buf count
     operand R = ready R (in-unary k (R .stands) .inner)
 
+    -- minus: the operand's fold, negated
     pub negated-is : payOf (getD ws (at + 1) 0) ≡ 0 → {a r : Folded} → Evaluates ws (at + 2) buf count a → (r .fold ≡ negateOf (a .fold)) × (r .next ≡ a .next) → Evaluates ws at buf count r
     unfolding constEval
     negated-is z {a} {r} E q n e end s rows h =
@@ -96,6 +105,7 @@ module _ {ws : List ℕ} {at : ℕ} {buf : List ℕ} {count : ℕ} where
         let i = E n (v .arg) end (v .inner) rows h in
         record { answer = q .0 ∙ ap negateOf (i .answer) ∙ sym (ap (constEval rows) (v .is) ∙ ap (λ (b : Bool). pick b (negateOf (constEval rows (v .arg))) NotConstant) (eq-eqb _ _ z)); past = q .1 ∙ i .past }
 
+    -- NOT: not constant, and past it
     pub not-is : (payOf (getD ws (at + 1) 0) ≡ 0 → ⊥) → {r : Folded} → (r .fold ≡ NotConstant) × Past ws at (r .next) → Evaluates ws at buf count r
     unfolding constEval
     not-is z {r} q n e end s rows h =
@@ -104,10 +114,12 @@ module _ {ws : List ℕ} {at : ℕ} {buf : List ℕ} {count : ℕ} where
 
   -- a binary operator
   module _ (k : kindOf (getD ws at 0) ≡ 20) where
+    -- its left side is ready
     pub left-side : Ready ws at buf count → Ready ws (at + 2) buf count
     left-side R = ready R (left-at at (in-binary k (R .stands) .left))
 
     module _ {l : Folded} (L : Evaluates ws (at + 2) buf count l) where
+      -- and so is its right side, after the left
       pub right-side : Ready ws at buf count → Ready ws (l .next) buf count
       right-side R =
           let v = in-binary k (R .stands) in
@@ -132,6 +144,7 @@ module _ {ws : List ℕ} {at : ℕ} {buf : List ℕ} {count : ℕ} where
           stops op Overflow g e = refl
           stops op NotConstant g e = refl
 
+      -- both folds, by the operator
       pub combined-is : {m r : Folded} → Evaluates ws (l .next) buf count m → (r .fold ≡ binaryOf (payOf (getD ws (at + 1) 0)) (l .fold) (m .fold)) × (r .next ≡ m .next) → Evaluates ws at buf count r
       unfolding constEval
       combined-is {m} {r} M q n e end s rows h =
@@ -145,9 +158,11 @@ module _ {ws : List ℕ} {at : ℕ} {buf : List ℕ} {count : ℕ} where
 
   -- parentheses change nothing
   module _ (k : kindOf (getD ws at 0) ≡ 23) where
+    -- what stands in them is ready
     pub inner : Ready ws at buf count → Ready ws (at + 1) buf count
     inner R = ready R (in-paren k (R .stands) .inner)
 
+    -- and its fold is the whole's
     pub paren-is : {r : Folded} → Evaluates ws (at + 1) buf count r → Evaluates ws at buf count r
     unfolding constEval
     paren-is E n e end s rows h =

@@ -25,11 +25,13 @@ use Rattle.consteval.specs.EvalLaws.{Words32, float-good}
 
 -- ---- a word in two's complement is one of 64 bits with its sign
 
+-- one below 2 ^ 31: its high word is 0
 pub signed-low : (w : ℕ) → w < 2147483648 → wholeAt w 0 ≡ signed32 w
 signed-low w h =
     let e : 0 * 4294967296 + w ≡ w = omega arith in
     ap pos e ∙ sym (ap (λ (b : Bool). pick b (pos w) (negsuc (4294967295 - w))) (lt-ltb w 2147483648 h))
 
+-- any other: its high word is all ones
 pub signed-high : (w : ℕ) → 2147483648 ≤ w → wholeAt w 4294967295 ≡ signed32 w
 signed-high w h =
     let e : 18446744073709551615 - (4294967295 * 4294967296 + w) ≡ 4294967295 - w = omega arith in
@@ -94,6 +96,7 @@ module _ (ws : List ℕ) (at : ℕ) where
 -- ---- what the expression folds to
 
 module _ {ws : List ℕ} {at : ℕ} (K : kindOf (getD ws at 0) ≡ 16) where
+  -- 24: an Integer
   pub eval-24 : kindOf (getD ws (at + 1) 0) ≡ 24 → {z : ℤ} → z ≡ signed32 (getD ws (at + 2) 0) → EvaluatesAlone ws at (record { fold = Is (Integer z); next = at + 3 })
   unfolding constEval literal
   eval-24 k q n e end s rows =
@@ -101,6 +104,7 @@ module _ {ws : List ℕ} {at : ℕ} (K : kindOf (getD ws at 0) ≡ 16) where
       let l = integer-is ws at (v .lit) (v .wrote) (sym (v .kind) ∙ k) in
       record { answer = rw (v .is, l .0, q) refl; past = l .1 }
 
+  -- 25: a Long
   pub eval-25 : kindOf (getD ws (at + 1) 0) ≡ 25 → {z : ℤ} → z ≡ signed32 (getD ws (at + 2) 0) → EvaluatesAlone ws at (record { fold = Is (Long z); next = at + 3 })
   unfolding constEval literal
   eval-25 k q n e end s rows =
@@ -108,6 +112,7 @@ module _ {ws : List ℕ} {at : ℕ} (K : kindOf (getD ws at 0) ≡ 16) where
       let l = long-is ws at (v .lit) (v .wrote) (sym (v .kind) ∙ k) in
       record { answer = rw (v .is, l .0, q) refl; past = l .1 }
 
+  -- 26: a Single
   pub eval-26 : kindOf (getD ws (at + 1) 0) ≡ 26 → {x : Ieee.Float} → x ≡ ofWords (getD ws (at + 2) 0) (getD ws (at + 3) 0) → EvaluatesAlone ws at (record { fold = Is (Single x); next = at + 4 })
   unfolding constEval literal
   eval-26 k q n e end s rows =
@@ -115,6 +120,7 @@ module _ {ws : List ℕ} {at : ℕ} (K : kindOf (getD ws at 0) ≡ 16) where
       let l = single-is ws at (v .lit) (v .wrote) (sym (v .kind) ∙ k) in
       record { answer = rw (v .is, l .0, q) refl; past = l .1 }
 
+  -- 27: a Float
   pub eval-27 : kindOf (getD ws (at + 1) 0) ≡ 27 → {x : Ieee.Float} → x ≡ ofWords (getD ws (at + 2) 0) (getD ws (at + 3) 0) → EvaluatesAlone ws at (record { fold = Is (Float x); next = at + 4 })
   unfolding constEval literal
   eval-27 k q n e end s rows =
@@ -122,6 +128,7 @@ module _ {ws : List ℕ} {at : ℕ} (K : kindOf (getD ws at 0) ≡ 16) where
       let l = float-is ws at (v .lit) (v .wrote) (sym (v .kind) ∙ k) in
       record { answer = rw (v .is, l .0, q) refl; past = l .1 }
 
+  -- 28: a string's number
   pub eval-28 : (kindOf (getD ws (at + 1) 0) ≡ 24 → ⊥) → (kindOf (getD ws (at + 1) 0) ≡ 25 → ⊥) → (kindOf (getD ws (at + 1) 0) ≡ 26 → ⊥) → (kindOf (getD ws (at + 1) 0) ≡ 27 → ⊥)
       → EvaluatesAlone ws at (record { fold = Is (Text (payOf (getD ws (at + 2) 0))); next = at + 3 })
   unfolding constEval literal
@@ -141,26 +148,31 @@ long-enough (E.Float a b) = omega arith
 long-enough (E.Text s) = omega arith
 
 module _ {ws : List ℕ} {at : ℕ} (A : LiteralAt ws at) where
+  -- the word after the literal's head
   pub word-2 : at + 2 < length ws
   word-2 = let v = in-lit (A .kind) (A .some .stands) in omega (arith, v .wrote .span, v .wrote .inside, long-enough (v .lit))
 
+  -- the second word of a Single
   pub single-there : kindOf (getD ws (at + 1) 0) ≡ 26 → at + 3 < length ws
   single-there k =
       let v = in-lit (A .kind) (A .some .stands) in
       omega (arith, single-is ws at (v .lit) (v .wrote) (sym (v .kind) ∙ k) .1, v .wrote .inside)
 
+  -- the second word of a Float
   pub float-there : kindOf (getD ws (at + 1) 0) ≡ 27 → at + 3 < length ws
   float-there k =
       let v = in-lit (A .kind) (A .some .stands) in
       omega (arith, float-is ws at (v .lit) (v .wrote) (sym (v .kind) ∙ k) .1, v .wrote .inside)
 
   module _ (W : Words32 ws) where
+    -- a Single is finite
     pub single-good : kindOf (getD ws (at + 1) 0) ≡ 26 → T (finite64 (ofWords (getD ws (at + 2) 0) (getD ws (at + 3) 0)))
     unfolding ValidL
     single-good k =
         let v = in-lit (A .kind) (A .some .stands) in
         float-good _ _ (W (at + 2)) (W (at + 3)) (subst (ValidL (A .some .strings .count)) (single-is ws at (v .lit) (v .wrote) (sym (v .kind) ∙ k) .0) (v .valid))
 
+    -- a Float is finite
     pub float-good-27 : kindOf (getD ws (at + 1) 0) ≡ 27 → T (finite64 (ofWords (getD ws (at + 2) 0) (getD ws (at + 3) 0)))
     unfolding ValidL
     float-good-27 k =

@@ -19,6 +19,7 @@ use Rattle.fold.specs.declared.Fold.the-variants.{Is, NotConstant}
 use Rattle.consteval.specs.ConstEval.{rowValue, ofRow, constant}
 use Rattle.consteval.specs.Evaluates.{HoldsConsts}
 
+-- the rows fit the buffer
 pub rows-fit : {buf : List ℕ} {count : ℕ} → HoldsConsts buf count → count * width ≤ length buf
 rows-fit H = keeps-fits (H .holds)
 
@@ -29,6 +30,7 @@ valueAt buf i = valueOf (getD buf (i * width + 2) 0) (getD buf (i * width + 3) 0
 value-at : (buf : List ℕ) (i : ℕ) → rowValue (rowOf buf i) ≡ valueAt buf i
 value-at buf i = rw (← row-word buf i 2 (omega arith), ← row-word buf i 3 (omega arith), ← row-word buf i 4 (omega arith)) refl
 
+-- a row that was found is one of them
 pub in-table : {count : ℕ} {f : Found} {i : ℕ} → f ≡ At i → Within count f → i < count
 in-table {count} F W = subst (Within count) F W
 
@@ -41,11 +43,14 @@ module _ (name : ℕ) {buf : List ℕ} {count k : ℕ} {f : Found} (q : k ≡ en
     row-is : {rows : List Row} → Keeps rows count buf → find (entryKey 132 name 0) rows ≡ some (rowOf buf i)
     row-is {rows} K = subst (λ (j : ℕ). find j rows ≡ some (rowOf buf i)) q (sym (E rows K) ∙ ap (rowIn buf) F)
 
+    -- the value of the row that was found is good
     pub value-good : HoldsConsts buf count → name < 16777216 → Good (valueAt buf i)
     value-good C h = subst Good (value-at buf i) (C .consts .good name h (rowOf buf i) (row-is (C .holds)) .good)
 
+    -- it is the CONST's
     pub value-is : {v : Value} → v ≡ valueAt buf i → (rows : List Row) → Keeps rows count buf → Is v ≡ constant rows name
     value-is e rows K = ap Is (e ∙ sym (value-at buf i)) ∙ sym (ap ofRow (row-is K))
 
+  -- no row was found: not constant
   pub value-none : f ≡ Nothing → (rows : List Row) → Keeps rows count buf → NotConstant ≡ constant rows name
   value-none F rows K = sym (ap ofRow (subst (λ (j : ℕ). find j rows ≡ none) q (sym (E rows K) ∙ ap (rowIn buf) F)))

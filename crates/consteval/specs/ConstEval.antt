@@ -34,6 +34,7 @@ literal (E.Text s) = Text s
 abbrev pub rowValue : Row → Value
 rowValue r = valueOf (getD r 2 0) (getD r 3 0) (getD r 4 0)
 
+-- the row's value, or not constant where there is none
 abbrev pub ofRow : Option Row → Fold
 ofRow none = NotConstant
 ofRow (some r) = Is (rowValue r)

@@ -70,6 +70,7 @@ module _ {names : List ℕ} {rows : List Row} {count : ℕ} {buf : List ℕ} (L 
       let ok : constRule (length names) (getD r 2 0) (getD r 3 0) (getD r 4 0) ≡ true = const-words-ok names r (omega arith) kind (each-find (λ r. rowOk names r ≡ true) (entryKey 132 name 0) rows r (L .ok) e) in
       rule-row (length names) (getD r 2 0) (getD r 3 0) (getD r 4 0) (word 3 (omega arith)) (word 4 (omega arith)) (subst T (sym ok) tt)
 
+  -- each CONST row of a lent table of 32-bit words holds a value that it may hold
   pub lent-consts : Consts (length names) rows
   lent-consts = record { good = lent-value }
 
@@ -90,6 +91,7 @@ const-again {ws} {ns} {at} {e} {end} {rows} W C s {v} q name n =
 
 -- ---- rows stay such
 
+-- a table without rows is such
 pub consts-none : (n : ℕ) → Consts n []
 unfolding find
 consts-none n = record { good = λ name h r e. let z : _≡_ {A = ℕ} 0 1 = cc in absurd (omega arith) }

@@ -59,6 +59,7 @@ use Rattle.cursor.proofs.Thin as work
 abbrev pub Definition : Type 0
 Definition = List ℕ → List ℕ → ℕ → Told Node
 
+-- the function's MIR: the cursor made, lent to k, and its place answered
 abbrev pub function : Name → Fn
 function k = record {
   lifetimes = 3;
@@ -71,12 +72,14 @@ function k = record {
       (seq (assign (place 0 []) (rvOpd (copy (place 5 (field 0 ∷ []))))) return)));
 }
 
+-- its signature: a place and three slices, which come back as they were
 abbrev pub ended : Ended
 ended = record {
   signature = record { lifetimes = 3; outlives = []; params = plain (λ _. usize) ∷ SliceRefOf (0 ∷ []) tt (plain (λ _. u8)) (λ _. tt) ∷ SliceRefOf (1 ∷ []) tt (plain (λ _. u32)) (λ _. tt) ∷ SliceRefOf (2 ∷ []) tt (plain (λ _. u32)) (λ _. tt) ∷ []; result = plain (λ _. usize) };
   kept = (yes, (yes, (yes, (yes, tt))));
 }
 
+-- its contract: nothing asked, and the place past what stands there answered
 abbrev pub clauses : {M : Type 1} (𝓤 : URA M) → Definition → Clauses 𝓤 ended
 clauses 𝓤 of κs a = record { ghost = Unit {0}; requires = λ _. emp 𝓤; ensures = λ _ r end. fact 𝓤 (Past of (now (a .1 .0)) (now (a .1 .1 .0)) (now (a .1 .1 .1 .0)) (a .0) r) }
 
@@ -86,6 +89,7 @@ stayed = (stay-none (λ _. usize) yes, (stay-none-slice (0 ∷ []) tt (plain (λ
 abbrev relation : Definition → work.Relation
 relation of bytes ends words at r after = Reads of bytes ends words at r after
 
+-- the contract of k
 abbrev pub Work : {M : Type 1} (𝓤 : URA M) (H : Heap 𝓤) (A : Atoms 𝓤) → Definition → Contract 𝓤
 Work 𝓤 H A of = tripleOf 𝓤 H A (work.ended .signature) (closing 𝓤 H A work.ended (work.clauses 𝓤 (relation of)))
 
@@ -190,6 +194,7 @@ module _ {M : Type 1} (𝓤 : URA M) (H : Heap 𝓤) (A : Atoms 𝓤) (W : Given
   past-walks C Λ fm known = walked 𝓤 H A ended stayed (clauses 𝓤 of) (WpFn 𝓤 H C Λ (function k)) (λ κs. (uint-vals w64, (slice-vals, (slice-vals, (slice-vals, tt))))) (λ κs. (uint-tells w64, (shr-slice-tells (named 0) (κs .0) u8, (shr-slice-tells (named 1) (κs .1 .0) u32, (shr-slice-tells (named 2) (κs .1 .1 .0) u32, tt)))))
       (λ κs qs bounds a g are. via 𝓤 _ (fst∗ 𝓤 _ (emp 𝓤)) (walk 𝓤 H A W of k (κs .0) (κs .1 .0) (κs .1 .1 .0) (qs .0) (qs .1 .0) (qs .1 .1 .0) (a .0) (are .0 .1) (a .1 .0) (a .1 .1 .0) (a .1 .1 .1 .0) C Λ fm known (are .1 .0) (are .1 .1 .0) (are .1 .1 .1 .0)))
 
+-- where k meets its contract, the function meets its own
 pub past-meets : {M : Type 1} (𝓤 : URA M) (H : Heap 𝓤) (A : Atoms 𝓤) → Given 𝓤 H A → (of : Definition) (k : Name) (𝓣 : Tables 𝓤 H) → Triple 𝓤 (𝓣 .C k) (Work 𝓤 H A of)
     → Meets 𝓤 H A (ended .signature) (WpFn 𝓤 H (𝓣 .C) (𝓣 .Λ) (function k)) (closing 𝓤 H A ended (clauses 𝓤 of))
 past-meets 𝓤 H A W of k 𝓣 known = walk-meets 𝓤 H A ended stayed W (goes-none 𝓤 H A W 3 (λ _. usize) yes (λ κs x f. refl), (goes-none-slice 𝓤 H A W 3 (0 ∷ []) tt (plain (λ _. u8)) yes, (goes-none-slice 𝓤 H A W 3 (1 ∷ []) tt (plain (λ _. u32)) yes, (goes-none-slice 𝓤 H A W 3 (2 ∷ []) tt (plain (λ _. u32)) yes, tt)))) (clauses 𝓤 of) (WpFn 𝓤 H (𝓣 .C) (𝓣 .Λ) (function k)) (WpFn-mono 𝓤 H (W .laws) 𝓣 (function k)) (past-walks 𝓤 H A W of k (𝓣 .C) (𝓣 .Λ) (fmOf 𝓤 H (W .laws) 𝓣) known)

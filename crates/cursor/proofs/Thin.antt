@@ -57,6 +57,7 @@ use Rattle.cursor.proofs.Moved.Laws as G′
 abbrev pub Relation : Type 1
 Relation = (bytes ends words : List ℕ) → ℕ → Reading → ℕ → Type 0
 
+-- the thin function's MIR: the place read, k called, the new place stored, the answer given
 abbrev pub function : Name → Fn
 function k = record {
   lifetimes = 4;
@@ -76,6 +77,7 @@ ended = record {
   kept = (yes, (yes, (yes, (yes, tt))));
 }
 
+-- what it asks and promises
 abbrev pub clauses : {M : Type 1} (𝓤 : URA M) → Relation → Clauses 𝓤 ended
 clauses 𝓤 R κs a = record {
   ghost = Unit {0};
@@ -90,9 +92,11 @@ work-ended = record {
   kept = (yes, (yes, (yes, (yes, tt))));
 }
 
+-- what that asks and promises
 abbrev pub work : {M : Type 1} (𝓤 : URA M) → Relation → Clauses 𝓤 work-ended
 work 𝓤 R κs a = record { ghost = Unit {0}; requires = λ _. emp 𝓤; ensures = λ _ r end. fact 𝓤 (R (now (a .1 .0)) (now (a .1 .1 .0)) (now (a .1 .1 .1 .0)) (a .0) (r .answer) (r .at)) }
 
+-- as a contract of k
 abbrev pub Work : {M : Type 1} (𝓤 : URA M) (H : Heap 𝓤) (A : Atoms 𝓤) → Relation → Contract 𝓤
 Work 𝓤 H A R = tripleOf 𝓤 H A (work-ended .signature) (closing 𝓤 H A work-ended (work 𝓤 R))
 
@@ -211,6 +215,7 @@ module _ {M : Type 1} (𝓤 : URA M) (H : Heap 𝓤) (A : Atoms 𝓤) (W : Given
   goes-all : AllGo 𝓤 H A W 4 (ended .signature .params) (ended .kept) stayed
   goes-all = (goes-ref 𝓤 H A W 4 0 tt (plain (λ _. T.the-row)), (goes-none-slice 𝓤 H A W 4 (1 ∷ []) tt (plain (λ _. u8)) yes, (goes-none-slice 𝓤 H A W 4 (2 ∷ []) tt (plain (λ _. u32)) yes, (goes-none-slice 𝓤 H A W 4 (3 ∷ []) tt (plain (λ _. u32)) yes, tt))))
 
+-- where k meets its contract, the thin function meets its own
 pub thin-meets : {M : Type 1} (𝓤 : URA M) (H : Heap 𝓤) (A : Atoms 𝓤) → Given 𝓤 H A → (R : Relation) (k : Name) (𝓣 : Tables 𝓤 H) → Triple 𝓤 (𝓣 .C k) (Work 𝓤 H A R)
     → Meets 𝓤 H A (ended .signature) (WpFn 𝓤 H (𝓣 .C) (𝓣 .Λ) (function k)) (closing 𝓤 H A ended (clauses 𝓤 R))
 thin-meets 𝓤 H A W R k 𝓣 known = walk-meets 𝓤 H A ended stayed W (goes-all 𝓤 H A W R k) (clauses 𝓤 R) (WpFn 𝓤 H (𝓣 .C) (𝓣 .Λ) (function k)) (WpFn-mono 𝓤 H (W .laws) 𝓣 (function k)) (thin-walks 𝓤 H A W R k (𝓣 .C) (𝓣 .Λ) (fmOf 𝓤 H (W .laws) 𝓣) known)

@@ -23,10 +23,12 @@ use Rattle.dims.specs.Declarators.{Contradicts, OldIs, clashOf}
 
 -- ---- tests
 
+-- a test and not one that holds: false
 pub and-none : (t : Bool) {u : Bool} → u ≡ true → false ≡ (t && not u)
 and-none true e = rw e refl
 and-none false e = refl
 
+-- and not one that fails: the test
 pub and-some : (t : Bool) {u : Bool} → u ≡ false → t ≡ (t && not u)
 and-some true e = rw e refl
 and-some false e = refl
@@ -34,23 +36,28 @@ and-some false e = refl
 -- ---- a record's type
 
 module _ (bytes ends : List ℕ) (name h : ℕ) where
+  -- a record never contradicts
   pub record-fits : h ≡ 45 → Contradicts bytes ends name h false
   record-fits e ty f = rw (eq-eqb (head ty) 45 (sym f ∙ e)) refl
 
+  -- any other type does where it isn't the one that the suffix says
   pub other-differs : (h ≡ 45 → ⊥) → {t : Bool} → ((ty : TypeRef) → h ≡ head ty → t ≡ disagrees (lastOf (stringAt bytes ends name)) ty) → Contradicts bytes ends name h t
   other-differs n F ty f = F ty f ∙ rw (ne-eqb (head ty) 45 (λ e. n (f ∙ e))) refl
 
 -- ---- erased names
 
 module _ (xs : List ℕ) (x : ℕ) where
+  -- the name at i is it: it is among those from i on
   pub member-here : (i : ℕ) → i < length xs → getD xs i 0 ≡ x → member x (drop i xs) ≡ true
   unfolding member
   member-here i h e = rw (drop-cons xs i 0 h, eq-eqb (getD xs i 0) x e) refl
 
+  -- it is another: those after it decide
   pub member-next : (i : ℕ) → i < length xs → (getD xs i 0 ≡ x → ⊥) → member x (drop i xs) ≡ member x (drop (i + 1) xs)
   unfolding member
   member-next i h n = rw (drop-cons xs i 0 h, ne-eqb (getD xs i 0) x n, add-one i) refl
 
+  -- past the last it is not
   pub member-end : (i : ℕ) → i ≤ length xs → length xs ≤ i → member x (drop i xs) ≡ false
   unfolding member
   member-end i h l =
@@ -63,24 +70,29 @@ module _ (erased : List ℕ) (is-redim preserve : Bool) (name rank : ℕ) (old :
   abbrev nothing : Clash
   nothing = record { code = 0; number = 0 }
 
+  -- nothing, where there was none
   pub clash-new : not (old .there) ≡ true → nothing ≡ clashOf erased is-redim preserve name rank old
   unfolding clashOf
   clash-new e = rw (not-true (old .there) e) refl
 
   module _ (e : not (old .there) ≡ false) where
+    -- 19, where it is a DIM of a name that isn't erased
     pub clash-kept : {t : Bool} → t ≡ (not is-redim && not (member name erased)) → t ≡ true → record { code = 19; number = 0 } ≡ clashOf erased is-redim preserve name rank old
     unfolding clashOf
     clash-kept k t = rw (not-false (old .there) e, sym k ∙ t) refl
 
     module _ {t : Bool} (k : t ≡ (not is-redim && not (member name erased))) (n : t ≡ false) where
+      -- nothing, where it has as many dimensions
       pub clash-same : old .rank ≡ rank → nothing ≡ clashOf erased is-redim preserve name rank old
       unfolding clashOf
       clash-same q = rw (not-false (old .there) e, sym k ∙ n, eq-eqb (old .rank) rank q) refl
 
+      -- 20 with the old rank, where REDIM PRESERVE changes it
       pub clash-preserve : (old .rank ≡ rank → ⊥) → preserve ≡ true → record { code = 20; number = old .rank } ≡ clashOf erased is-redim preserve name rank old
       unfolding clashOf
       clash-preserve q p = rw (not-false (old .there) e, sym k ∙ n, ne-eqb (old .rank) rank q, p) refl
 
+      -- 21 with the old rank, where another one changes it
       pub clash-other : (old .rank ≡ rank → ⊥) → preserve ≡ false → record { code = 21; number = old .rank } ≡ clashOf erased is-redim preserve name rank old
       unfolding clashOf
       clash-other q p = rw (not-false (old .there) e, sym k ∙ n, ne-eqb (old .rank) rank q, p) refl
@@ -88,10 +100,12 @@ module _ (erased : List ℕ) (is-redim preserve : Bool) (name rank : ℕ) (old :
 -- ---- the array that was there
 
 module _ (buf : List ℕ) where
+  -- the row that was found: its rank, and whether it has lower bounds
   pub old-found : (i : ℕ) {f : Found} {o : Option Row} → f ≡ At i → rowIn buf f ≡ o → OldIs o (record { there = true; rank = getD buf (i * width + 2) 0; lower = getD buf (i * width + 4) 0 })
   old-found i e q =
       subst (λ (o : Option Row). OldIs o (record { there = true; rank = getD buf (i * width + 2) 0; lower = getD buf (i * width + 4) 0 })) (ap (rowIn buf) (sym e) ∙ q)
       (record { there = refl; rank = sym (row-word buf i 2 (omega arith)); lower = sym (row-word buf i 4 (omega arith)) })
 
+  -- none was found
   pub old-missing : {f : Found} {o : Option Row} → f ≡ Nothing → rowIn buf f ≡ o → OldIs o (record { there = false; rank = 0; lower = 0 })
   old-missing e q = subst (λ (o : Option Row). OldIs o (record { there = false; rank = 0; lower = 0 })) (ap (rowIn buf) (sym e) ∙ q) (record { there = refl; rank = refl; lower = refl })

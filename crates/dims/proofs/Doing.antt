@@ -92,6 +92,7 @@ module _ (bytes ends erased : List ℕ) where
       then (then (then one two) three) (rows-does G d₃ (three .fit .1))
 
 module _ (bytes ends : List ℕ) (scope line : ℕ) (is-redim : Bool) (v : Decl) where
+  -- without a type nothing is done
   pub type-none : v .head ≡ 0 → {s : Counts} {b d : List ℕ} → Fit s (length b) (length d) → DeclaresType bytes ends scope line is-redim v s s b d b d
   unfolding declaredAs
   type-none e {s} {b} {d} fit = record { fit = fit; does = λ erased x I. go erased (x .name) (x .ty) (I .head ∙ e) }
@@ -100,6 +101,7 @@ module _ (bytes ends : List ℕ) (scope line : ℕ) (is-redim : Bool) (v : Decl)
       go erased name none h = nothing-does fit
       go erased name (some ty) h = absurd (omega (arith, head-some ty))
 
+  -- 15, 16 and 17 where they are to be said, then its row
   pub type-some : (v .head ≡ 0 → ⊥) → {s s₁ s₂ s₃ r : Counts} {b d d₁ d₂ d₃ b′ : List ℕ} → Fit s (length b) (length d) → {t₁ t₂ t₃ : Bool}
       → Contradicts bytes ends (v .name) (v .head) t₁ → Notes (noting t₁ (suffixDiffers line (v .name))) s s₁ d d₁
       → ((rows : List Row) → Keeps rows (s₁ .rows) b → t₂ ≡ undefinedIn (v .head) (v .arg) rows) → Notes (noting t₂ (undefinedType line (v .arg))) s₁ s₂ d₁ d₂
@@ -185,6 +187,7 @@ module _ (bytes ends erased : List ℕ) (line : ℕ) (is-redim preserve : Bool) 
       (then (then one two) three)
 
 module _ (erased : List ℕ) (scope line : ℕ) (is-redim preserve : Bool) (v : Decl) where
+  -- without dimensions nothing is done
   pub array-none : not (v .array) ≡ true → {s : Counts} {b d : List ℕ} → Fit s (length b) (length d) → DeclaresArray erased scope line is-redim preserve v s s b d b d
   unfolding declaredArray
   array-none e {s} {b} {d} fit = record { fit = fit; does = λ bytes ends x I. go bytes ends (x .name) (x .lowers) (x .dimensions) (ap not (I .array) ∙ e) }
@@ -196,6 +199,7 @@ module _ (erased : List ℕ) (scope line : ℕ) (is-redim preserve : Bool) (v : 
           let z : _≡_ {A = ℕ} 0 1 = cc in
           absurd (omega arith)
 
+  -- 18 where it has none, what is said of the one that was there, then its row
   pub array-some : not (v .array) ≡ false → {s s₁ s₂ r : Counts} {b d d₁ d₂ b′ : List ℕ} → Fit s (length b) (length d) → {old : Old} {c : Clash} {t : Bool} {w : ℕ}
       → Notes (noting (eqb (v .rank) 0) (noDimension line (v .name))) s s₁ d d₁
       → ((rows : List Row) → Keeps rows (s₁ .rows) b → OldIs (find (entryKey 133 (v .name) scope) rows) old)
@@ -222,6 +226,7 @@ module _ (erased : List ℕ) (scope line : ℕ) (is-redim preserve : Bool) (v : 
 -- ---- a declarator
 
 module _ {bytes ends erased : List ℕ} {scope line : ℕ} {is-redim preserve : Bool} where
+  -- its type, then its array
   pub declared-does : {v : Decl} {s t r : Counts} {b d b₁ d₁ b′ d′ : List ℕ} → DeclaresType bytes ends scope line is-redim v s t b d b₁ d₁ → DeclaresArray erased scope line is-redim preserve v t r b₁ d₁ b′ d′
       → Declares bytes ends erased scope line is-redim preserve v s r b d b′ d′
   unfolding declared
@@ -229,6 +234,7 @@ module _ {bytes ends erased : List ℕ} {scope line : ℕ} {is-redim preserve : 
 
 -- ---- a list of them
 
+-- a declarator as collecting sees it
 abbrev pub decl : Tree Expr (fields DeclaratorRow) → Declarator Seen
 decl r = declarator (over see r)
 
@@ -237,17 +243,20 @@ module _ (bytes ends erased : List ℕ) (scope line : ℕ) (is-redim preserve : 
   abbrev pub Declaring : (ws : List ℕ) (from total at left : ℕ) (s c : Counts) (b d b′ d′ : List ℕ) → Type 0
   Declaring ws from total at left s c b d b′ d′ = Turn decl (λ l. Does (λ N D. each (λ x. declares bytes ends erased scope line is-redim preserve x N D) l) s c b d b′ d′) ws from total at left
 
+  -- none is declared, all are left
   pub declare-start : (ws : List ℕ) (from total : ℕ) {s : Counts} {b d : List ℕ} → Fit s (length b) (length d) → Declaring ws from total from total s s b d b d
   declare-start ws from total {s} {b} {d} fit =
       turn-start (λ l. Does (λ N D. each (λ x. declares bytes ends erased scope line is-redim preserve x N D) l) s s b d b d) (each-none (λ x. declares bytes ends erased scope line is-redim preserve x) fit) ws from total
 
   module _ {ws : List ℕ} {from total m left : ℕ} {s c : Counts} {b d b′ d′ : List ℕ} (T : Declaring ws from total m left s c b d b′ d′) where
+    -- one more is declared
     pub declare-next : {v : Decl} {r : Counts} {b″ d″ : List ℕ} → 0 < left → DeclIs ws m v → Declares bytes ends erased scope line is-redim preserve v c r b′ d′ b″ d″
         → Declaring ws from total (v .next) (left - 1) s r b d b″ d″
     declare-next {v} {r} {b″} {d″} h K F =
         turn-next T h (λ l. Does (λ N D. each (λ x. declares bytes ends erased scope line is-redim preserve x N D) l) s r b d b″ d″) (v .next)
         (λ ns n q end S. (K .is ns n q end S .1, λ l p. each-next (λ x. declares bytes ends erased scope line is-redim preserve x) l (decl q) p (F .does (decl q) (K .is ns n q end S .0))))
 
+  -- none is left: all are declared
   pub declare-end : {ws : List ℕ} {at m left : ℕ} {s c : Counts} {b d b′ d′ : List ℕ} → Declaring ws (at + 1) (payOf (getD ws at 0)) m left s c b d b′ d′ → left ≤ 0 → DeclaresAll ws bytes ends erased scope line is-redim preserve at s c b d b′ d′
   declare-end {s = s} {c = c} {b = b} {d = d} {b′ = b′} {d′ = d′} T z = record {
     does = λ ns n v end S.
@@ -257,14 +266,17 @@ module _ (bytes ends erased : List ℕ) (scope line : ℕ) (is-redim preserve : 
 
 -- a list that is ready: as rows, and the next one's name
 module _ {bytes ends ws : List ℕ} {at : ℕ} (R : Ready bytes ends ws at) where
+  -- it is a list that stands there
   pub ready-tree : SomeTree (one (many DeclaratorRow)) ws at
   ready-tree = record { names = R .marks; strings = R .strings; tree = R .tree; end = R .end; stands = R .stands }
 
+  -- where some are left, the next one stands at the place
   pub ready-row : {A : Type 0} {f : Tree Expr (fields DeclaratorRow) → A} {P : List A → Type 0} {m left : ℕ} → Turn f P ws (at + 1) (payOf (getD ws at 0)) m left → 0 < left → RowAt DeclaratorRow ws (R .marks) (R .strings) m
   ready-row T h =
       let l = in-list ws (R .marks) (R .strings) (R .stands) in
       turn-row T h (l .there) (l .counted)
 
+  -- and its name is a name's number
   pub ready-name : {A : Type 0} {f : Tree Expr (fields DeclaratorRow) → A} {P : List A → Type 0} {m left : ℕ} → Turn f P ws (at + 1) (payOf (getD ws at 0)) m left → {v : Decl} → 0 < left → DeclIs ws m v → NameAt bytes ends (v .name)
   ready-name T {v} h K =
       let q = ready-row T h in
@@ -275,9 +287,11 @@ module _ {bytes ends ws : List ℕ} {at : ℕ} (R : Ready bytes ends ws at) wher
 abbrev sharesEach : List (Declarator Seen) → Sized
 sharesEach l N D = each (λ x. sharing x N D) l
 
+-- those before are shared, so many are left
 abbrev pub Sharing : (ws : List ℕ) (from total at left : ℕ) (s c : Counts) (b b′ : List ℕ) → Type 0
 Sharing ws from total at left s c b b′ = Turn decl (λ l. Rows (sharesEach l) s c b b′) ws from total at left
 
+-- none is shared, all are left
 pub share-start : (ws : List ℕ) (from total : ℕ) {s : Counts} {b : List ℕ} → s .rows * width ≤ length b → Sharing ws from total from total s s b b
 share-start ws from total {s} {b} fit = turn-start (λ l. Rows (sharesEach l) s s b b) (rows-each-none sharing fit) ws from total
 
@@ -289,12 +303,14 @@ shared-is {v} {x} I {w} q {s} {r} {b} {b′} G =
     subst (λ (n : ℕ). Rows (entering (dimSharedRow n (isSome (x .dimensions)))) s r b b′) (sym (I .name)) B
 
 module _ {ws : List ℕ} {from total m left : ℕ} {s c : Counts} {b b′ : List ℕ} (T : Sharing ws from total m left s c b b′) where
+  -- one more is shared
   pub share-next : {v : Decl} {w : ℕ} {r : Counts} {b″ : List ℕ} → 0 < left → DeclIs ws m v → w ≡ bit (v .array) → Rows (entering (rowOf 137 (v .name) (w ∷ 0 ∷ 0 ∷ 0 ∷ 0 ∷ []))) c r b′ b″
       → Sharing ws from total (v .next) (left - 1) s r b b″
   share-next {v} {w} {r} {b″} h K q F =
       turn-next T h (λ l. Rows (sharesEach l) s r b b″) (v .next)
       (λ ns n y end S. (K .is ns n y end S .1, λ l p. rows-each-next sharing l (decl y) p (shared-is (K .is ns n y end S .0) q F)))
 
+-- none is left: all are shared
 pub share-end : {ws : List ℕ} {at m left : ℕ} {s c : Counts} {b b′ : List ℕ} → Sharing ws (at + 1) (payOf (getD ws at 0)) m left s c b b′ → left ≤ 0 → SharesAll ws at s c b b′
 share-end {s = s} {c = c} {b = b} {b′ = b′} T z = record {
   does = λ ns n v end S.
@@ -303,10 +319,12 @@ share-end {s = s} {c = c} {b = b} {b′ = b′} T z = record {
 }
 
 module _ {ws : List ℕ} {scope line : ℕ} {shared : Bool} {at : ℕ} {s : Counts} {b d : List ℕ} (fit : Fit s (length b) (length d)) where
+  -- without SHARED nothing is done
   pub share-no : not shared ≡ true → Shares ws scope line shared at s s b d b d
   share-no e = record { does = λ bytes ends erased ns n v end S. when-no (λ N D. dimShared (given (some N) (some D) bytes ends erased) scope line (items declarator (over see v))) shared (not-true shared e) fit }
 
   module _ (e : not shared ≡ false) where
+    -- in a procedure it is 14
     pub share-inside : (scope ≡ 0 → ⊥) → {r : Counts} {d′ : List ℕ} → Notes (pushing (dimSharedInside line)) s r d d′ → Shares ws scope line shared at s r b d b d′
     unfolding dimShared pushing
     share-inside h F = record {
@@ -314,6 +332,7 @@ module _ {ws : List ℕ} {scope line : ℕ} {shared : Bool} {at : ℕ} {s : Coun
           when-yes shared (not-false shared e) (pick-no (λ N D. each (sharedAll (given (some N) (some D) bytes ends erased)) (items declarator (over see v))) (eqb scope 0) (ne-eqb scope 0 h) (notes-does F b (fit .0)));
     }
 
+    -- in the module all are shared
     pub share-module : scope ≡ 0 → {r : Counts} {b′ : List ℕ} → SharesAll ws at s r b b′ → Shares ws scope line shared at s r b d b′ d
     unfolding dimShared sharedAll
     share-module h F = record {

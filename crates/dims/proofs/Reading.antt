@@ -40,6 +40,7 @@ module _ {ws ns : List ℕ} {n at end : ℕ} where
   unfolding wordsT Right
   held S = record { wrote = S .wrote; valid = S .valid }
 
+-- an expression stands there
 pub some-expr : {ws : List ℕ} {at : ℕ} → SomeTree (row (expr & nil)) ws at → SomeExpr ws at
 some-expr {ws} {at} S = go (S .tree) (S .stands)
   where
@@ -50,6 +51,7 @@ some-expr {ws} {at} S = go (S .tree) (S .stands)
 abbrev Skips : (ws : List ℕ) (at m : ℕ) → Type 0
 Skips ws at m = (n : Strings) (e : Expr) (end : ℕ) → W.Stands ws n at e end → m ≡ end
 
+-- the row ends where its expression ends
 pub row-past : {ws : List ℕ} {at m : ℕ} → Skips ws at m → (ns : List ℕ) (n : ℕ) (r : Tree Expr (row (expr & nil))) (end : ℕ) → Stands ws ns n at r end → m ≡ end
 row-past F ns n (cons (value e) done) end S = F (strings ns n) e end (held (only (value e) S))
 
@@ -60,6 +62,7 @@ Passing ss ws from total at left = Turn {A = Tree Expr (row ss)} {ss = ss} (λ r
 -- ---- the dimensions: the word 0, or the count of a list
 
 module _ {ws : List ℕ} {at : ℕ} where
+  -- that word is within the words
   pub dims-inside : SomeTree (one (opt (exprs & nil))) ws at → at < length ws
   unfolding wordsT Right
   dims-inside S = go (S .tree) (S .stands)
@@ -68,6 +71,7 @@ module _ {ws : List ℕ} {at : ℕ} where
       go (this done) T = wrote-first (T .wrote) .inside
       go (that (part (cons (list rs) done))) T = wrote-first (T .wrote) .inside
 
+  -- it is 0: no array
   pub dims-absent : getD ws at 0 ≡ 0 → DimsIs ws at (record { array = false; rank = 0; next = at + 1 })
   unfolding wordsT Right optional over
   dims-absent z = record { is = go }
@@ -77,6 +81,7 @@ module _ {ws : List ℕ} {at : ℕ} where
       go ns n (this done) end T = (refl, refl, omega (arith, T .wrote .span))
       go ns n (that (part (cons (list rs) done))) end T = absurd (omega (arith, wrote-first (T .wrote) .is))
 
+  -- it is a count: so many expressions follow
   pub dims-rows : (getD ws at 0 ≡ 0 → ⊥) → SomeTree (one (opt (exprs & nil))) ws at → SomeRows (expr & nil) (payOf (getD ws at 0)) ws (at + 1)
   unfolding wordsT Right
   dims-rows z S = go (S .tree) (S .stands)
@@ -86,6 +91,7 @@ module _ {ws : List ℕ} {at : ℕ} where
       go (that (part (cons v done))) T =
           list-rows (record { names = S .names; strings = S .strings; tree = v; end = S .end; stands = only v (record { wrote = T .wrote; valid = T .valid }) })
 
+  -- an array with so many dimensions, which ends after them
   pub dims-present : (getD ws at 0 ≡ 0 → ⊥) → {m : ℕ}
       → ((ns : List ℕ) (n : ℕ) (rs : Tree Expr (rows (expr & nil))) (end : ℕ) → Stands ws ns n (at + 1) rs end → count rs ≡ payOf (getD ws at 0) → m ≡ end)
       → DimsIs ws at (record { array = true; rank = payOf (getD ws at 0); next = m })
@@ -115,6 +121,7 @@ kind-some (Field e x) = lit< tt
 kind-some (Paren e) = lit< tt
 
 module _ {ws : List ℕ} {at : ℕ} where
+  -- that word is within the words
   pub lower-inside : SomeTree (row (opt (expr & nil) & nil)) ws at → at < length ws
   unfolding wordsT Right
   lower-inside S = go (S .tree) (S .stands)
@@ -125,6 +132,7 @@ module _ {ws : List ℕ} {at : ℕ} where
           let w = within (record { wrote = rw (append-nil (words e), append-nil (words e)) at (T .wrote); valid = T .valid .0 .0 }) in
           omega (arith, w .moves, w .inside)
 
+  -- it is 0: no bound
   pub lower-absent : getD ws at 0 ≡ 0 → LowerIs ws at (record { there = false; next = at + 1 })
   unfolding wordsT Right optional lower over
   lower-absent z = record { is = go }
@@ -135,6 +143,7 @@ module _ {ws : List ℕ} {at : ℕ} where
           let w : W.Stands ws (strings ns n) at e end = record { wrote = rw (append-nil (words e), append-nil (words e)) at (T .wrote); valid = T .valid .0 .0 } in
           absurd (omega (arith, kind-some e, kind-of w, ap kindOf z))
 
+  -- it isn't: an expression stands there
   pub lower-expr : (getD ws at 0 ≡ 0 → ⊥) → SomeTree (row (opt (expr & nil) & nil)) ws at → SomeExpr ws at
   unfolding wordsT Right
   lower-expr z S = go (S .tree) (S .stands)
@@ -144,6 +153,7 @@ module _ {ws : List ℕ} {at : ℕ} where
       go (cons (that (part (cons (value e) done))) done) T =
           record { strings = strings (S .names) (S .strings); expr = e; end = S .end; stands = record { wrote = rw (append-nil (words e), append-nil (words e)) at (T .wrote); valid = T .valid .0 .0 } }
 
+  -- a bound, which ends after it
   pub lower-present : (getD ws at 0 ≡ 0 → ⊥) → {m : ℕ} → Skips ws at m → LowerIs ws at (record { there = true; next = m })
   unfolding wordsT Right optional lower over
   lower-present z {m} F = record { is = go }
@@ -155,6 +165,7 @@ module _ {ws : List ℕ} {at : ℕ} where
 
 -- ---- the list of lower bounds
 
+-- a lower bound as collecting sees it
 abbrev pub low : Tree Expr (row (opt (expr & nil) & nil)) → Option Seen
 low r = lower (over see r)
 
@@ -171,15 +182,18 @@ any-snoc (y ∷ ys) x = go (isSome y) (any-snoc ys x)
 abbrev pub Lowering : (ws : List ℕ) (from total left : ℕ) → Bound → Type 0
 Lowering ws from total left any = Turn low (λ l. anySome l ≡ any .there) ws from total (any .next) left
 
+-- none was read, all are left
 pub low-start : (ws : List ℕ) (from total : ℕ) → Lowering ws from total total (record { there = false; next = from })
 unfolding anySome
 low-start ws from total = turn-start (λ l. anySome l ≡ false) refl ws from total
 
+-- one more was read
 pub low-next : {ws : List ℕ} {from total left : ℕ} {any o : Bound} {t : Bool} → Lowering ws from total left any → 0 < left → LowerIs ws (any .next) o → t ≡ (any .there || o .there)
     → Lowering ws from total (left - 1) (record { there = t; next = o .next })
 low-next {any = any} {o = o} {t = t} T h L e =
     turn-next T h (λ l. anySome l ≡ t) (o .next) (λ ns n r end S. (L .is ns n r end S .1, λ l p. any-snoc l (low r) ∙ ap (λ (x : Bool). x || isSome (low r)) p ∙ ap (λ (x : Bool). any .there || x) (L .is ns n r end S .0) ∙ sym e))
 
+-- none is left: all were read
 pub low-end : {ws : List ℕ} {at left : ℕ} {any : Bound} → Lowering ws (at + 1) (payOf (getD ws at 0)) left any → left ≤ 0 → LowersIs ws at any
 low-end {ws} {at} {left} {any} T z = record {
   is = λ ns n v end S.
@@ -189,6 +203,7 @@ low-end {ws} {at} {left} {any} T z = record {
 
 -- ---- a declarator: its name, the dimensions, the lower bounds, the type
 
+-- its parts, where the words have them
 pub record InDecl (ws ns : List ℕ) (n at : ℕ) (v : Tree Expr (row DeclaratorRow)) (end : ℕ) : Type 0 where
   pub name : ℕ
   pub dims : Tree Expr (one (opt (exprs & nil)))
@@ -204,6 +219,7 @@ pub record InDecl (ws ns : List ℕ) (n at : ℕ) (v : Tree Expr (row Declarator
   pub third : Stands ws ns n last type end
   pub is : v ≡ cons (word name) (cons dims (cons lows (cons type done)))
 
+-- what stands there, part by part
 pub in-decl : {ws ns : List ℕ} {n at end : ℕ} (v : Tree Expr (row DeclaratorRow)) → Stands ws ns n at v end → InDecl ws ns n at v end
 unfolding wordsT Right
 in-decl {ws} {ns} {n} {at} {end} (cons (word x) (cons ds (cons ls (cons t done)))) S =
@@ -230,17 +246,21 @@ module _ {ws : List ℕ} {at : ℕ} (S : SomeTree (row DeclaratorRow) ws at) whe
   here : InDecl ws (S .names) (S .strings) at (S .tree) (S .end)
   here = in-decl (S .tree) (S .stands)
 
+  -- its name is within the words
   pub decl-inside : at < length ws
   decl-inside = here .inside
 
+  -- its dimensions stand after the name
   pub decl-dims : SomeTree (one (opt (exprs & nil))) ws (at + 1)
   decl-dims = record { names = S .names; strings = S .strings; tree = here .dims; end = here .mid; stands = here .first }
 
+  -- its lower bounds after them
   pub decl-lows : {d : Ranked} → DimsIs ws (at + 1) d → SomeTree (one (many (opt (expr & nil) & nil))) ws (d .next)
   decl-lows {d} D =
       let e = D .is (S .names) (S .strings) (here .dims) (here .mid) (here .first) .2 in
       record { names = S .names; strings = S .strings; tree = here .lows; end = here .last; stands = subst (λ (m : ℕ). Stands ws (S .names) (S .strings) m (here .lows) (here .last)) (sym e) (here .second) }
 
+  -- its type after these
   pub decl-type : {d : Ranked} {l : Bound} → DimsIs ws (at + 1) d → LowersIs ws (d .next) l → SomeTree (one (opt (TypeSort & nil))) ws (l .next)
   decl-type {d} {l} D L =
       let T = decl-lows D in
@@ -272,5 +292,6 @@ decl-is {ws} {at} {d} {l} {t} D L T = record { is = by; small = (omega arith, T 
 
 -- ---- a list of declarators that is only passed
 
+-- it ends at the place past it
 pub decl-past : {ws : List ℕ} {at : ℕ} {r : Decl} → DeclIs ws at r → (ns : List ℕ) (n : ℕ) (v : Tree Expr (row DeclaratorRow)) (end : ℕ) → Stands ws ns n at v end → r .next ≡ end
 decl-past D ns n v end S = D .is ns n v end S .1

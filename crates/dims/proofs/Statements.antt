@@ -75,9 +75,11 @@ begun {ws = ws} R S =
     }
 
 module _ {bytes ends ws : List ℕ} {at : ℕ} where
+  -- of a DIM
   pub dim-begun : ReadyStmt dimKind bytes ends ws at → Begun bytes ends ws at
   dim-begun R = begun R (dim-seen (R .any .stmt .fields) (R .any .stmt .stands))
 
+  -- of a REDIM
   pub redim-begun : ReadyStmt redimKind bytes ends ws at → Begun bytes ends ws at
   redim-begun R = begun R (redim-seen (R .any .stmt .fields) (R .any .stmt .stands))
 
@@ -96,6 +98,7 @@ seen-does {ws} bytes ends erased scope {at} {p} {s} {r} {b} {d} {b′} {d′} P 
     (subst (λ (l : ℕ). Does (λ N D. statement (given (some N) (some D) bytes ends erased) scope l (made (items declarator (over see (S .list))) (eqb (payOf (getD ws p 0)) 1))) s r b d b′ d′) (L .line-is) F)
 
 module _ {ws bytes ends erased : List ℕ} {scope at p : ℕ} {s r : Counts} {b d b′ d′ : List ℕ} (P : Past ws (at + 1) p) where
+  -- DIM: SHARED, then each declarator
   pub dim-does : {t : Counts} {b₁ d₁ : List ℕ} → Shares ws scope (payOf (getD ws at 0)) (eqb (payOf (getD ws p 0)) 1) (at + 1) s t b d b₁ d₁
       → DeclaresAll ws bytes ends erased scope (payOf (getD ws at 0)) false false (at + 1) t r b₁ d₁ b′ d′
       → (ns : List ℕ) (n : ℕ) → Collects ns n dimKind ws bytes ends erased scope at s r b d b′ d′
@@ -107,6 +110,7 @@ module _ {ws bytes ends erased : List ℕ} {scope at p : ℕ} {s r : Counts} {b 
         seen-does bytes ends erased scope P q (then (F .does bytes ends erased ns n (q .list) (L .mid) (L .there)) (G .does ns n (q .list) (L .mid) (L .there)));
   }
 
+  -- REDIM: each declarator, by its PRESERVE flag
   pub redim-does : DeclaresAll ws bytes ends erased scope (payOf (getD ws at 0)) true (eqb (payOf (getD ws p 0)) 1) (at + 1) s r b d b′ d′
       → (ns : List ℕ) (n : ℕ) → Collects ns n redimKind ws bytes ends erased scope at s r b d b′ d′
   unfolding statement redim

@@ -35,14 +35,17 @@ abbrev pub rankOf : Option (List Seen) → ℕ
 rankOf none = 0
 rankOf (some dims) = length dims
 
+-- what the code reads of the dimensions is so of whatever option stands there
 pub record DimsIs (ws : List ℕ) (at : ℕ) (r : Ranked) : Type 0 where
   pub is : (ns : List ℕ) (n : ℕ) (v : Tree Expr (one (opt (exprs & nil)))) (end : ℕ) → Stands ws ns n at v end
       → (isSome (optional expressions (over see v)) ≡ r .array) × (rankOf (optional expressions (over see v)) ≡ r .rank) × (r .next ≡ end)
 
+-- the same of a lower bound
 pub record LowerIs (ws : List ℕ) (at : ℕ) (r : Bound) : Type 0 where
   pub is : (ns : List ℕ) (n : ℕ) (v : Tree Expr (row (opt (expr & nil) & nil))) (end : ℕ) → Stands ws ns n at v end
       → (isSome (lower (over see v)) ≡ r .there) × (r .next ≡ end)
 
+-- and of the list of them: whether one is there
 pub record LowersIs (ws : List ℕ) (at : ℕ) (r : Bound) : Type 0 where
   pub is : (ns : List ℕ) (n : ℕ) (v : Tree Expr (one (many (opt (expr & nil) & nil)))) (end : ℕ) → Stands ws ns n at v end
       → (anySome (items lower (over see v)) ≡ r .there) × (r .next ≡ end)
@@ -56,9 +59,11 @@ pub record Is (v : Decl) (x : Declarator Seen) : Type 0 where
   pub head : headOf (x .ty) ≡ v .head
   pub arg : argOf (x .ty) ≡ v .arg
 
+-- its name and its type's argument are payloads
 abbrev pub Small : Decl → Type 0
 Small v = (v .name < 16777216) × (v .arg < 16777216)
 
+-- what the code reads of a declarator is so of whatever stands there, its name is a name's, and its numbers are payloads
 pub record DeclIs (ws : List ℕ) (at : ℕ) (r : Decl) : Type 0 where
   pub is : (ns : List ℕ) (n : ℕ) (v : Tree Expr (row DeclaratorRow)) (end : ℕ) → Stands ws ns n at v end
       → Is r (declarator (over see v)) × (r .next ≡ end) × (eqb (getD ns (r .name) 0) 1 ≡ true)
@@ -80,6 +85,7 @@ pub record ReadyStmt (k : Kind) (bytes ends ws : List ℕ) (at : ℕ) : Type 0 w
 
 -- ---- what is asked
 
+-- whether a type that is no record is another one than the name's suffix, if it has one, says
 abbrev pub Contradicts : (bytes ends : List ℕ) (name head : ℕ) → Bool → Type 0
 Contradicts bytes ends name h r = (ty : TypeRef) → h ≡ head ty → r ≡ (not (isRecord ty) && disagrees (lastOf (stringAt bytes ends name)) ty)
 
@@ -100,25 +106,30 @@ clashOf erased is-redim preserve name rank old =
 
 -- ---- what is done, whatever declarator the code's is
 
+-- the definition's step for a declarator, in buffers of so many words
 abbrev pub declares : (bytes ends erased : List ℕ) (scope line : ℕ) (is-redim preserve : Bool) → Declarator Seen → Sized
 declares bytes ends erased scope line is-redim preserve x N D = declared (given (some N) (some D) bytes ends erased) scope line is-redim preserve x
 
+-- its type declared
 pub record DeclaresType (bytes ends : List ℕ) (scope line : ℕ) (is-redim : Bool) (v : Decl) (s r : Counts) (b d b′ d′ : List ℕ) : Type 0 where
   pub fit : Fit r (length b′) (length d′)
   pub does : (erased : List ℕ) (x : Declarator Seen) → Is v x
       → Does (λ N D. declaredAs (given (some N) (some D) bytes ends erased) scope line is-redim (x .name) (x .ty)) s r b d b′ d′
 
+-- its dimensions declared
 pub record DeclaresArray (erased : List ℕ) (scope line : ℕ) (is-redim preserve : Bool) (v : Decl) (s r : Counts) (b d b′ d′ : List ℕ) : Type 0 where
   pub fit : Fit r (length b′) (length d′)
   pub does : (bytes ends : List ℕ) (x : Declarator Seen) → Is v x
       → Does (λ N D. declaredArray (given (some N) (some D) bytes ends erased) scope line is-redim preserve (x .name) (x .lowers) (x .dimensions)) s r b d b′ d′
 
+-- both
 pub record Declares (bytes ends erased : List ℕ) (scope line : ℕ) (is-redim preserve : Bool) (v : Decl) (s r : Counts) (b d b′ d′ : List ℕ) : Type 0 where
   pub fit : Fit r (length b′) (length d′)
   pub does : (x : Declarator Seen) → Is v x → Does (declares bytes ends erased scope line is-redim preserve x) s r b d b′ d′
 
 -- ---- and for a list of them
 
+-- all of the list that stands there declared
 pub record DeclaresAll (ws bytes ends erased : List ℕ) (scope line : ℕ) (is-redim preserve : Bool) (at : ℕ) (s r : Counts) (b d b′ d′ : List ℕ) : Type 0 where
   pub does : (ns : List ℕ) (n : ℕ) (v : Tree Expr (one (many DeclaratorRow))) (end : ℕ) → Stands ws ns n at v end
       → Does (λ N D. each (λ x. declares bytes ends erased scope line is-redim preserve x N D) (items declarator (over see v))) s r b d b′ d′
@@ -127,10 +138,12 @@ pub record DeclaresAll (ws bytes ends erased : List ℕ) (scope line : ℕ) (is-
 abbrev pub sharing : Declarator Seen → Sized
 sharing x N D = enter (some N) (dimSharedRow (x .name) (isSome (x .dimensions)))
 
+-- all of the list that stands there shared
 pub record SharesAll (ws : List ℕ) (at : ℕ) (s r : Counts) (b b′ : List ℕ) : Type 0 where
   pub does : (ns : List ℕ) (n : ℕ) (v : Tree Expr (one (many DeclaratorRow))) (end : ℕ) → Stands ws ns n at v end
       → Rows (λ N D. each (λ x. sharing x N D) (items declarator (over see v))) s r b b′
 
+-- the same where the statement says SHARED
 pub record Shares (ws : List ℕ) (scope line : ℕ) (shared : Bool) (at : ℕ) (s r : Counts) (b d b′ d′ : List ℕ) : Type 0 where
   pub does : (bytes ends erased ns : List ℕ) (n : ℕ) (v : Tree Expr (one (many DeclaratorRow))) (end : ℕ) → Stands ws ns n at v end
       → Does (λ N D. when shared (dimShared (given (some N) (some D) bytes ends erased) scope line (items declarator (over see v)))) s r b d b′ d′

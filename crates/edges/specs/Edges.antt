@@ -32,24 +32,31 @@ use Rattle.edges.specs.Written.{integer, long, single, float, text, name
 abbrev pub marks : List ℕ
 marks = 1 ∷ 1 ∷ 1 ∷ 1 ∷ 1 ∷ 1 ∷ []
 
+-- the number of the CONST
 abbrev pub K : ℕ
 K = 0
 
+-- of the unknown name
 abbrev pub U : ℕ
 U = 1
 
+-- of the array
 abbrev pub A : ℕ
 A = 2
 
+-- of the procedure
 abbrev pub F : ℕ
 F = 3
 
+-- of the array that is a procedure too
 abbrev pub P : ℕ
 P = 4
 
+-- of the parameter
 abbrev pub X : ℕ
 X = 5
 
+-- the lent rows that say so
 abbrev pub lent : List ℕ
 lent = constRow K 25 0x80000000 0 ++ (arrayRow A 0 1 1 false ++ (arrayRow P 0 1 1 false ++ (procRow F true 1 0 0 ++ (procRow P true 2 0 0 ++ paramRow F 0 X false false 0 0))))
 
@@ -58,6 +65,7 @@ pub data Edge : Type 0 where
   folds : (words : List ℕ) → Outcome → Edge
   resolves : (words resolved : List ℕ) → Edge
 
+-- what either entry gives
 pub data Result : Type 0 where
   folded : Past → Result
   wrote : Written → Result
@@ -72,6 +80,7 @@ abbrev pub wanted : Edge → Told Result
 wanted (folds words o) = gives (folded (record { outcome = o; end = length words }))
 wanted (resolves words w) = gives (wrote (record { words′ = w; end = length words }))
 
+-- document 01's
 abbrev pub starred : List Edge
 starred =
     -- 30000 + 2767; 30000 + 2768
@@ -95,6 +104,7 @@ starred =
     -- by-reference F(((X)))
     resolves (call F 1 (paren (paren (name X)))) (call F 1 (paren (name X))) ∷ []
 
+-- the others
 abbrev pub asked : List Edge
 asked =
     -- Long 16777217 + Single 1: added in 64 bits, then narrowed
@@ -151,6 +161,7 @@ asked =
 abbrev pub edges : List Edge
 edges = starred ++ asked
 
+-- a function of each edge
 abbrev pub each : (Edge → Told Result) → List Edge → List (Told Result)
 each f [] = []
 each f (e ∷ es) = f e ∷ each f es

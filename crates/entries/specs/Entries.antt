@@ -65,6 +65,7 @@ dimSharedRow name array = row 137 name (bit array ∷ [])
 abbrev pub sharedRow : (name scope mark : ℕ) → Row
 sharedRow name scope mark = row 138 name (scope ∷ mark ∷ [])
 
+-- 139: the same of STATIC
 abbrev pub staticRow : (name scope mark : ℕ) → Row
 staticRow name scope mark = row 139 name (scope ∷ mark ∷ [])
 
@@ -88,9 +89,11 @@ optionBaseRow value = row 143 0 (0 ∷ value ∷ [])
 abbrev pub replaceUnder : (kind name : ℕ) → List Row → List Row → List Row
 replaceUnder kind name new rows = replace (entryKey kind name 0) (entryKey kind (name + 1) 0) new rows
 
+-- a TYPE's row and its fields' rows in the place of its old fields
 abbrev pub replaceType : (name : ℕ) → List Row → List Row → List Row
 replaceType name new rows = replaceUnder 131 name new rows
 
+-- a procedure's row and its parameters' rows in the place of its old parameters
 abbrev pub replaceProc : (name : ℕ) → List Row → List Row → List Row
 replaceProc name new rows = replaceUnder 136 name new rows
 

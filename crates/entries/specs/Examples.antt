@@ -10,6 +10,7 @@ use Rattle.entries.specs.Entries.{lineRow, labelRow, typeRow, fieldRow, 
 pub six : ℕ → ℕ → ℕ → ℕ → ℕ → ℕ → Row
 six a b c d e f = a ∷ b ∷ c ∷ d ∷ e ∷ f ∷ zeros (width - 6)
 
+-- the rows as `Entries.antt` builds them
 pub built : List Row
 built =
     lineRow 10 0 ∷
@@ -33,6 +34,7 @@ built =
     unrankedRow 7 3 ∷
     optionBaseRow 1 ∷ []
 
+-- the same rows as words, written from document 01
 pub written : List Row
 written =
     six 0x8000000a 0 0 0 0 0 ∷
@@ -56,6 +58,7 @@ written =
     six 0x8e000007 3 0 0 0 0 ∷
     six 0x8f000000 0 1 0 0 0 ∷ []
 
+-- both are the same words
 pub rows-as-written : built ≡ written
 unfolding built written six
 rows-as-written = refl

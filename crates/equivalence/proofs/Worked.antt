@@ -30,6 +30,7 @@ use Rattle.equivalence.specs.Analysis.{Analysis, resultOf, analysis}
 abbrev pub bytes : List ℕ
 bytes = 65 ∷ 88 ∷ []
 
+-- their ends
 abbrev pub ends : List ℕ
 ends = 1 ∷ 2 ∷ []
 
@@ -45,6 +46,7 @@ pub record Printed : Type 0 where
   pub rows : List Row
   pub resolved : List ℕ
 
+-- of what was told; nothing of a refusal
 abbrev pub printed : Told Analysis → Option Printed
 printed (stops n p) = absent
 printed (gives a) = some (record { notes = a .diagnostics; rows = a .rows; resolved = a .resolved })

@@ -27,6 +27,7 @@ use Rattle.equivalence.specs.AnalysisLaws.{known, accepts}
 
 -- ---- the numbers
 
+-- the six numbers
 pub data Hinders : ℕ → Type 0 where
   size : Hinders 5
   strings : Hinders 1
@@ -65,6 +66,7 @@ unfolding resultOf Only
 only-result p _ runs = tt
 only-result p _ nine = type-words
 
+-- without limits no other number is given
 pub numbers : (at : ℕ) (bytes ends names words : List ℕ) → Only (analysis none none at bytes ends names words)
 unfolding analysis entryOf acceptedOf programOf Only
 numbers at bytes ends names words =

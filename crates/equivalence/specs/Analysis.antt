@@ -16,6 +16,7 @@ use Rattle.collect.specs.Collect.{given, analysed}
 use Rattle.resolve.specs.FromRows.{tablesOf}
 use Rattle.resolve.specs.Resolve.{resolveArrayAccesses}
 
+-- the tree, the rows, the diagnostics and the resolved words
 pub record Analysis : Type 0 where
   pub tree : Program
   pub rows : List Row

@@ -43,6 +43,7 @@ pub record Reads (bytes ends words : List ℕ) (p : Program) : Type 0 where
 all-there : (xs : List ℕ) → Wrote xs 0 xs (length xs)
 all-there xs = record { span = omega arith; inside = omega arith; is = sym (append-nil xs) ∙ ap (λ (l : List ℕ). xs ++ l) (sym (drop-length xs)) }
 
+-- a program that was read is such a tree
 pub reads : (bytes ends words : List ℕ) (p : Program) → programOf (namesOf bytes ends) words ≡ gives p → Reads bytes ends words p
 reads bytes ends words p e =
     let f = program-whole (namesOf bytes ends) words p e in
@@ -64,6 +65,7 @@ unique bytes ends p q r s e =
 
 -- ---- what is known of an accepted program
 
+-- it passed each check, and each part is what its pass gave
 pub record Known (rows notes : Option ℕ) (bytes ends erased words : List ℕ) (a : Analysis) : Type 0 where
   pub sized : sizedProgram bytes ends words erased ≡ true
   pub strings : sound bytes ends ≡ true
@@ -72,6 +74,7 @@ pub record Known (rows notes : Option ℕ) (bytes ends erased words : List ℕ) 
   pub ran : analysed (given rows notes bytes ends erased) (a .tree) ≡ running (a .rows) (a .diagnostics)
   pub is : a .resolved ≡ resolvedUnder (a .rows) (a .tree)
 
+-- what came out of the run, and of resolving under its rows
 pub record Ran (p : Program) (s : State) (a : Analysis) : Type 0 where
   pub tree : a .tree ≡ p
   pub ran : s ≡ running (a .rows) (a .diagnostics)
@@ -85,6 +88,7 @@ result-gives p (running rows notes) a e =
     subst (λ (b : Analysis). Ran p (running rows notes) b) q (record { tree = refl; ran = refl; is = refl })
 result-gives p (stopped n) a e = absurd (stops-gives e)
 
+-- each part of it, from its being given no number
 pub known : (rows notes : Option ℕ) (at : ℕ) (bytes ends erased words : List ℕ) (a : Analysis) → analysis rows notes at bytes ends erased words ≡ gives a → Known rows notes bytes ends erased words a
 unfolding analysis entryOf acceptedOf
 known rows notes at bytes ends erased words a e =

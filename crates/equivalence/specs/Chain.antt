@@ -1,13 +1,16 @@
 -- Lists of steps, perhaps empty: the reflexive and transitive closure of a relation. Assumes nothing.
 use mathlib.Core.Path.{_≡_, refl, subst, _∙_}
 
+-- steps of R from one end to the other
 pub data Chain {A : Type 0} (R : A → A → Type 0) : A → A → Type 0 where
   empty : {a : A} → Chain R a a
   more : {a b c : A} → R a b → Chain R b c → Chain R a c
 
+-- a list of one step
 pub single : {A : Type 0} {R : A → A → Type 0} {a b : A} → R a b → Chain R a b
 single r = more r empty
 
+-- one list after another
 pub then : {A : Type 0} {R : A → A → Type 0} {a b c : A} → Chain R a b → Chain R b c → Chain R a c
 then empty t = t
 then (more r s) t = more r (then s t)

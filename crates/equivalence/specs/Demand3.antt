@@ -29,10 +29,12 @@ pub record Agree (bytes ends : List ℕ) (first second : Analysis) : Type 0 wher
   pub first-again : (at : ℕ) → resolution (first .rows) at bytes ends (first .resolved) ≡ gives (first .resolved)
   pub second-again : (at : ℕ) → resolution (first .rows) at bytes ends (second .resolved) ≡ gives (second .resolved)
 
+-- both sentences of the demand
 pub record Demand3 (bytes ends : List ℕ) (first second : Analysis) : Type 0 where
   pub exactly : (first .resolved ≡ second .resolved) ↔ Steps (first .rows) (first .tree) (second .tree)
   pub whenever : first .resolved ≡ second .resolved → Agree bytes ends first second
 
+-- the demand: of any two programs that are accepted with the same strings and erased names
 pub demand-3 : (bytes ends erased words words′ : List ℕ) (first second : Analysis) → Accepted bytes ends erased words first → Accepted bytes ends erased words′ second → Demand3 bytes ends first second
 demand-3 bytes ends erased words words′ first second a b =
     let k = known-of bytes ends erased words first a in

@@ -69,6 +69,7 @@ blind G rows rows′ p q e =
 
 -- ---- on accepted programs
 
+-- an accepted program, part by part
 pub known-of : (bytes ends erased words : List ℕ) (a : Analysis) → Accepted bytes ends erased words a → Known none none bytes ends erased words a
 known-of bytes ends erased words a h = known none none 0 bytes ends erased words a h
 
@@ -91,9 +92,11 @@ module _ {bytes ends erased words words′ : List ℕ} {first second : Analysis}
   equal-trees : first .resolved ≡ second .resolved → resolve (first .rows) (first .tree) ≡ resolve (second .rows) (second .tree)
   equal-trees e = unique bytes ends _ _ (resolved-right k) (resolved-right l) (sym (resolved-is k) ∙ e ∙ resolved-is l)
 
+  -- equal resolved words: equal tables
   pub same-rows : first .resolved ≡ second .resolved → first .rows ≡ second .rows
   same-rows e = from-run (blind (given none none bytes ends erased) (first .rows) (second .rows) (first .tree) (second .tree) (equal-trees e)) .0
 
+  -- and equal diagnostics
   pub same-diagnostics : first .resolved ≡ second .resolved → first .diagnostics ≡ second .diagnostics
   same-diagnostics e = from-run (blind (given none none bytes ends erased) (first .rows) (second .rows) (first .tree) (second .tree) (equal-trees e)) .1
 
@@ -106,6 +109,7 @@ module _ {bytes ends erased words words′ : List ℕ} {first second : Analysis}
       let r = from-run (blind (given none none bytes ends erased) (first .rows) (first .rows) (first .tree) (second .tree) e) .0 in
       resolved-is k ∙ ap (λ (p : Program). wordsT p) (e ∙ ap (λ (rs : List Row). resolve rs (second .tree)) r) ∙ sym (resolved-is l)
 
+  -- the resolved words are equal exactly when steps lead from the one tree to the other, under the first one's tables
   pub exactly-so : (first .resolved ≡ second .resolved) ↔ Steps (first .rows) (first .tree) (second .tree)
   exactly-so = (to-steps, to-equal)
 
@@ -137,6 +141,7 @@ read-again {bytes = bytes} {ends = ends} {erased = erased} {words = words} {a = 
     let s = sized-shorter bytes ends words (wordsT (resolveTree T 0 nowhere (a .tree))) erased h (k .sized) in
     record { sized-tree = s .0; sized = s .1; read = read-back bytes ends _ (resolved-right k) d; is = ap (λ (p : Program). wordsT p) (twice (a .rows) (a .tree)) }
 
+-- the resolved words, read and resolved again under the rows, give themselves
 pub again : {rows notes : Option ℕ} {bytes ends erased words : List ℕ} {a : Analysis} → Known rows notes bytes ends erased words a → (at : ℕ) → resolution (a .rows) at bytes ends (a .resolved) ≡ gives (a .resolved)
 unfolding resolution entryOf unless after
 again k at = let g = read-again k in rw (resolved-is k, g .sized-tree, k .strings, g .read) (ap gives (g .is))

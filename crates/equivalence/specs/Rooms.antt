@@ -42,6 +42,7 @@ pub record Keeps (F : ℕ → ℕ → Step) (F₀ : Step) : Type 0 where
   pub on : (S : ℕ → ℕ → State) (t : State) → Meets S t → Meets (λ r d. F r d (S r d)) (F₀ t)
 
 module _ {S : ℕ → ℕ → State} {t : State} (m : Meets S t) where
+  -- buffers of any length: the same as without limits, or one was too short
   pub full : (r d : ℕ) → (S r d ≡ t) ⊎ Full (S r d)
   full r d = elim (m .wider r d) [ inl w ↦ inl (w r d (omega arith) (omega arith)) | inr f ↦ inr f ]
 
@@ -51,6 +52,7 @@ module _ {S : ℕ → ℕ → State} {t : State} (m : Meets S t) where
 
 -- ---- how to show it
 
+-- a running state that is the same whatever the rooms
 pub constant : (rows notes : List Row) → Meets (λ r d. running rows notes) (running rows notes)
 constant rows notes = record { free = runs; enough = 0; long = λ r d h i. refl; wider = λ r d. inl (λ R D h i. refl) }
 
@@ -83,6 +85,7 @@ module _ (F : ℕ → ℕ → Step) (F₀ : Step) (still : (r d n : ℕ) → F r
         wider = λ r d. elim (m .wider r d) [ inl w ↦ inl (λ R D h i. rw (w R D h i, still R D 9, still₀ 9) refl) | inr f ↦ inr (stays r d (S r d) f) ];
       }
 
+  -- the step keeps the three facts
   pub pointwise : Keeps F F₀
   pointwise = record { on = λ S t m. from-free S t (m .free) m }
 
@@ -97,6 +100,7 @@ roomed {S} {t} n fit not-fit r = go (leb n r) refl
     go true q = let h : n ≤ r = leb-true n r q in inl (λ R i. fit R (omega arith))
     go false q = inr (not-fit r q)
 
+-- pushing a diagnostic keeps them
 pub push-k : (row : Row) → Keeps (λ r d. push (some d) row) (push none row)
 unfolding push fits
 push-k row = pointwise (λ r d. push (some d) row) (push none row) (λ r d n. refl) (λ n. refl) go
@@ -113,6 +117,7 @@ push-k row = pointwise (λ r d. push (some d) row) (push none row) (λ r d n. re
           wider = λ r d. elim (roomed n fit full d) [ inl w ↦ inl (λ R D h i. w D i) | inr f ↦ inr f ];
         }
 
+-- so does changing the rows
 pub change-k : (f : List Row → List Row) → Keeps (λ r d. change (some r) f) (change none f)
 unfolding change fits
 change-k f = pointwise (λ r d. change (some r) f) (change none f) (λ r d n. refl) (λ n. refl) go
@@ -129,29 +134,36 @@ change-k f = pointwise (λ r d. change (some r) f) (change none f) (λ r d n. re
           wider = λ r d. elim (roomed n fit full r) [ inl w ↦ inl (λ R D h i. w R h) | inr f ↦ inr f ];
         }
 
+-- doing nothing
 pub nothing-k : Keeps (λ r d s. s) (λ s. s)
 nothing-k = record { on = λ S t m. m }
 
+-- stopping with 9
 pub stop-k : Keeps (λ r d. stop 9) (stop 9)
 unfolding stop
 stop-k = pointwise (λ r d. stop 9) (stop 9) (λ r d n. refl) (λ n. refl) (λ rows notes. record { free = nine; enough = 0; long = λ r d h i. refl; wider = λ r d. inl (λ R D h i. refl) })
 
 module _ {F H : ℕ → ℕ → Step} {F₀ H₀ : Step} (f : Keeps F F₀) (h : Keeps H H₀) where
+  -- two steps that keep them, in turn
   pub then-k : Keeps (λ r d s. H r d (F r d s)) (λ s. H₀ (F₀ s))
   then-k = record { on = λ S t m. h .on (λ r d. F r d (S r d)) (F₀ t) (f .on S t m) }
 
+  -- the one of two such steps that a test picks
   pub pick-k : (b : Bool) → Keeps (λ r d. pick b (F r d) (H r d)) (pick b F₀ H₀)
   pick-k true = f
   pick-k false = h
 
+-- such a step under a test
 pub when-k : {F : ℕ → ℕ → Step} {F₀ : Step} (b : Bool) → Keeps F F₀ → Keeps (λ r d. when b (F r d)) (when b F₀)
 when-k true f = f
 when-k false f = nothing-k
 
+-- a step that the rows decide, where each that they may choose keeps them
 pub asking-k : {F : ℕ → ℕ → List Row → Step} {F₀ : List Row → Step} → ((rows : List Row) → Keeps (λ r d. F r d rows) (F₀ rows)) → Keeps (λ r d. asking (F r d)) (asking F₀)
 unfolding asking
 asking-k {F} {F₀} f = pointwise (λ r d. asking (F r d)) (asking F₀) (λ r d n. refl) (λ n. refl) (λ rows notes. f rows .on (λ r d. running rows notes) (running rows notes) (constant rows notes))
 
+-- such a step for each of a list
 pub each-k : {A : Type 0} {F : ℕ → ℕ → A → Step} {F₀ : A → Step} → ((x : A) → Keeps (λ r d. F r d x) (F₀ x)) → (xs : List A) → Keeps (λ r d. each (F r d) xs) (each F₀ xs)
 unfolding each
 each-k f [] = nothing-k

@@ -58,5 +58,6 @@ pub data Step (T : Tables) : ℕ → Places → (i : Shape) → Tree Expr i → 
 abbrev pub StepP : List Row → Program → Program → Type 0
 StepP rs p q = Step (tablesOf rs) 0 nowhere (one (many (stmt & nil))) p q
 
+-- the list of steps
 abbrev pub Steps : List Row → Program → Program → Type 0
 Steps rs p q = Chain (StepP rs) p q

@@ -25,6 +25,7 @@ no-places T σ f h = fun-ext (λ i. go (T .procedure f) h i)
 -- ---- expressions
 
 mutual
+  -- a step in an expression can be undone
   pub undoE : {T : Tables} {σ : ℕ} {k : Bool} {e d : Expr} → StepE T σ k e d → StepE T σ k d e
   undoE put = take
   undoE take = put
@@ -38,6 +39,7 @@ mutual
   undoE (in-field s) = in-field (undoE s)
   undoE (in-paren s) = in-paren (undoE s)
 
+  -- so can one in a list
   pub undoL : {T : Tables} {σ : ℕ} {m : Places} {es ds : Exprs} → StepL T σ m es ds → StepL T σ m ds es
   undoL (here s) = here (undoE s)
   undoL (there s) = there (undoL s)
@@ -45,6 +47,7 @@ mutual
 mutual
   unfolding resE resL keep called
 
+  -- a step leaves what resolving makes of an expression
   pub stepE : {T : Tables} {σ : ℕ} {k : Bool} {e d : Expr} → StepE T σ k e d → resE T σ k e ≡ resE T σ k d
   stepE put = refl
   stepE take = refl
@@ -58,6 +61,7 @@ mutual
   stepE (in-field {n = n} s) = ap (λ x. Field x n) (stepE s)
   stepE {k} (in-paren s) = ap (keep k) (stepE s)
 
+  -- and what it makes of a list
   pub stepL : {T : Tables} {σ : ℕ} {m : Places} {es ds : Exprs} → StepL T σ m es ds → resL T σ m es ≡ resL T σ m ds
   stepL {T} {σ} {m} (here {es = es} s) = ap (λ x. more x (resL T σ (after m) es)) (stepE s)
   stepL {T} {σ} {m} (there {e = e} s) = ap (more (resE T σ (m 0) e)) (stepL s)
@@ -75,6 +79,7 @@ unwrap false s = then (single take) s
 mutual
   unfolding resE resL
 
+  -- steps lead from an expression to what resolving makes of it
   pub reachE : (T : Tables) (σ : ℕ) (k : Bool) (e : Expr) → Chain (StepE T σ k) e (resE T σ k e)
   reachE T σ k (Lit l) = empty
   reachE T σ k (Var n) = empty
@@ -85,6 +90,7 @@ mutual
   reachE T σ k (Field e n) = under (λ x. Field x n) (λ x y r. in-field r) (reachE T σ false e)
   reachE T σ k (Paren e) = unwrap k (reachE T σ false e)
 
+  -- and from a list to what it makes of it
   pub reachL : (T : Tables) (σ : ℕ) (m : Places) (es : Exprs) → Chain (StepL T σ m) es (resL T σ m es)
   reachL T σ m none = empty
   reachL T σ m (more e es) = then (under (λ x. more x es) (λ x y r. here r) (reachE T σ (m 0) e)) (under (more (resE T σ (m 0) e)) (λ x y r. there r) (reachL T σ (after m) es))
@@ -105,6 +111,7 @@ first-step (in-tail s) = refl
 first-step (in-row s) = refl
 first-step (past-row s) = refl
 
+-- a step can be undone
 pub undo : {T : Tables} {σ : ℕ} {m : Places} {i : Shape} {v u : Tree Expr i} → Step T σ m i v u → Step T σ m i u v
 undo (in-value s) = in-value (undoE s)
 undo {T} {σ} (in-stmt {k = k} {r = r} {t = t} s) = in-stmt (subst (λ x. Step T (inside σ k x) (argued T k x) (row (sorts k)) t r) (first-step s) (undo s))
@@ -117,6 +124,7 @@ undo (in-tail s) = in-tail (undo s)
 undo (in-row s) = in-row (undo s)
 undo (past-row s) = past-row (undo s)
 
+-- it leaves what resolving makes of the tree
 pub step : {T : Tables} {σ : ℕ} {m : Places} {i : Shape} {v u : Tree Expr i} → Step T σ m i v u → res T σ m v ≡ res T σ m u
 unfolding res
 step (in-value s) = ap value (stepE s)
@@ -136,6 +144,7 @@ in-stmts k line x e empty = empty
 in-stmts {T} {σ} k line x e (step-on {a} {b} s t) =
     step-on (in-stmt (subst (λ y. Step T (inside σ k y) (argued T k y) (row (sorts k)) a b) (sym e) s)) (in-stmts k line x (sym (first-step s) ∙ e) t)
 
+-- steps lead from a tree to what resolving makes of it
 pub reach : (T : Tables) (σ : ℕ) (m : Places) {i : Shape} (v : Tree Expr i) → Chain (Step T σ m i) v (res T σ m v)
 unfolding res
 reach T σ m (word x) = empty
@@ -179,6 +188,7 @@ mutual
   strip-resL T σ m none = refl
   strip-resL T σ m (more e es) = ap₂ more (strip-resE T σ (m 0) e) (strip-resL T σ (after m) es)
 
+-- a tree and its resolved one are the same without parentheses and calls
 pub strip-res : (T : Tables) (σ : ℕ) (m : Places) {i : Shape} (v : Tree Expr i) → strip (res T σ m v) ≡ strip v
 unfolding res strip over
 strip-res T σ m (word x) = refl

@@ -32,10 +32,12 @@ use Rattle.evaluate.specs.declared.Evaluation.{Evaluation}
 
 -- ---- a refusal leaves the place
 
+-- so it is told
 pub refused-tells : (at : ℕ) (r : Refusal) → Tells at (record { answer = Refused r; at = at }) (refused r)
 unfolding toldAs movedOf refused
 refused-tells at r = record { told = refl; moved = refl }
 
+-- what is told, by another name of the definition
 pub tells-as : {at : ℕ} {r : Evaluation} {d d′ : Told Past} → Tells at r d → d ≡ d′ → Tells at r d′
 tells-as {at} {r} t e = subst (Tells at r) e t
 
@@ -50,19 +52,23 @@ module _ (ns ws : List ℕ) (at : ℕ) (buf : List ℕ) where
   unfolding evalOf readUnder
   read-is R = ap (readUnder ns buf) (R .reads)
 
+  -- an expression was read
   pub was-read : {s : Step} {c : Cursor} → s ≡ stepOf (exprAt ws (strings ns) maxDepth at) → s ≡ Read c → WasRead ns ws at
   was-read {c = c} e q = let r = answer-read (exprAt ws (strings ns) maxDepth at) e q in record { expr = r .tree; end = c .at; reads = r .is }
 
+  -- a wrong word: 2
   pub wrong-is : {s : Step} {p : ℕ} → s ≡ stepOf (exprAt ws (strings ns) maxDepth at) → s ≡ Wrong p → refused (Word p) ≡ evalOf ns ws at buf
   unfolding evalOf readUnder refused
   wrong-is e q = rw (answer-wrong (exprAt ws (strings ns) maxDepth at) e q) refl
 
+  -- one too deep: 3
   pub deep-is : {s : Step} {p : ℕ} → s ≡ stepOf (exprAt ws (strings ns) maxDepth at) → s ≡ Deep p → refused (Depth p) ≡ evalOf ns ws at buf
   unfolding evalOf readUnder refused
   deep-is e q = rw (answer-deep (exprAt ws (strings ns) maxDepth at) e q) refl
 
   -- ---- under the rows
 
+  -- rows that are no lent table: 6
   pub rows-bad : WasRead ns ws at → {k : Checked} → k ≡ checked ns buf → k ≡ Bad → refused RowsRefused ≡ evalOf ns ws at buf
   unfolding underOf lentRows after refused
   rows-bad R e q = sym (read-is R ∙ ap (λ (c : Checked). after (toldRows buf c) (λ (rows : List Row). gives (record { outcome = outcomeOf (constEval rows (R .expr)); end = R .end }))) (sym e ∙ q))
@@ -71,9 +77,11 @@ module _ (ns ws : List ℕ) (at : ℕ) (buf : List ℕ) where
     lent : Lent ns (rowsOf n buf) n buf
     lent = checked-sound ns n buf (sym e ∙ q)
 
+    -- a lent table: the expression may be folded
     pub rows-ready : Words32 buf → Ready ws at buf n
     rows-ready W = record { strings = strings ns; expr = R .expr; end = R .end; stands = stands maxDepth (R .reads); rows = rowsOf n buf; holds = holds-keeps (lent .holds); consts = lent-consts lent W }
 
+    -- then what it folds to is told, with the place past it
     pub rows-fine : {f : Answered} → Folds ws at buf n f → Tells at (record { answer = Folded (f .fold); at = f .next }) (evalOf ns ws at buf)
     unfolding toldAs movedOf underOf lentRows after
     rows-fine {f} E =

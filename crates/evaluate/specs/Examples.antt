@@ -20,9 +20,11 @@ use Rattle.evaluate.specs.Evaluate.{underOf, readUnder, evalOf}
 abbrev pub marks : List ℕ
 marks = 1 ∷ 0 ∷ []
 
+-- the CONST K of the name: Integer 7
 abbrev pub rows : List ℕ
 rows = constRow 0 24 7 0
 
+-- a CONST that is no name's
 abbrev pub bad : List ℕ
 bad = constRow 1 24 7 0
 
@@ -34,6 +36,7 @@ sum = 77 ∷ 0x14000000 ∷ 0x09000000 ∷ 0x11000000 ∷ 0x02000000 ∷ 0x10000
 abbrev pub over : List ℕ
 over = 0x14000000 ∷ 0x09000000 ∷ 0x11000000 ∷ 0x02000000 ∷ 0x10000000 ∷ 0x18000000 ∷ 32767 ∷ 0x13000000 ∷ 0x09000001 ∷ 0x11000000 ∷ 0x02000000 ∷ []
 
+-- a value and the place past it; overflow is code 11, what isn't constant 12, and so is K without its row
 pub answered :
     (evalOf marks sum 1 rows ≡ gives (record { outcome = constant 24 47 0; end = 8 }))
     × (evalOf marks over 0 rows ≡ gives (record { outcome = code 11; end = 7 }))

@@ -25,10 +25,12 @@ put-test : (ws : List ℕ) (ok : ℕ → Bool) (at x end : ℕ) (xs : List ℕ) 
 unfolding testAt
 put-test ws ok at x end xs t h = simp (lt-ltb at (length ws) (h .inside), h .is, t)
 
+-- a word of kind k with a payload below n is read as its payload
 pub put-leaf : (ws : List ℕ) (k n at x end : ℕ) (xs : List ℕ) → Below n x → First ws at (wordOf k x) xs end → leafAt ws k n at ≡ got x (at + 1)
 unfolding leafAt
 put-leaf ws k n at x end xs b h = simp (lt-ltb at (length ws) (h .inside), h .is, kind-is k x (b .fits), pay-is k x (b .fits), eq-eqb k k refl, lt-ltb x n (b .below))
 
+-- the number of a name is read as it is
 pub put-name : (ws ns : List ℕ) (at x end : ℕ) (xs : List ℕ) → Named ns x → First ws at (wordOf 2 x) xs end → nameAt ws ns at ≡ got x (at + 1)
 unfolding nameAt
 put-name ws ns at x end xs b h = simp (lt-ltb at (length ws) (h .inside), h .is, kind-is 2 x (b .fits), pay-is 2 x (b .fits), b .named)
@@ -71,6 +73,7 @@ module _ (ws : List ℕ) (n : Strings) where
   mutual
     unfolding bodyAt listAt exprsAt words wordsAll Valid Valids depth depths many bind
 
+    -- an expression
     pub complete : (e : Expr) (d at end : ℕ) → depth e ≤ d → Valid n e → Wrote ws at (words e) end → exprAt ws n d at ≡ got e end
     complete (Lit l) d at end z v h =
         let f = wrote-first h in
@@ -97,6 +100,7 @@ module _ (ws : List ℕ) (n : Strings) where
         let f = wrote-first h in
         start 23 d at end _ (omega arith) (lit≤ tt) (lit≤ tt) f ∙ rw (complete e (d - 1) _ end (omega arith) v (f .rest)) refl
 
+    -- so many expressions, one after another
     pub completes : (es : Exprs) (d at end : ℕ) → depths es ≤ d → Valids n es → Wrote ws at (wordsAll es) end → exprsAt ws n (exprAt ws n d) (many es) at ≡ got es end
     completes none d at end z v h = ap (got none) (omega (arith, h .span))
     completes (more e es) d at end z v h =

@@ -31,6 +31,7 @@ node-at ws n (suc d) at e end h =
     let b : bodyAt ws n (exprAt ws n d) (v .0) (v .1) ≡ got e end = v .3 in
     record { levels = d; head = rw (H .is, H .to) at H; body = rw (H .is, H .to) at b }
 
+-- an expression that stands there has a head, and its rest is read after it
 pub node : {ws : List ℕ} {n : Strings} {at : ℕ} {e : Expr} {end : ℕ} → Stands ws n at e end → Node ws n at e end
 node {ws} {n} {at} {e} {end} s = node-at ws n (depth e) at e end (reads s)
 
@@ -39,6 +40,7 @@ pub record Within (ws : List ℕ) (at end : ℕ) : Type 0 where
   pub moves : at < end
   pub inside : end ≤ length ws
 
+-- it ends after its place, within the words
 pub within : {ws : List ℕ} {n : Strings} {at : ℕ} {e : Expr} {end : ℕ} → Stands ws n at e end → Within ws at end
 unfolding words
 within {ws} {n} {at} {e} {end} s = record { moves = go e (s .wrote .span); inside = s .wrote .inside }
@@ -53,6 +55,7 @@ within {ws} {n} {at} {e} {end} s = record { moves = go e (s .wrote .span); insid
     go (Field e x) h = omega arith
     go (Paren e) h = omega arith
 
+-- a binary operator: its two sides, one after the other
 pub record InBinary (ws : List ℕ) (n : Strings) (at : ℕ) (e : Expr) (end : ℕ) : Type 0 where
   pub op : ℕ
   pub lhs : Expr
@@ -63,6 +66,7 @@ pub record InBinary (ws : List ℕ) (n : Strings) (at : ℕ) (e : Expr) (end : �
   pub right : Stands ws n mid rhs end
   pub is : e ≡ Binary op lhs rhs
 
+-- 20: an operator, and then two expressions
 pub in-binary : {ws : List ℕ} {n : Strings} {at : ℕ} {e : Expr} {end : ℕ} → kindOf (getD ws at 0) ≡ 20 → Stands ws n at e end → InBinary ws n at e end
 in-binary {ws} {n} {at} {e} {end} k s =
     let N = node s in
@@ -71,11 +75,13 @@ in-binary {ws} {n} {at} {e} {end} k s =
     let l = v .left in
     record { op = v .op; lhs = v .lhs; mid = v .mid₂; rhs = v .rhs; op-is = L .is; left = stands (N .levels) (rw (L .to) at l); right = stands (N .levels) (v .right); is = v .is }
 
+-- parentheses: the expression after the head
 pub record InParen (ws : List ℕ) (n : Strings) (at : ℕ) (e : Expr) (end : ℕ) : Type 0 where
   pub arg : Expr
   pub inner : Stands ws n (at + 1) arg end
   pub is : e ≡ Paren arg
 
+-- 23: one expression
 pub in-paren : {ws : List ℕ} {n : Strings} {at : ℕ} {e : Expr} {end : ℕ} → kindOf (getD ws at 0) ≡ 23 → Stands ws n at e end → InParen ws n at e end
 in-paren {ws} {n} {at} {e} {end} k s =
     let N = node s in
@@ -86,6 +92,7 @@ in-paren {ws} {n} {at} {e} {end} k s =
 kind-first : (ws : List ℕ) (at k end : ℕ) (xs : List ℕ) → Wrote ws at (wordOf k 0 ∷ xs) end → kindOf (getD ws at 0) ≡ k
 kind-first ws at k end xs h = ap kindOf (wrote-first h .is) ∙ kind-is k 0 (lit< tt)
 
+-- the head's kind is the expression's
 pub kind-of : {ws : List ℕ} {n : Strings} {at : ℕ} {e : Expr} {end : ℕ} → Stands ws n at e end → kindOf (getD ws at 0) ≡ kindE e
 unfolding words kindE
 kind-of {ws} {n} {at} {e} {end} s = go e (s .wrote)
@@ -100,6 +107,7 @@ kind-of {ws} {n} {at} {e} {end} s = go e (s .wrote)
     go (Field e x) h = kind-first ws at 22 end _ h
     go (Paren e) h = kind-first ws at 23 end _ h
 
+-- a literal: its own words after the head
 pub record InLit (ws : List ℕ) (n : Strings) (at : ℕ) (e : Expr) (end : ℕ) : Type 0 where
   pub lit : Literal
   pub wrote : Wrote ws (at + 1) (wordsL lit) end
@@ -115,17 +123,20 @@ kind-lit ws at (Single a b) end h = kind-first ws at 26 end _ h
 kind-lit ws at (Float a b) end h = kind-first ws at 27 end _ h
 kind-lit ws at (Text s) end h = kind-first ws at 28 end _ h
 
+-- 16: a literal with its own head
 pub in-lit : {ws : List ℕ} {n : Strings} {at : ℕ} {e : Expr} {end : ℕ} → kindOf (getD ws at 0) ≡ 16 → Stands ws n at e end → InLit ws n at e end
 in-lit {ws} {n} {at} {e} {end} k s =
     let v = got-16 k (node s .body) in
     let L = lit-sound ws (n .count) (at + 1) (v .lit) end (v .reads) in
     record { lit = v .lit; wrote = L .0; valid = L .1; kind = kind-lit ws (at + 1) (v .lit) end (L .0); is = v .is }
 
+-- a unary operator: the expression after its word
 pub record InUnary (ws : List ℕ) (n : Strings) (at : ℕ) (e : Expr) (end : ℕ) : Type 0 where
   pub arg : Expr
   pub inner : Stands ws n (at + 2) arg end
   pub is : e ≡ Unary (payOf (getD ws (at + 1) 0)) arg
 
+-- 19: an operator, and then one expression
 pub in-unary : {ws : List ℕ} {n : Strings} {at : ℕ} {e : Expr} {end : ℕ} → kindOf (getD ws at 0) ≡ 19 → Stands ws n at e end → InUnary ws n at e end
 in-unary {ws} {n} {at} {e} {end} k s =
     let N = node s in
@@ -135,6 +146,7 @@ in-unary {ws} {n} {at} {e} {end} k s =
     let i = stands (N .levels) (v .inner) in
     record { arg = v .arg; inner = rw p at i; is = v .is ∙ ap (λ (o : ℕ). Unary o (v .arg)) (L .is) }
 
+-- a field: the expression, and its name's word
 pub record InField (ws : List ℕ) (n : Strings) (at : ℕ) (e : Expr) (end : ℕ) : Type 0 where
   pub arg : Expr
   pub mid : ℕ
@@ -143,6 +155,7 @@ pub record InField (ws : List ℕ) (n : Strings) (at : ℕ) (e : Expr) (end : �
   pub to : end ≡ mid + 1
   pub is : e ≡ Field arg name
 
+-- 22: one expression, and then a name
 pub in-field : {ws : List ℕ} {n : Strings} {at : ℕ} {e : Expr} {end : ℕ} → kindOf (getD ws at 0) ≡ 22 → Stands ws n at e end → InField ws n at e end
 in-field {ws} {n} {at} {e} {end} k s =
     let N = node s in
@@ -162,12 +175,14 @@ in-list ws n d at es end h =
     let R = exprs-sound ws n d (exprAt ws n d) (sound ws n d) (v .count) (at + 1) es end (omega (arith, L .inside)) (rw (L .to) at i) in
     record { count = R .counted ∙ L .is; items = record { wrote = R .wrote; valid = R .valid } }
 
+-- an element or a call: its list after the name
 pub record InElem (ws : List ℕ) (n : Strings) (at : ℕ) (e : Expr) (end : ℕ) : Type 0 where
   pub name : ℕ
   pub args : Exprs
   pub list : InList ws n (at + 1 + 1) args end
   pub is : (e ≡ Elem name args) ⊎ (e ≡ Call name args)
 
+-- 18 or 21: a name, and then a list
 pub in-elem : {ws : List ℕ} {n : Strings} {at : ℕ} {e : Expr} {end : ℕ} → (kindOf (getD ws at 0) ≡ 18) ⊎ (kindOf (getD ws at 0) ≡ 21) → Stands ws n at e end → InElem ws n at e end
 in-elem {ws} {n} {at} {e} {end} (inl k) s =
     let N = node s in

@@ -9,9 +9,11 @@ use lib.Seq.{drop-cons, drop-drop, drop-append-seam}
 use Rattle.words.specs.Word.{wordOf}
 use Rattle.expr.specs.Stands.{Wrote}
 
+-- the empty run of words stands at every place up to the end
 pub wrote-none : (ws : List ℕ) (at : ℕ) → at ≤ length ws → Wrote ws at [] at
 wrote-none ws at h = record { span = omega arith; inside = h; is = refl }
 
+-- one word, and others after it
 pub wrote-cons : {ws : List ℕ} {at w m end : ℕ} {xs : List ℕ} → at < length ws → getD ws at 0 ≡ w → m ≡ at + 1 → Wrote ws m xs end → Wrote ws at (w ∷ xs) end
 wrote-cons {ws} {at} {w} {m} {end} {xs} h e q r = record {
   span = omega (arith, r .span);
@@ -19,6 +21,7 @@ wrote-cons {ws} {at} {w} {m} {end} {xs} h e q r = record {
   is = drop-cons ws at 0 h ∙ ap (λ (x : ℕ). x ∷ drop (suc at) ws) e ∙ ap (λ (l : List ℕ). w ∷ l) (ap (λ (x : ℕ). drop x ws) (sym (add-one at) ∙ sym q) ∙ r .is);
 }
 
+-- some words, and others after them
 pub wrote-cat : {ws : List ℕ} {at m end : ℕ} {xs ys : List ℕ} → Wrote ws at xs m → Wrote ws m ys end → Wrote ws at (xs ++ ys) end
 wrote-cat {ws} {at} {m} {end} {xs} {ys} r s = record {
   span = omega (arith, length-append xs ys, r .span, s .span);
@@ -32,6 +35,7 @@ pub record First (ws : List ℕ) (at w : ℕ) (xs : List ℕ) (end : ℕ) : Type
   pub is : getD ws at 0 ≡ w
   pub rest : Wrote ws (at + 1) xs end
 
+-- the first word, and those after it
 pub wrote-first : {ws : List ℕ} {at w end : ℕ} {xs : List ℕ} → Wrote ws at (w ∷ xs) end → First ws at w xs end
 wrote-first {ws} {at} {w} {end} {xs} r =
     let h : at < length ws = omega (arith, r .span, r .inside) in
@@ -50,6 +54,7 @@ wrote-left {ws} {at} {end} xs ys r = record {
   is = r .is ∙ append-assoc xs ys (drop end ws) ∙ ap (λ (l : List ℕ). xs ++ l) (sym (sym (drop-drop (length xs) at ws) ∙ ap (λ (l : List ℕ). drop (length xs) l) (r .is ∙ append-assoc xs ys (drop end ws)) ∙ drop-append-seam xs (ys ++ drop end ws)));
 }
 
+-- the second part
 pub wrote-right : {ws : List ℕ} {at end : ℕ} (xs : List ℕ) {ys : List ℕ} → Wrote ws at (xs ++ ys) end → Wrote ws (at + length xs) ys end
 wrote-right {ws} {at} {end} xs {ys} r = record {
   span = omega (arith, length-append xs ys, r .span);
@@ -61,8 +66,10 @@ wrote-right {ws} {at} {end} xs {ys} r = record {
 pub word-is : (w k x : ℕ) → w / 16777216 ≡ k → w % 16777216 ≡ x → w ≡ wordOf k x
 word-is w k x a b = omega arith
 
+-- a word's kind, where the payload fits
 pub kind-is : (k x : ℕ) → x < 16777216 → wordOf k x / 16777216 ≡ k
 kind-is k x h = omega arith
 
+-- and its payload
 pub pay-is : (k x : ℕ) → x < 16777216 → wordOf k x % 16777216 ≡ x
 pay-is k x h = omega arith

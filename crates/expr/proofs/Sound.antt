@@ -27,21 +27,27 @@ at-least n k h = elim (ℕ-discrete k n) [ yes e ↦ inl e | no f ↦ inr (omega
 cons-head : {ws : List ℕ} {a b at k m end : ℕ} {xs : List ℕ} (K : ℕ) → IsHead ws a b at k m → k ≡ K → Wrote ws m xs end → Wrote ws at (wordOf K 0 ∷ xs) end
 cons-head {ws} {a} {b} {at} {k} {m} K h q r = wrote-cons (h .inside) (word-is _ K 0 (sym (h .is) ∙ q) (h .pay)) (h .to) r
 
+-- a word that was read, and those after it
 pub cons-leaf : {ws : List ℕ} {k n at x m end : ℕ} {xs : List ℕ} → IsLeaf ws k n at x m → Wrote ws m xs end → Wrote ws at (wordOf k x ∷ xs) end
 cons-leaf h r = wrote-cons (h .inside) (word-is _ _ _ (h .kind) (sym (h .is))) (h .to) r
 
+-- that word alone
 pub one-leaf : {ws : List ℕ} {k n at x m : ℕ} → IsLeaf ws k n at x m → Wrote ws at (wordOf k x ∷ []) m
 one-leaf {ws} {k} {n} {at} {x} {m} h = cons-leaf h (wrote-none ws m (omega (arith, h .inside, h .to)))
 
+-- its payload is below the bound
 pub below-leaf : {ws : List ℕ} {k n at x m : ℕ} → IsLeaf ws k n at x m → Below n x
 below-leaf {ws} {k} {n} {at} {x} {m} h = record { below = h .below; fits = omega (arith, h .is) }
 
+-- a name's word that was read, and those after it
 pub cons-name : {ws ns : List ℕ} {at x m end : ℕ} {xs : List ℕ} → IsName ws ns at x m → Wrote ws m xs end → Wrote ws at (wordOf 2 x ∷ xs) end
 cons-name h r = wrote-cons (h .inside) (word-is _ _ _ (h .kind) (sym (h .is))) (h .to) r
 
+-- that word alone
 pub one-name : {ws ns : List ℕ} {at x m : ℕ} → IsName ws ns at x m → Wrote ws at (wordOf 2 x ∷ []) m
 one-name {ws} {ns} {at} {x} {m} h = cons-name h (wrote-none ws m (omega (arith, h .inside, h .to)))
 
+-- its number is a name's
 pub named-name : {ws ns : List ℕ} {at x m : ℕ} → IsName ws ns at x m → Named ns x
 named-name {ws} {ns} {at} {x} {m} h = record { named = h .named; fits = omega (arith, h .is) }
 
@@ -57,11 +63,13 @@ test-got {ws} ok {at} {x} {m} e =
     let q : x ≡ getD ws at 0 = cc in
     (record { inside = ltb-true at (length ws) (h1 .0); is = q; to = cc }, rw q (h2 .0))
 
+-- a valid expression stands there, at most d deep
 pub record Right (ws : List ℕ) (n : Strings) (d at : ℕ) (e : Expr) (end : ℕ) : Type 0 where
   pub wrote : Wrote ws at (words e) end
   pub valid : Valid n e
   pub deep : depth e ≤ d
 
+-- so many do
 pub record Rights (ws : List ℕ) (n : Strings) (d at : ℕ) (es : Exprs) (end count : ℕ) : Type 0 where
   pub wrote : Wrote ws at (wordsAll es) end
   pub valid : Valids n es
@@ -91,6 +99,7 @@ lit-body-sound ws n at k m l end H h =
     let L = leaf-got (v .1) in rw (v .2) (cons-head 28 H q (one-leaf L), below-leaf L))
     (at-least 27 k h27)) (at-least 26 k h26)) (at-least 25 k h25)) (at-least 24 k (H .from))
 
+-- a literal that was read stands there, and is valid
 pub lit-sound : (ws : List ℕ) (n at : ℕ) (l : Literal) (end : ℕ) → literalAt ws n at ≡ got l end → Wrote ws at (wordsL l) end × ValidL n l
 unfolding literalAt
 lit-sound ws n at l end h =
@@ -98,6 +107,7 @@ lit-sound ws n at l end h =
     lit-body-sound ws n at (v .0) (v .1) l end (head-got (v .2)) (v .3)
 
 module _ (ws : List ℕ) (n : Strings) (d : ℕ) (sub : ℕ → Got Expr) (S : (at : ℕ) (e : Expr) (end : ℕ) → sub at ≡ got e end → Right ws n d at e end) where
+  -- so many expressions that were read stand there, are valid and not too deep
   pub exprs-sound : (count at : ℕ) (es : Exprs) (end : ℕ) → at ≤ length ws → exprsAt ws n sub count at ≡ got es end → Rights ws n d at es end count
   unfolding exprsAt wordsAll Valids depths many
   exprs-sound zero at es end i h =
@@ -111,6 +121,7 @@ module _ (ws : List ℕ) (n : Strings) (d : ℕ) (sub : ℕ → Got Expr) (S : (
       let R = exprs-sound c (v .1) (w .0) end (E .wrote .inside) (w .1) in
       rw (w .2) (record { wrote = wrote-cat (E .wrote) (R .wrote); valid = (E .valid, R .valid); deep = omega (arith, E .deep, R .deep); counted = rw (R .counted) (add-one c) })
 
+  -- so does a list, and its count fits a payload
   pub list-sound : (at : ℕ) (es : Exprs) (end : ℕ) → listAt ws n sub at ≡ got es end → Wrote ws at (wordOf 1 (many es) ∷ wordsAll es) end × (many es < 16777216) × Valids n es × (depths es ≤ d)
   list-sound at es end h =
       let v = list-got h in
@@ -139,6 +150,7 @@ module _ (ws : List ℕ) (n : Strings) (d : ℕ) (sub : ℕ → Got Expr) (S : (
       rw (v .is) (record { wrote = cons-head 23 H (le-antisymm (H .upto) h23) (E .wrote); valid = E .valid; deep = omega (arith, E .deep) }))
       (at-least 22 k h22)) (at-least 21 k h21)) (at-least 20 k h20)) (at-least 19 k h19)) (at-least 18 k h18)) (at-least 17 k h17)) (at-least 16 k (H .from))
 
+-- so does an expression
 pub sound : (ws : List ℕ) (n : Strings) (d at : ℕ) (e : Expr) (end : ℕ) → exprAt ws n d at ≡ got e end → Right ws n d at e end
 unfolding exprAt
 sound ws n zero at e end h = absurd (deep-got (bind-got (headAt ws 16 23 at) h .3))

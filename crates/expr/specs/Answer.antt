@@ -5,6 +5,7 @@ use Rattle.expr.specs.declared.Cursor.{Cursor}
 use Rattle.expr.specs.declared.Step.{Step}
 use Rattle.expr.specs.declared.Step.the-variants.{Read, Wrong, Deep}
 
+-- the answer to a reading: read up to a place, wrong or too deep at one
 unfoldable pub stepOf : {A : Type 0} → Got A → Step
 stepOf (got a m) = Read (record { at = m })
 stepOf (wrong p) = Wrong p

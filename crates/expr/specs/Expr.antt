@@ -27,12 +27,14 @@ mutual
     Field : Expr → ℕ → Expr  -- 22: base, field
     Paren : Expr → Expr  -- 23
 
+  -- several expressions
   pub data Exprs : Type 0 where
     none : Exprs
     more : Expr → Exprs → Exprs
 
 -- ---- the words: a head of kind 16 to 28, then what it holds; kind 1 is a list, 2 a string's number, 9 an operator
 
+-- of a literal: its own head and its one or two words
 unfoldable pub wordsL : Literal → List ℕ
 wordsL (Integer a) = wordOf 24 0 ∷ a ∷ []
 wordsL (Long a) = wordOf 25 0 ∷ a ∷ []
@@ -46,6 +48,7 @@ many none = 0
 many (more e es) = many es + 1
 
 unfoldable mutual
+  -- of an expression: its head, then its fields in order
   pub words : Expr → List ℕ
   words (Lit l) = wordOf 16 0 ∷ wordsL l
   words (Var x) = wordOf 17 0 ∷ wordOf 2 x ∷ []
@@ -56,12 +59,14 @@ unfoldable mutual
   words (Field e x) = wordOf 22 0 ∷ words e ++ wordOf 2 x ∷ []
   words (Paren e) = wordOf 23 0 ∷ words e
 
+  -- of several expressions, without the list's head
   pub wordsAll : Exprs → List ℕ
   wordsAll none = []
   wordsAll (more e es) = words e ++ wordsAll es
 
 -- for contracts inside and proofs: how deep a tree is, an expression inside another being one deeper
 unfoldable mutual
+  -- how deep an expression is
   pub depth : Expr → ℕ
   depth (Lit l) = 1
   depth (Var x) = 1
@@ -72,6 +77,7 @@ unfoldable mutual
   depth (Field e x) = depth e + 1
   depth (Paren e) = depth e + 1
 
+  -- how deep several are: the deepest
   pub depths : Exprs → ℕ
   depths none = 0
   depths (more e es) = max (depth e) (depths es)
@@ -97,6 +103,7 @@ pub record Named (ns : List ℕ) (x : ℕ) : Type 0 where
 
 -- for contracts inside and proofs: the strings and the marks of a tree are right
 module _ (n : ℕ) where
+  -- a literal: a float is finite, a text is one of the n strings
   unfoldable pub ValidL : Literal → Type 0
   ValidL (Integer a) = Unit {0}
   ValidL (Long a) = Unit {0}
@@ -106,6 +113,7 @@ module _ (n : ℕ) where
 
 module _ (n : Strings) where
   unfoldable mutual
+    -- an expression: its names are names, its operators within their enums, its lists short enough for a payload
     pub Valid : Expr → Type 0
     Valid (Lit l) = ValidL (n .count) l
     Valid (Var x) = Named (n .names) x
@@ -116,6 +124,7 @@ module _ (n : Strings) where
     Valid (Field e x) = Valid e × Named (n .names) x
     Valid (Paren e) = Valid e
 
+    -- each of several is valid
     pub Valids : Exprs → Type 0
     Valids none = Unit {0}
     Valids (more e es) = Valid e × Valids es
@@ -131,6 +140,7 @@ kindE (Call x es) = 21
 kindE (Field e x) = 22
 kindE (Paren e) = 23
 
+-- a literal's own head
 unfoldable pub kindL : Literal → ℕ
 kindL (Integer a) = 24
 kindL (Long a) = 25

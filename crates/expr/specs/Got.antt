@@ -2,6 +2,7 @@
 use Prim.Native.Nat.{ℕ, _+_}
 use mathlib.Core.Bool.{Bool, true, false}
 
+-- what was read and the place past it; the place of a wrong word; that of a head too deep
 pub data Got (A : Type 0) : Type 0 where
   got : A → ℕ → Got A
   wrong : ℕ → Got A

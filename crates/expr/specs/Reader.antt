@@ -54,6 +54,7 @@ module _ (ws : List ℕ) where
         (pick (eqb k 27) (floatAt Float m)
         (bind (leafAt 2 n m) (λ s m′. got (Text s) m′)))))  -- 28
 
+    -- a literal, with its own head
     unfoldable pub literalAt : ℕ → Got Literal
     literalAt at = bind (headAt 24 28 at) literalBody
 

@@ -42,24 +42,30 @@ GoodFold NotConstant = Unit {0}
 
 -- ---- the ranges of INTEGER and LONG
 
+-- the number has 16 bits
 abbrev pub inInteger : ℤ → Bool
 inInteger z = within 15 z
 
+-- the number has 32 bits
 abbrev pub inLong : ℤ → Bool
 inLong z = within 31 z
 
 -- ---- Expr::Unary with UnaryOp::Neg. Integer kind is unchecked; a LONG's least value overflows
 
+-- the number is -2147483648
 abbrev pub leastLong : ℤ → Bool
 leastLong (pos n) = false
 leastLong (negsuc n) = eqb n 2147483647
 
+-- an Integer, with no test
 abbrev pub negatedInteger : ℤ → Fold
 negatedInteger n = Is (Integer (negℤ n))
 
+-- a LONG: its least value overflows
 abbrev pub negatedLong : ℤ → Fold
 negatedLong n = pick (leastLong n) Overflow (Is (Long (negℤ n)))
 
+-- a value: a float changes its sign, a string is not constant
 abbrev pub negated : Value → Fold
 negated (Integer n) = negatedInteger n
 negated (Long n) = negatedLong n
@@ -67,6 +73,7 @@ negated (Single x) = Is (Single (Ieee.neg x))
 negated (Float x) = Is (Float (Ieee.neg x))
 negated (Text t) = NotConstant
 
+-- what an operand folds to, negated
 unfoldable pub negateOf : Fold → Fold
 negateOf f = andThen f negated
 
@@ -107,12 +114,15 @@ intOf (Text t) = pos 0
 
 -- ---- a result in the range of its type, or overflow
 
+-- INTEGER: 16 bits, or overflow
 abbrev pub integerFold : ℤ → Fold
 integerFold z = pick (inInteger z) (Is (Integer z)) Overflow
 
+-- LONG: 32 bits, or overflow
 abbrev pub longFold : ℤ → Fold
 longFold z = pick (inLong z) (Is (Long z)) Overflow
 
+-- SINGLE, from what narrowing gave
 abbrev pub ofNarrow : Narrow → Fold
 ofNarrow (To x) = Is (Single x)
 ofNarrow Over = Overflow
@@ -121,19 +131,23 @@ ofNarrow Over = Overflow
 abbrev pub singleFold : Ieee.Float → Fold
 singleFold x = ofNarrow (narrowOf x)
 
+-- DOUBLE: finite, or overflow
 abbrev pub floatFold : Ieee.Float → Fold
 floatFold x = pick (finite x) (Is (Float x)) Overflow
 
 -- ---- BinaryOp::Div: always Float; a zero divisor, of either sign, is not constant
 
+-- the float is 0.0 or -0.0
 abbrev pub zeroF64 : Ieee.Float → Bool
 zeroF64 x = Ieee.eq x (fin false 0 (pos 0))
 
+-- the quotient at 64 bits
 unfoldable pub divOf : Value → Value → Fold
 divOf l r = pick (zeroF64 (asF64 r)) NotConstant (floatFold (Ieee.div binary64 (asF64 l) (asF64 r)))
 
 -- ---- BinaryOp::IntDiv and BinaryOp::Mod: both operands rounded half to even and tested for 32 bits; then the divisor for zero; then the result for 32 bits
 
+-- an operand rounded to 32 bits
 abbrev pub rounded : Value → Whole
 rounded v = longOf Even (asF64 v)
 
@@ -142,26 +156,31 @@ abbrev pub partOf : Part → ℤ → ℤ → ℤ
 partOf Quotient x y = quotZ x y
 partOf Remainder x y = remZ x y
 
+-- the whole number 0
 abbrev pub isZero : ℤ → Bool
 isZero (pos n) = eqb n 0
 isZero (negsuc n) = false
 
+-- of two rounded operands: overflow where one is out, not constant where the divisor is 0
 abbrev pub ofWholes : Part → Whole → Whole → Fold
 ofWholes p (At x) (At y) = pick (isZero y) NotConstant (longFold (partOf p x y))
 ofWholes p (At x) Out = Overflow
 ofWholes p Out (At y) = Overflow
 ofWholes p Out Out = Overflow
 
+-- a whole quotient or remainder of two values
 unfoldable pub wholeDivOf : Part → Value → Value → Fold
 wholeDivOf p l r = ofWholes p (rounded l) (rounded r)
 
 -- ---- BinaryOp::Add, Sub and Mul: in the higher of the two types, whole numbers exactly, floats at 64 bits
 
+-- the operation on whole numbers
 abbrev pub intOp : Arith → ℤ → ℤ → ℤ
 intOp Add x y = x +ℤ y
 intOp Sub x y = x -ℤ y
 intOp Mul x y = x *ℤ y
 
+-- the operation on floats
 abbrev pub floatOp : Arith → Ieee.Float → Ieee.Float → Ieee.Float
 floatOp Add a b = Ieee.add binary64 a b
 floatOp Sub a b = Ieee.sub binary64 a b
@@ -174,6 +193,7 @@ atRank (suc zero) z x = longFold z  -- LONG
 atRank (suc (suc zero)) z x = singleFold x  -- SINGLE
 atRank (suc (suc (suc k))) z x = floatFold x  -- DOUBLE
 
+-- the operation on two values
 unfoldable pub arithOf : Arith → Value → Value → Fold
 arithOf op l r = atRank (max (rankOf l) (rankOf r)) (intOp op (intOf l) (intOf r)) (floatOp op (asF64 l) (asF64 r))
 

@@ -35,6 +35,7 @@ RowFold n (Is v) = RowValue n v
 RowFold n Overflow = Unit {0}
 RowFold n NotConstant = Unit {0}
 
+-- a value that may stand in a row is good
 pub row-good : (n : ℕ) (f : Fold) → RowFold n f → GoodFold f
 row-good n (Is v) r = r .good
 row-good n Overflow r = tt
@@ -90,6 +91,7 @@ module _ (n : ℕ) where
   negated-row (Float x) r = record { good = neg-finite x (r .good); known = tt; fit = neg-fits binary64 x (r .fit) }
   negated-row (Text t) r = tt
 
+  -- what negating gives may stand in a row, if its operand may
   pub negate-row : (f : Fold) → RowFold n f → RowFold n (negateOf f)
   unfolding negateOf
   negate-row (Is v) r = negated-row v r
@@ -137,6 +139,7 @@ module _ (n : ℕ) where
       (pick-row (eqb op 4) (wholeDivOf Quotient l r) _ (λ t. whole-row Quotient l r)
       (pick-row (eqb op 5) (wholeDivOf Remainder l r) NotConstant (λ t. whole-row Remainder l r) tt)))))
 
+  -- what a binary operator gives may stand in a row, whatever its operands fold to
   pub binary-row : (op : ℕ) (l r : Fold) → RowFold n (binaryOf op l r)
   unfolding binaryOf
   binary-row op (Is l) (Is r) = pick-row (isText l || isText r) NotConstant (opOf op l r) (λ t. tt) (op-row op l r)
@@ -146,6 +149,7 @@ module _ (n : ℕ) where
   binary-row op NotConstant r = tt
 
 -- ---- a good value's numbers
+-- its whole number is in range
 pub good-int : (v : Value) → Good v → InRange (intOf v)
 good-int (Integer z) h = h
 good-int (Long z) h = h
@@ -156,6 +160,7 @@ good-int (Text t) h = zero-le
 less : (m : ℕ) → m ≤ 2147483648 → m < 2 ^ 53
 less m h = omega arith
 
+-- its float is finite
 pub good-float : (v : Value) → Good v → T (finite (asF64 v))
 good-float (Integer z) h = double-finite z (less (natAbs z) h)
 good-float (Long z) h = double-finite z (less (natAbs z) h)

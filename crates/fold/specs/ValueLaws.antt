@@ -66,6 +66,7 @@ back-float : (low high : ℕ) → low < 4294967296 → high < 4294967296 → T (
 back-float low high h k f = toBits-ofBits binary64 (high * 4294967296 + low) (omega arith) (no-nan (ofWords low high) f)
 
 -- ---- the value of a value's words
+-- of a value that a row may hold it is this value
 pub value-words : (n : ℕ) (v : Value) → RowValue n v → valueOf (literalKind v) (lowOf v) (highOf v) ≡ v
 unfolding valueOf
 value-words n (Integer z) r = ap Integer (back-sign z (r .good))
@@ -156,9 +157,11 @@ case-row n {low = low} {high = high} h g (single t) = record { good = subst T (w
 case-row n {low = low} {high = high} h g (float t) = record { good = subst T (words-finite low high h g) t; known = tt; fit = ofBits-fits binary64 (high * 4294967296 + low) }
 case-row n {low = low} {high = high} h g (text t) = record { good = tt; known = ltb→lt low n (and-l (ltb low n) (eqb high 0) t); fit = h }
 
+-- words that meet the rule are those of a value that a row may hold
 pub rule-row : (n k low high : ℕ) → low < 4294967296 → high < 4294967296 → T (constRule n k low high) → RowValue n (valueOf k low high)
 rule-row n k low high h g t = case-row n h g (rule-case n k low high t)
 
+-- the words of a value that a row may hold meet the rule
 pub row-rule : (n : ℕ) (v : Value) → RowValue n v → T (constRule n (literalKind v) (lowOf v) (highOf v))
 unfolding constRule
 row-rule n (Integer z) r = range-rule z (r .good)
@@ -193,5 +196,6 @@ case-words n {low = low} {high = high} h g (text t) =
     let e : high ≡ 0 = eqb→eq high 0 (and-r (ltb low n) (eqb high 0) t) in
     let s = same-words low low high h (omega arith) in record { kind-is = refl; low-is = s .0; high-is = s .1 }
 
+-- words that meet the rule are the words of their value
 pub words-value : (n k low high : ℕ) → low < 4294967296 → high < 4294967296 → T (constRule n k low high) → SameWords (valueOf k low high) k low high
 words-value n k low high h g t = case-words n h g (rule-case n k low high t)

@@ -201,6 +201,7 @@ module _ (i : Image) (h : Right i) where
   unfolding parts bytesFrom erasedFrom treeFrom
   parts-file = rw (strings-are, words-are, erased-are, count-is, ends-at, words-at, erased-at, bytes-at) refl
 
+  -- taken apart, it is that image
   pub decode-file : decode (fileOf i) ≡ some i
   unfolding decode
   decode-file = rw (is-well (fileOf i) facts-file) (ap some parts-file)
@@ -302,11 +303,13 @@ decoded l i e = go (well l) refl e
     go true q e = (q, cc)
     go false q e = absurd (let z : _≡_ {A = ℕ} 0 1 = cc in omega arith)
 
+-- it is the file of the image that it gave
 pub file-decoded : (l : List ℕ) (i : Image) → Octets l → decode l ≡ some i → l ≡ fileOf i
 file-decoded l i o e =
     let d = decoded l i e in
     file-parts l o (facts l (d .0)) ∙ ap fileOf (d .1)
 
+-- and this image is right
 pub right-decoded : (l : List ℕ) (i : Image) → Octets l → decode l ≡ some i → Right i
 right-decoded l i o e =
     let d = decoded l i e in

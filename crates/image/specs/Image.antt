@@ -31,9 +31,11 @@ wordsAt l i (suc n) = wordAt l i ∷ wordsAt l (i + 4) n
 unfoldable pub strings : List ℕ → ℕ
 strings l = wordAt l 0
 
+-- the count of tree words
 unfoldable pub treeWords : List ℕ → ℕ
 treeWords l = wordAt l 4
 
+-- the count of erased names
 unfoldable pub erasedNames : List ℕ → ℕ
 erasedNames l = wordAt l 8
 
@@ -41,9 +43,11 @@ erasedNames l = wordAt l 8
 unfoldable pub treeFrom : List ℕ → ℕ
 treeFrom l = 12 + 4 * strings l
 
+-- where the erased numbers start
 unfoldable pub erasedFrom : List ℕ → ℕ
 erasedFrom l = treeFrom l + 4 * treeWords l
 
+-- where the string bytes start
 unfoldable pub bytesFrom : List ℕ → ℕ
 bytesFrom l = erasedFrom l + 4 * erasedNames l
 
@@ -53,6 +57,7 @@ lastEnd [] = 0
 lastEnd (e ∷ []) = e
 lastEnd (e ∷ f ∷ es) = lastEnd (f ∷ es)
 
+-- a file's byte count: the last of its ends
 unfoldable pub byteCount : List ℕ → ℕ
 byteCount l = lastEnd (wordsAt l 12 (strings l))
 

@@ -13,6 +13,7 @@ use Rattle.image.specs.Image.{wordsAt, strings, treeWords, erasedNames, 
 use Rattle.image.specs.declared.Shape.{Shape}
 use Rattle.image.specs.declared.Opened.the-variants.{Malformed, Whole}
 
+-- n words are read as n words
 pub length-words : (l : List ℕ) (i n : ℕ) → length (wordsAt l i n) ≡ n
 unfolding wordsAt
 length-words l i zero = refl
@@ -22,11 +23,13 @@ length-words l i (suc n) = ap suc (length-words l (i + 4) n)
 pub front : (l : List ℕ) (i n : ℕ) (old now : List ℕ) → now ≡ wordsAt l i n ++ drop n old → take n now ≡ wordsAt l i n
 front l i n old now e = rw e (take-at (wordsAt l i n) (drop n old) n (length-words l i n))
 
+-- and there are n of them
 pub front-length : (l : List ℕ) (i n : ℕ) (old now : List ℕ) → now ≡ wordsAt l i n ++ drop n old → n ≡ length (take n now)
 front-length l i n old now e = rw (front l i n old now e) (sym (length-words l i n))
 
 -- ---- the image's test
 
+-- what the test asks, part by part
 pub record Facts (l : List ℕ) : Type 0 where
   pub strings-fit : strings l ≤ 1024
   pub words-fit : treeWords l ≤ 8192
@@ -35,6 +38,7 @@ pub record Facts (l : List ℕ) : Type 0 where
   pub exact : length l ≡ 12 + 4 * strings l + 4 * treeWords l + 4 * erasedNames l + (byteCount l + 3) / 4 * 4
   pub filled : zeros (drop (bytesFrom l + byteCount l) l) ≡ true
 
+-- what the test says, part by part
 pub facts : (l : List ℕ) → well l ≡ true → Facts l
 unfolding well padded bytesFrom erasedFrom treeFrom
 facts l e =
@@ -52,12 +56,14 @@ facts l e =
       filled = p₅ .1;
     }
 
+-- and the other way: all parts together
 pub is-well : (l : List ℕ) → Facts l → well l ≡ true
 unfolding well padded bytesFrom erasedFrom treeFrom
 is-well l f = rw (le-leb _ _ (f .strings-fit), le-leb _ _ (f .words-fit), le-leb _ _ (f .erased-fit), le-leb _ _ (f .bytes-fit), eq-eqb _ _ (f .exact), f .filled)
 
 -- ---- an image by the counts that were read of it
 
+-- the counts of an image, within the sizes, and its parts within the file
 pub record Shaped (l : List ℕ) (s w x k : ℕ) : Type 0 where
   pub strings-are : s ≡ strings l
   pub words-are : w ≡ treeWords l
@@ -70,6 +76,7 @@ pub record Shaped (l : List ℕ) (s w x k : ℕ) : Type 0 where
   pub bytes-fit : k ≤ 16384
   pub within : 12 + 4 * s + 4 * w + 4 * x + k ≤ length l
 
+-- the counts of a file that the code calls whole
 pub shaped : (l : List ℕ) (s : Shape) → Whole s ≡ opened l → Shaped l (s .strings) (s .words) (s .erased) (s .bytes)
 unfolding opened decode
 shaped l s e = go (well l) refl e
@@ -96,6 +103,7 @@ shaped l s e = go (well l) refl e
           within = rw (e₁, e₂, e₃, e₄) (omega (arith, f .exact));
         }
 
+-- a file that the code calls malformed is no image
 pub not-image : (l : List ℕ) → Malformed ≡ opened l → decode l ≡ none
 unfolding opened decode
 not-image l e = go (well l) refl e

@@ -66,14 +66,17 @@ in-item {at = at} (cons (word x) (cons (word y) (cons t done))) S =
     }
 
 module _ {ws : List ℕ} {at : ℕ} where
+  -- its name and its flag are within the words
   pub item-inside : SomeTree (rowShape ItemRow) ws at → at + 1 < length ws
   item-inside S = in-item (S .tree) (S .stands) .inside
 
+  -- its AS clause stands after them
   pub item-type : SomeTree (rowShape ItemRow) ws at → SomeTree (one (opt (TypeSort & nil))) ws (at + 2)
   item-type S =
       let i = in-item (S .tree) (S .stands) in
       record { names = S .names; strings = S .strings; tree = i .ty; end = S .end; stands = i .there }
 
+  -- so the item is read from these words
   pub item-is : {t : TypeAt} → AsTypeIs ws (at + 2) t
       → ItemIs ws at (record { name = payOf (getD ws at 0); array = eqb (payOf (getD ws (at + 1) 0)) 1; head = t .head; arg = t .arg; next = t .next })
   unfolding scopeItem isSet
@@ -87,18 +90,22 @@ module _ {ws : List ℕ} {at : ℕ} where
 -- ---- marks
 
 module _ (m : ℕ) where
+  -- an array was there: the mark stays
   pub marked-array : 2 ≤ m → m ≡ marked true m
   unfolding marked
   marked-array h = rw (le-leb 2 m h) refl
 
+  -- none was: 2 more
   pub marked-new-array : m < 2 → m + 2 ≡ marked true m
   unfolding marked
   marked-new-array h = rw (lt-leb 2 m h) refl
 
+  -- a variable was there: the mark stays
   pub marked-variable : m % 2 ≡ 1 → m ≡ marked false m
   unfolding marked
   marked-variable h = rw (eq-eqb (m % 2) 1 h) refl
 
+  -- none was: 1 more
   pub marked-new-variable : (m % 2 ≡ 1 → ⊥) → m + 1 ≡ marked false m
   unfolding marked
   marked-new-variable h = rw (ne-eqb (m % 2) 1 h) refl
@@ -106,6 +113,7 @@ module _ (m : ℕ) where
 -- ---- what is done for an item
 
 module _ {s r : Counts} {b b′ : List ℕ} {kind scope : ℕ} {i : ItemAt} where
+  -- SHARED and STATIC: the item's row with the mark that it has then
   pub enters-mark : (kind ≡ 134 → ⊥) → (w : ℕ) {m : ℕ} → ((rows : List Row) → Keeps rows (s .rows) b → w ≡ rowWord 2 (find (entryKey kind (i .name) scope) rows)) → m ≡ marked (i .array) w
       → Rows (entering (row kind (i .name) (scope ∷ m ∷ []))) s r b b′ → Enters kind scope i s r b b′
   unfolding entering itemAs
@@ -130,10 +138,12 @@ no-type none e = refl
 no-type (some t) e = absurd (type-head t e)
 
 module _ {s : Counts} {b : List ℕ} {kind scope : ℕ} {i : ItemAt} (k : kind ≡ 134) (fit : s .rows * width ≤ length b) where
+  -- its type: none of an array
   pub enters-array : i .array ≡ true → Enters kind scope i s s b b
   unfolding itemAs itemType
   enters-array e = record { does = λ it I bytes ends erased. rw (eq-eqb kind 134 k, sym (I .array-is), e) (rows-nothing fit); room = fit }
 
+  -- nor of an item without a type
   pub enters-untyped : i .array ≡ false → i .head ≡ 0 → Enters kind scope i s s b b
   unfolding itemAs itemType typed
   enters-untyped e z = record { does = λ it I bytes ends erased. rw (eq-eqb kind 134 k, sym (I .array-is), e, no-type (it .ty) (sym (I .head-is) ∙ z)) (rows-nothing fit); room = fit }
@@ -145,6 +155,7 @@ module _ {s r : Counts} {b b′ : List ℕ} where
   typed-entered scope name none z R bytes ends erased = absurd (z refl)
   typed-entered scope name (some t) z R bytes ends erased = R
 
+  -- else the typed variable's row
   pub enters-typed : {kind scope : ℕ} {i : ItemAt} → kind ≡ 134 → i .array ≡ false → (i .head ≡ 0 → ⊥) → Rows (entering (row 134 (i .name) (scope ∷ i .head ∷ i .arg ∷ []))) s r b b′ → Enters kind scope i s r b b′
   unfolding itemAs itemType
   enters-typed {kind} {scope} {i} k e z R = record {
@@ -166,6 +177,7 @@ pub record Going (ws : List ℕ) (at kind scope : ℕ) (s : Counts) (b : List �
   pub turn : Turn scopeItem (Done kind scope s b t b′) ws (at + 1) (payOf (getD ws at 0)) p left
 
 module _ {ws : List ℕ} {at kind scope : ℕ} {s : Counts} {b : List ℕ} where
+  -- nothing is done, and all are to come
   pub items-start : s .rows * width ≤ length b → Going ws at kind scope s b s b (at + 1) (payOf (getD ws at 0))
   items-start fit = record {
     room = fit;
@@ -174,9 +186,11 @@ module _ {ws : List ℕ} {at kind scope : ℕ} {s : Counts} {b : List ℕ} where
   }
 
   module _ {t : Counts} {b′ : List ℕ} {p left : ℕ} (T : Going ws at kind scope s b t b′ p left) where
+    -- where some are to come, the next one stands at p
     pub item-there : 0 < left → SomeTree (one (many ItemRow)) ws at → SomeTree (rowShape ItemRow) ws p
     item-there h S = turn-some (T .turn) h (list-rows S)
 
+    -- one more is done
     pub items-next : 0 < left → {i : ItemAt} → ItemIs ws p i → {u : Counts} {b″ : List ℕ} → length b″ ≡ length b′ → Enters kind scope i t u b′ b″ → Going ws at kind scope s b u b″ (i .next) (left - 1)
     items-next h {i} I {u} {b″} l E = record {
       room = E .room;
@@ -186,6 +200,7 @@ module _ {ws : List ℕ} {at kind scope : ℕ} {s : Counts} {b : List ℕ} where
           (e .1, λ done P bytes ends erased. rows-each-next (λ (x : ScopeItem) N D. itemAs (given (some N) (some D) bytes ends erased) kind scope x) done (scopeItem r) (P bytes ends erased) (E .does (scopeItem r) (e .0) bytes ends erased)));
     }
 
+    -- none is to come: all are done
     pub items-all : left ≡ 0 → EntersAll ws at kind scope s t b b′
     items-all z = record { does = λ ns n v end S. list-all scopeItem (λ is e. Done kind scope s b t b′ is) (λ ns n rs end S c. turn-end (T .turn) z ns n rs end S c .1) ns n v end S; room = T .room }
 
@@ -215,15 +230,19 @@ module _ {ws ns : List ℕ} {n at line end : ℕ} where
       record { items-of = v; inside = f .inside; line-is = ap payOf (f .is) ∙ pay-is 82 line (S .valid .0); there = record { wrote = rw (append-nil (wordsT v)) at q; valid = S .valid .1 .0 }; is = ap Static (sym (scope-items-over see v)) }
 
 module _ {ws : List ℕ} {at : ℕ} where
+  -- the head of a SHARED is within the words
   pub shared-head : SomeStmt sharedKind ws at → at < length ws
   shared-head S = shared-seen (S .stmt .fields) (S .stmt .stands) .inside
 
+  -- and that of a STATIC
   pub static-head : SomeStmt staticKind ws at → at < length ws
   static-head S = static-seen (S .stmt .fields) (S .stmt .stands) .inside
 
+  -- the list of a SHARED stands after it
   pub shared-list : SomeStmt sharedKind ws at → SomeTree (one (many ItemRow)) ws (at + 1)
   shared-list S = record { names = S .names; strings = S .strings; tree = _; end = S .stmt .end; stands = shared-seen (S .stmt .fields) (S .stmt .stands) .there }
 
+  -- and that of a STATIC
   pub static-list : SomeStmt staticKind ws at → SomeTree (one (many ItemRow)) ws (at + 1)
   static-list S = record { names = S .names; strings = S .strings; tree = _; end = S .stmt .end; stands = static-seen (S .stmt .fields) (S .stmt .stands) .there }
 
@@ -251,14 +270,17 @@ module _ {ws : List ℕ} {at scope : ℕ} {s r : Counts} {b d : List ℕ} where
   unfolding statement C.items pushing
   shared-outside z h F = shared-does (record { for = λ ns n v end S bytes ends erased. pick-yes _ (eqb scope 0) (eq-eqb scope 0 z) (notes-does F b h) })
 
+  -- the same of STATIC
   pub static-outside : {d′ : List ℕ} → scope ≡ 0 → s .rows * width ≤ length b → Notes (pushing (itemsOutside (payOf (getD ws at 0)) true)) s r d d′ → CollectsAny staticKind ws scope at s r b d b d′
   unfolding statement C.items pushing
   static-outside z h F = static-does (record { for = λ ns n v end S bytes ends erased. pick-yes _ (eqb scope 0) (eq-eqb scope 0 z) (notes-does F b h) })
 
+  -- SHARED in a procedure: all items' rows
   pub shared-inside : {b′ : List ℕ} → (scope ≡ 0 → ⊥) → s .notes * noteWidth ≤ length d → EntersAll ws (at + 1) 138 scope s r b b′ → CollectsAny sharedKind ws scope at s r b d b′ d
   unfolding statement C.items item itemAs
   shared-inside z h E = shared-does (record { for = λ ns n v end S bytes ends erased. pick-no _ (eqb scope 0) (ne-eqb scope 0 z) (rows-does (E .does ns n v end S bytes ends erased) d h) })
 
+  -- STATIC in a procedure: all items' rows, then all their types
   pub static-inside : {t : Counts} {b′ b″ : List ℕ} → (scope ≡ 0 → ⊥) → s .notes * noteWidth ≤ length d → EntersAll ws (at + 1) 139 scope s t b b′ → EntersAll ws (at + 1) 134 scope t r b′ b″
       → CollectsAny staticKind ws scope at s r b d b″ d
   unfolding statement C.items item itemAs

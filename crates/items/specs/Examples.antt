@@ -24,6 +24,7 @@ pub marks :
 unfolding marked
 marks = (refl, refl, refl, refl, refl, refl, refl, refl)
 
+-- no limits, no strings, no erased names
 abbrev pub free : Given
 free = record { row-room = none; note-room = none; string = λ (n : ℕ). []; erased = [] }
 

@@ -41,6 +41,7 @@ pub record Enters (kind scope : ℕ) (i : ItemAt) (s r : Counts) (b b′ : List 
   pub does : (item : ScopeItem) → Reads i item → (bytes ends erased : List ℕ) → Rows (λ N D. itemAs (given (some N) (some D) bytes ends erased) kind scope item) s r b b′
   pub room : r .rows * width ≤ length b′
 
+-- the same of all items of the list that stands there
 pub record EntersAll (ws : List ℕ) (at kind scope : ℕ) (s r : Counts) (b b′ : List ℕ) : Type 0 where
   pub does : (ns : List ℕ) (n : ℕ) (v : Tree Expr (one (many ItemRow))) (end : ℕ) → Stands ws ns n at v end
       → (bytes ends erased : List ℕ) → Rows (λ N D. each (itemAs (given (some N) (some D) bytes ends erased) kind scope) (items scopeItem v)) s r b b′

@@ -42,6 +42,7 @@ use Rattle.labels.specs.Labels.{ConstAt, sayBase}
 
 -- ---- a statement whose first field is a plain word: its line, and the word's payload
 
+-- where the words have them
 pub record Leads (ws : List ℕ) (at line x : ℕ) : Type 0 where
   pub inside : at + 1 < length ws
   pub line-is : payOf (getD ws at 0) ≡ line
@@ -60,6 +61,7 @@ pub record Sees (ws : List ℕ) (at line : ℕ) (v : View Seen) (made : ℕ → 
   pub is : made payload ≡ v
 
 module _ {ws ns : List ℕ} {n at line end : ℕ} where
+  -- a line number: its line and its number
   pub label-seen : (fields : Tree Expr (row (sorts labelKind))) → Stands ws ns n at (Stmt labelKind line fields) end → Sees ws at line (view labelKind (over see fields)) Label
   unfolding sorts numberOf wordsT Right over view
   label-seen (cons (word x) done) S = record { payload = x; leads = leads 64 4 (S .wrote) (S .valid .0) (S .valid .1 .0 .1); is = refl }
@@ -73,12 +75,15 @@ module _ {ws ns : List ℕ} {n at line end : ℕ} where
   base-seen (cons (word x) done) S = record { payload = x; leads = leads 92 4 (S .wrote) (S .valid .0) (S .valid .1 .0 .1); is = refl }
 
 module _ {ws : List ℕ} {at : ℕ} where
+  -- the word after its head is within the words
   pub label-inside : SomeStmt labelKind ws at → at + 1 < length ws
   label-inside S = label-seen (S .stmt .fields) (S .stmt .stands) .leads .inside
 
+  -- so is that of a label
   pub name-inside : SomeStmt labelNameKind ws at → at + 1 < length ws
   name-inside S = name-seen (S .stmt .fields) (S .stmt .stands) .leads .inside
 
+  -- so is that of an OPTION BASE
   pub base-inside : SomeStmt optionBaseKind ws at → at + 1 < length ws
   base-inside S = base-seen (S .stmt .fields) (S .stmt .stands) .leads .inside
 
@@ -96,6 +101,7 @@ seen-does {ws} {at} {line} {v} {made} scope {s} {r} {b} {d} {b′} {d′} bytes 
 abbrev pub lineAt : List ℕ → ℕ → ℕ
 lineAt ws at = payOf (getD ws at 0)
 
+-- the payload
 abbrev pub leafAt : List ℕ → ℕ → ℕ
 leafAt ws at = payOf (getD ws (at + 1) 0)
 
@@ -142,12 +148,14 @@ module _ {s t r : Counts} {b d b′ d′ : List ℕ} where
       by N D (stopped k) H = rw (stays-when x (push (some D) note) (stays-push D note) k) at (F .after b′ N D (stopped k) (R .after d N D (stopped k) H))
 
   module _ {ws : List ℕ} {at scope : ℕ} where
+    -- a line number: 1 where no row was added
     pub label-collects : Rows (entering (lineRow (leafAt ws at) scope)) s t b b′
         → Notes (noting (eqb (t .rows) (s .rows)) (duplicateLine (lineAt ws at) (leafAt ws at))) t r d d′ → CollectsAny labelKind ws scope at s r b d b′ d′
     unfolding statement label
     label-collects R F =
         record { all = λ ns n bytes ends erased. record { does = λ line fields end S. seen-does scope bytes ends erased (label-seen fields S) (twice-does (lineRow (leafAt ws at) scope) (duplicateLine (lineAt ws at) (leafAt ws at)) 128 (leafAt ws at) (key-is 128 (leafAt ws at) (scope ∷ [])) R F) } }
 
+    -- a label: 2 where no row was added
     pub name-collects : Rows (entering (labelRow (leafAt ws at) scope)) s t b b′
         → Notes (noting (eqb (t .rows) (s .rows)) (duplicateLabel (lineAt ws at) (leafAt ws at))) t r d d′ → CollectsAny labelNameKind ws scope at s r b d b′ d′
     unfolding statement labelName
@@ -157,10 +165,12 @@ module _ {s t r : Counts} {b d b′ d′ : List ℕ} where
 -- ---- OPTION BASE
 
 module _ {s r : Counts} {d d′ : List ℕ} where
+  -- 8 where there was one
   pub say-twice : (twice late : Bool) (line : ℕ) → twice ≡ true → Notes (pushing (optionBaseTwice line)) s r d d′ → Notes (sayBase twice late line) s r d d′
   unfolding pushing sayBase
   say-twice twice late line e F = record { fit = F .fit; kept = F .kept; after = λ b N D st H. rw e (F .after b N D st H) }
 
+  -- else 9 where there is an array
   pub say-late : (twice late : Bool) (line : ℕ) → twice ≡ false → Notes (noting late (optionBaseLate line)) s r d d′ → Notes (sayBase twice late line) s r d d′
   unfolding noting sayBase
   say-late twice late line e F = record { fit = F .fit; kept = F .kept; after = λ b N D st H. rw e (F .after b N D st H) }
@@ -178,6 +188,7 @@ module _ {s t : Counts} {b d d′ : List ℕ} {x y : Bool} (fit : Fit s (length 
       asked {A = Bool × Bool} (x, y) (λ rows. (has rows 143 0 0, anyArray rows)) (λ (p : Bool × Bool) N D. sayBase (p .0) (p .1) line N D) (λ p N D. say-stays (p .0) (p .1) line N D)
       (λ rows H. ap (λ (a : Bool). (a, y)) (first rows H) ∙ ap (λ (a : Bool). (has rows 143 0 0, a)) (second rows H)) (notes-does F b (fit .0))
 
+  -- both asked, what is to be said said, and the row entered
   pub base-collects : {r : Counts} {b′ ws : List ℕ} {at : ℕ} → ((rows : List Row) → Keeps rows (s .rows) b → x ≡ has rows 143 0 0) → ((rows : List Row) → Keeps rows (s .rows) b → y ≡ anyArray rows)
       → Notes (sayBase x y (lineAt ws at)) s t d d′ → Rows (entering (optionBaseRow (leafAt ws at))) t r b b′ → (scope : ℕ) → CollectsAny optionBaseKind ws scope at s r b d b′ d′
   unfolding statement optionBase entering sayBase
@@ -186,22 +197,26 @@ module _ {s t : Counts} {b d d′ : List ℕ} {x y : Bool} (fit : Fit s (length 
 
 -- ---- CONST
 
+-- a row with a value's words is the value's row
 pub const-entered : (name : ℕ) (v : Value) {kind low high : ℕ} {s r : Counts} {b b′ : List ℕ} → (kind ≡ literalKind v) × (low ≡ lowOf v) × (high ≡ highOf v)
     → Rows (entering (constRow name kind low high)) s r b b′ → Rows (entering (constOf name v)) s r b b′
 unfolding constOf
 const-entered name v e R = rw (sym (e .0), sym (e .1), sym (e .2)) R
 
 module _ {s r : Counts} {b d : List ℕ} (line name : ℕ) where
+  -- a value is entered
   pub folded-value : {b′ : List ℕ} {v : Value} {f : Fold} → Is v ≡ f → s .notes * noteWidth ≤ length d → Rows (entering (constOf name v)) s r b b′
       → (bytes ends erased : List ℕ) → Does (λ N D. folded (given (some N) (some D) bytes ends erased) line name f) s r b d b′ d
   unfolding folded entering
   folded-value e h R bytes ends erased = rw (sym e) (rows-does R d h)
 
+  -- an overflow is 11
   pub folded-over : {d′ : List ℕ} {f : Fold} → Overflow ≡ f → s .rows * width ≤ length b → Notes (pushing (constOverflow line name)) s r d d′
       → (bytes ends erased : List ℕ) → Does (λ N D. folded (given (some N) (some D) bytes ends erased) line name f) s r b d b d′
   unfolding folded pushing
   folded-over e h F bytes ends erased = rw (sym e) (notes-does F b h)
 
+  -- what isn't constant is 12
   pub folded-not : {d′ : List ℕ} {f : Fold} → NotConstant ≡ f → s .rows * width ≤ length b → Notes (pushing (notConstant line name)) s r d d′
       → (bytes ends erased : List ℕ) → Does (λ N D. folded (given (some N) (some D) bytes ends erased) line name f) s r b d b d′
   unfolding folded pushing
@@ -230,9 +245,11 @@ const-seen {at = at} (cons (word x) (cons (value e) done)) S =
     record { name = x; expression = e; leads = leads 89 2 (S .wrote) (S .valid .0) (S .valid .1 .0 .1); there = record { wrote = rw (append-nil (words e), p) at q; valid = S .valid .1 .1 .0 }; is = refl }
 
 module _ {ws : List ℕ} {at : ℕ} {s : Counts} {b : List ℕ} where
+  -- the name is within the words
   pub const-inside : ConstAt ws at s b → at + 1 < length ws
   const-inside C = const-seen (C .any .stmt .fields) (C .any .stmt .stands) .leads .inside
 
+  -- where the run goes on, the expression may be folded
   pub const-ready : ConstAt ws at s b → s .stop ≡ 0 → Ready ws (at + 2) b (s .rows)
   const-ready C go =
       let h = C .held go in
@@ -259,6 +276,7 @@ module _ {s : Counts} {b d : List ℕ} {ws : List ℕ} {at : ℕ} where
       stays : (bytes ends erased : List ℕ) (N D : ℕ) (e : Expr) → Stays (const (given (some N) (some D) bytes ends erased) (lineAt ws at) (leafAt ws at) (see e))
       stays bytes ends erased N D e k = refl
 
+  -- 10 where there was one, then what it folds to
   pub const-collects : {t r : Counts} {b′ d′ d″ : List ℕ} {x : Bool} {f : Folded} → Fit s (length b) (length d) → ((rows : List Row) → Keeps rows (s .rows) b → x ≡ has rows 132 (leafAt ws at) 0)
       → Evaluates ws (at + 2) b (s .rows) f → Notes (noting x (constDefined (lineAt ws at) (leafAt ws at))) s t d d′
       → ((bytes ends erased : List ℕ) → Does (λ N D. folded (given (some N) (some D) bytes ends erased) (lineAt ws at) (leafAt ws at) (f .fold)) t r b d′ b′ d″)

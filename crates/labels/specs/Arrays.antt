@@ -23,19 +23,23 @@ use Rattle.collect.specs.Collect.{anyArray}
 abbrev pub Small : List Row → Type 0
 Small rows = (i : ℕ) → i < length rows → getD (getD rows i []) 1 0 < 4294967296
 
+-- the rows of a buffer of 32-bit words
 pub keeps-small : {rows : List Row} {n : ℕ} {buf : List ℕ} → Words32 buf → Keeps rows n buf → Small rows
 keeps-small {rows} {n} {buf} W K i h =
     each-at (λ r. getD r 1 0 < 4294967296) [] rows (keeps-each K (λ r. getD r 1 0 < 4294967296) (λ j g. omega (arith, row-word buf j 1 (omega arith), W (j * width + 1)))) i h
 
+-- the rows after the first
 pub small-next : (r : Row) (rs : List Row) → Small (r ∷ rs) → Small rs
 small-next r rs S i h = S (suc i) (omega arith)
 
 -- a row's kind, by the place of its key among the first keys of the kinds
 module _ (r : Row) (k : ℕ) where
+  -- a key below the first of kind k: the row's kind is below k
   pub kind-below : key r < entryKey k 0 0 → kindOf (getD r 0 0) < k
   unfolding key
   kind-below h = omega (arith, h)
 
+  -- a key from there on: its kind is k or above
   pub kind-from : entryKey k 0 0 ≤ key r → getD r 1 0 < 4294967296 → k ≤ kindOf (getD r 0 0)
   unfolding key
   kind-from h s = omega (arith, h, s)
@@ -44,6 +48,7 @@ module _ (r : Row) (k : ℕ) where
 abbrev pub arraysFrom : ℕ
 arraysFrom = entryKey 133 0 0
 
+-- the first key of kind 134
 abbrev pub arraysTo : ℕ
 arraysTo = entryKey 134 0 0
 
@@ -54,6 +59,7 @@ none-above b (r ∷ rs) t h S =
     let k : 134 ≤ kindOf (getD r 0 0) = kind-from r 134 (omega (arith, t .1)) (S 0 (omega arith)) in
     rw (ne-eqb (kindOf (getD r 0 0)) 133 (λ e. omega (arith, e, k))) (none-above (suc (key r)) rs (t .2) (omega (arith, t .1)) (small-next r rs S))
 
+-- some row is an array's exactly where the two places differ
 pub any-array : (b : ℕ) (rows : List Row) → Table b rows → Small rows → ltb (rank arraysFrom rows) (rank arraysTo rows) ≡ anyArray rows
 unfolding anyArray rank
 any-array b [] t S = refl
@@ -73,6 +79,7 @@ any-array b (r ∷ rs) t S = go (zone arraysFrom arraysTo (key r)) (any-array (s
 
 -- ---- before the first of them, after the last, and between
 
+-- before the first key of kind 133 no row is an array's
 pub take-quiet : (rows : List Row) → anyArray (take (rank arraysFrom rows) rows) ≡ false
 unfolding anyArray rank
 take-quiet [] = refl
@@ -84,6 +91,7 @@ take-quiet (r ∷ rs) = go (order (key r) arraysFrom) (take-quiet rs)
         rw (rank-lt arraysFrom r rs q, ne-eqb (kindOf (getD r 0 0)) 133 (λ e. omega (arith, e, k))) ih
     go (inr q) ih = rw (rank-ge arraysFrom r rs q) refl
 
+-- nor is one from the first key of kind 134 on
 pub drop-quiet : (b : ℕ) (rows : List Row) → Table b rows → Small rows → anyArray (drop (rank arraysTo rows) rows) ≡ false
 unfolding rank anyArray
 drop-quiet b [] t S = refl
@@ -93,6 +101,7 @@ drop-quiet b (r ∷ rs) t S = go (order (key r) arraysTo) (drop-quiet (suc (key 
     go (inl q) ih = rw (rank-lt arraysTo r rs q) ih
     go (inr q) ih = rw (rank-ge arraysTo r rs q) (none-above (key r) (r ∷ rs) (t .0, omega arith, t .2) q S)
 
+-- each row between is
 pub array-between : (rows : List Row) → Table 0 rows → Small rows → (i : ℕ) → rank arraysFrom rows ≤ i → i < rank arraysTo rows → kindOf (getD (getD rows i []) 0 0) ≡ 133
 array-between rows t S i p q =
     let inside : i < length rows = omega (arith, q, rank-le arraysTo rows) in

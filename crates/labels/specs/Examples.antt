@@ -22,6 +22,7 @@ base = (refl, refl, refl, refl)
 abbrev pub rows : List Row
 rows = constRow 5 24 1 0 ∷ arrayRow 0 0 1 4 false ∷ arrayRow 16777215 0xffffffff 2 5 true ∷ typedVarRow 0 0 40 0 ∷ []
 
+-- the arrays stand from place 1 to below 3; among rows without arrays there is none
 pub places : (rank arraysFrom rows ≡ 1) × (rank arraysTo rows ≡ 3) × (anyArray rows ≡ true) × (anyArray (constRow 5 24 1 0 ∷ typedVarRow 0 0 40 0 ∷ []) ≡ false)
 unfolding rank key anyArray
 places = (refl, refl, refl, refl)

@@ -28,6 +28,7 @@ pub record FineNote (ns : List ℕ) (r : Row) : Type 0 where
   pub first : scopeOk ns (getD r 2 0) ≡ true
   pub second : scopeOk ns (getD r 3 0) ≡ true
 
+-- what holds of each of two lists holds of each of both, one after the other
 pub each-append : {A : Type 0} (P : A → Type 0) (xs ys : List A) → Each P xs → Each P ys → Each P (xs ++ ys)
 unfolding Each
 each-append P [] ys a b = b
@@ -41,6 +42,7 @@ module _ (ns : List ℕ) (n : ℕ) where
     pub narrow : Narrow rows
     pub consts : Consts n rows
 
+  -- a state is good: its rows are, or its number leaves zeros
   abbrev pub Good : State → Type 0
   Good (running rows notes) = GoodRows rows
   Good (stopped k) = zeroing k ≡ true
@@ -52,6 +54,7 @@ module _ (ns : List ℕ) (n : ℕ) where
     pub narrow : getD r 1 0 < 4294967296
     pub consts : (rows : List Row) → Consts n rows → Consts n (insert r rows)
 
+  -- no rows are good rows
   pub no-rows : GoodRows []
   unfolding Each
   no-rows = record { table = tt; ok = tt; narrow = tt; consts = consts-none n }
@@ -60,6 +63,7 @@ module _ (ns : List ℕ) (n : ℕ) where
   pub other : (r : Row) → length r ≡ width → rowOk ns r ≡ true → (kindOf (getD r 0 0) ≡ 132 → ⊥) → getD r 1 0 < 4294967296 → Entry r
   other r w o k h = record { wide = w; ok = o; narrow = h; consts = λ rows C. consts-other C r k h }
 
+  -- good rows stay good when a row is entered that may be
   pub insert-good : (r : Row) (rows : List Row) → Entry r → GoodRows rows → GoodRows (insert r rows)
   insert-good r rows E g =
       record {
@@ -69,11 +73,13 @@ module _ (ns : List ℕ) (n : ℕ) where
         consts = E .consts rows (g .consts);
       }
 
+  -- when several such rows are
   pub insert-all-good : (new rows : List Row) → Each Entry new → GoodRows rows → GoodRows (insertAll new rows)
   unfolding Each insertAll
   insert-all-good [] rows E g = g
   insert-all-good (r ∷ rs) rows E g = insert-all-good rs (insert r rows) (E .1) (insert-good r rows (E .0) g)
 
+  -- when rows are taken out and several entered
   pub replace-good : (lo hi : ℕ) (new rows : List Row) → lo ≤ hi → Each Entry new → GoodRows rows → GoodRows (replace lo hi new rows)
   unfolding replace
   replace-good lo hi new rows h E g =
@@ -86,12 +92,14 @@ module _ (ns : List ℕ) (n : ℕ) where
 
   -- ---- a row that is there
 
+  -- the row of the key k, in order by itself
   pub record Found (k : ℕ) (r : Row) : Type 0 where
     pub is : key r ≡ k
     pub wide : length r ≡ width
     pub ok : rowOk ns r ≡ true
     pub narrow : getD r 1 0 < 4294967296
 
+  -- what is found has the key and is in order
   pub found : (k : ℕ) (rows : List Row) (r : Row) → GoodRows rows → find k rows ≡ some r → Found k r
   found k rows r g e =
       record {
@@ -115,10 +123,12 @@ module _ (ns : List ℕ) (n : ℕ) (G : Given) where
   Bounded (running rows notes) = Each (FineNote ns) notes × (fits noteWidth (G .note-room) notes ≡ true) × (fits width (G .row-room) rows ≡ true)
   Bounded (stopped k) = Unit {0}
 
+  -- a step that keeps a state good, and a good one bounded
   pub record Keeps (f : Step) : Type 0 where
     pub on : (st : State) → Good ns n st → Good ns n (f st)
     pub bounded : (st : State) → Good ns n st → Bounded st → Bounded (f st)
 
+  -- pushing a diagnostic that names names keeps a state good and bounded
   pub push-k : {note : Row} → FineNote ns note → Keeps (push (G .note-room) note)
   unfolding push zeroing Each
   push-k {note} F = record { on = by; bounded = bound }
@@ -139,6 +149,7 @@ module _ (ns : List ℕ) (n : ℕ) (G : Given) where
       bound (running rows notes) g h = room rows (notes ++ (note ∷ [])) (fits noteWidth (G .note-room) (notes ++ (note ∷ []))) refl (each-append (FineNote ns) notes (note ∷ []) (h .0) (F, tt)) (h .2)
       bound (stopped k) g h = tt
 
+  -- so does a change that makes good rows of good rows
   pub change-k : (f : List Row → List Row) → ((rows : List Row) → GoodRows ns n rows → GoodRows ns n (f rows)) → Keeps (change (G .row-room) f)
   unfolding change zeroing
   change-k f h = record { on = by; bounded = bound }
@@ -159,13 +170,16 @@ module _ (ns : List ℕ) (n : ℕ) (G : Given) where
       bound (running rows notes) g b = room (f rows) notes (fits width (G .row-room) (f rows)) refl (b .0) (b .1)
       bound (stopped k) g b = tt
 
+  -- entering a row that may be entered
   pub enter-k : (r : Row) → Entry ns n r → Keeps (enter (G .row-room) r)
   unfolding enter
   enter-k r E = change-k (insert r) (λ rows g. insert-good ns n r rows E g)
 
+  -- doing nothing
   pub nothing-k : Keeps nothing
   nothing-k = record { on = λ st g. g; bounded = λ st g b. b }
 
+  -- stopping with 9
   pub stop-k : Keeps (stop 9)
   unfolding stop zeroing
   stop-k = record { on = by; bounded = bound }
@@ -178,20 +192,25 @@ module _ (ns : List ℕ) (n : ℕ) (G : Given) where
       bound (running rows notes) g b = tt
       bound (stopped m) g b = tt
 
+  -- two steps that keep it so, in turn
   pub then-k : {f h : Step} → Keeps f → Keeps h → Keeps (λ st. h (f st))
   then-k {f} F H = record { on = λ st g. H .on (f st) (F .on st g); bounded = λ st g b. H .bounded (f st) (F .on st g) (F .bounded st g b) }
 
+  -- the one of two that a test picks; each need keep it so only where it is picked
   pub pick-k : {f h : Step} (b : Bool) → (b ≡ true → Keeps f) → (b ≡ false → Keeps h) → Keeps (pick b f h)
   pick-k true F H = F refl
   pick-k false F H = H refl
 
+  -- a step under a test; it need keep it so only where the test holds
   pub if-k : {f : Step} (b : Bool) → (b ≡ true → Keeps f) → Keeps (when b f)
   if-k true F = F refl
   if-k false F = nothing-k
 
+  -- a step that keeps it so, under a test
   pub when-k : {f : Step} (b : Bool) → Keeps f → Keeps (when b f)
   when-k b F = if-k b (λ e. F)
 
+  -- a step that the rows decide, where each that good rows may choose keeps it so
   pub asking-k : {f : List Row → Step} → ((rows : List Row) → GoodRows ns n rows → Keeps (f rows)) → Keeps (asking f)
   unfolding asking
   asking-k {f} F = record { on = by; bounded = bound }
@@ -204,6 +223,7 @@ module _ (ns : List ℕ) (n : ℕ) (G : Given) where
       bound (running rows notes) g b = F rows g .bounded (running rows notes) g b
       bound (stopped k) g b = tt
 
+  -- a step for each of a list, where it keeps it so for each element as P says
   pub each-k : {A : Type 0} {P : A → Type 0} {f : A → Step} → ((x : A) → P x → Keeps (f x)) → (xs : List A) → Each P xs → Keeps (each f xs)
   unfolding each Each
   each-k F [] a = nothing-k

@@ -481,6 +481,7 @@ module _ (ns : List ℕ) (n : ℕ) where
 
     -- ---- THE LAWS: a statement, all statements of a tree, a whole program
 
+    -- a right statement's step, without its bodies
     pub statement-good : (scope line : ℕ) (k : Kind) (r : Tree Expr (row (sorts k))) → length ns ≡ n → Scope ns n scope → Right ns n (Stmt k line r) → Known n r → Keeps ns n G (C.statement G scope line (view k (over see r)))
     unfolding Right
     statement-good scope line k r c s h q = view-k scope line (view k (over see r)) c (h .0) s (view-fine ns n k r (h .1) q)
@@ -500,10 +501,12 @@ module _ (ns : List ℕ) (n : ℕ) where
     walk-k scope noRows c s h q = nothing-k ns n G
     walk-k scope (more t ts) c s h q = then-k ns n G (walk-k scope t c s (h .0) (q .0)) (walk-k scope ts c s (h .1) (q .1))
 
+    -- `collect` of a right tree, in any scope
     pub collect-good : {i : Shape} (scope : ℕ) (v : Tree Expr i) → length ns ≡ n → Scope ns n scope → Right ns n v → Known n v → Keeps ns n G (C.collect G scope (over see v))
     unfolding C.collect
     collect-good scope v c s h q = walk-k scope v c s h q
 
+    -- the rows that `collect` gives of a right program
     pub collected-good : {i : Shape} (v : Tree Expr i) → length ns ≡ n → Right ns n v → Known n v → Good ns n (C.collected G v)
     unfolding C.collected
     collected-good v c h q = collect-good 0 v c (module-scope ns n) h q .on (running [] []) (no-rows ns n)
@@ -518,10 +521,12 @@ module _ (ns : List ℕ) (n : ℕ) where
     collision-k rows r o =
         if-k ns n G (eqb (kindOf (getD r 0 0)) 133) (λ e. collides-k (getD r 3 0) (payOf (getD r 0 0)) (find (entryKey 135 (payOf (getD r 0 0)) 0) rows) (array-name ns r (eqb-true _ 133 e) o))
 
+    -- the collision check
     pub collisions-good : Keeps ns n G (C.checkNameCollisions G)
     unfolding C.checkNameCollisions
     collisions-good = asking-k ns n G (λ rows g. each-k ns n G (λ r o. collision-k rows r o) rows (g .ok))
 
+    -- the rows after both
     pub analysed-good : {i : Shape} (v : Tree Expr i) → length ns ≡ n → Right ns n v → Known n v → Good ns n (C.analysed G v)
     unfolding C.analysed
     analysed-good v c h q = collisions-good .on (C.collected G v) (collected-good v c h q)
@@ -536,12 +541,15 @@ module _ (ns : List ℕ) (n : ℕ) where
 -- ---- in lent's own terms: the words of such rows, in a buffer of any length that they fit, are a lent table, and its rows are those
 
 module _ (ns : List ℕ) (n : ℕ) (rows : List Row) (g : GoodRows ns n rows) (N : ℕ) (fit : length rows * width ≤ N) where
+  -- they are a lent table
   pub image-lent : Lent ns rows (length rows) (image width N rows)
   image-lent = good-lent ns n g (holds-image N rows (g .table) fit)
 
+  -- the test of a lent table says so
   pub image-checked : checked ns (image width N rows) ≡ Rows (length rows)
   image-checked = checked-complete ns rows (length rows) (image width N rows) image-lent
 
+  -- and gives these rows
   pub image-rows : lentRows ns (image width N rows) ≡ gives rows
   image-rows = lent-rows ns rows (length rows) (image width N rows) image-lent
 
@@ -552,6 +560,7 @@ collected-lent {ws} {ns} {n} {v = v} W c s G rows notes e N fit =
     let g : Good ns n (running rows notes) = subst (Good ns n) e (collected-good ns n G v c (s .valid) (stands-known W s)) in
     image-rows ns n rows g N fit
 
+-- the same with the collision check
 pub analysed-lent : {ws ns : List ℕ} {n : ℕ} {i : Shape} {v : Tree Expr i} {at end : ℕ} → Words32 ws → length ns ≡ n → Stands ws ns n at v end → (G : Given) (rows notes : List Row) → C.analysed G v ≡ running rows notes
     → (N : ℕ) → length rows * width ≤ N → lentRows ns (image width N rows) ≡ gives rows
 analysed-lent {ws} {ns} {n} {v = v} W c s G rows notes e N fit =

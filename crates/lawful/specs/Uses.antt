@@ -85,6 +85,7 @@ module _ (ns : List ℕ) (n : ℕ) where
   own-small noRows h = tt
   own-small (addRow r rs) h = each-append FineExpr (own (over see r)) (own (over see rs)) (own-small r (h .0)) (own-small rs (h .1))
 
+  -- the count of a target's indices, where it has a list
   pub optional-small : (v : Tree Expr (one (opt (exprs & nil)))) → Right ns n v → Small (indexed (optional expressions (over see v)))
   unfolding indexed optional expressions items over Right
   optional-small (this r) h = tt

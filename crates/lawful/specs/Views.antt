@@ -64,6 +64,7 @@ module _ (ws ns : List ℕ) (n : ℕ) (W : Words32 ws) where
   known none w h = tt
   known (more r rs) w h = (known r (wrote-left (wordsT r) (wordsT rs) w) (h .0), known rs (wrote-right (wordsT r) w) (h .1))
 
+-- a tree in words of 32 bits folds to values that a row may hold
 pub stands-known : {ws ns : List ℕ} {n : ℕ} {i : Shape} {v : Tree Expr i} {at end : ℕ} → Words32 ws → Stands ws ns n at v end → Known n v
 stands-known {ws} {ns} {n} {v = v} W s = known ws ns n W v (s .wrote) (s .valid)
 
@@ -73,25 +74,31 @@ module _ (ns : List ℕ) (n : ℕ) where
     pub ok : scopeOk ns scope ≡ true
     pub fits : scope ≤ 16777216
 
+  -- a type that a row may have
   abbrev pub TypeFine : TypeRef → Type 0
   TypeFine t = typeOk ns (head t) (arg t) ≡ true
 
+  -- such a type or none
   abbrev pub OptFine : Option TypeRef → Type 0
   OptFine absent = Unit {0}
   OptFine (some t) = TypeFine t
 
+  -- a field with a name's number and a type in order
   pub record FineField (f : FieldDecl) : Type 0 where
     pub name : Named ns (f .name)
     pub ty : TypeFine (f .ty)
 
+  -- an item with a name's number and a type in order or none
   pub record FineItem (i : ScopeItem) : Type 0 where
     pub name : Named ns (i .name)
     pub ty : OptFine (i .ty)
 
+  -- a parameter, the same
   pub record FineParam (p : Param) : Type 0 where
     pub name : Named ns (p .name)
     pub ty : OptFine (p .ty)
 
+  -- a declarator, the same, whose dimensions are few
   pub record FineDecl (d : Declarator Seen) : Type 0 where
     pub name : Named ns (d .name)
     pub dims : Small (indexed (d .dimensions))
@@ -103,6 +110,7 @@ module _ (ns : List ℕ) (n : ℕ) where
     pub few : length ps < 16777216
     pub rank : (name : ℕ) → Small (subscriptCount (λ name (e : Seen). e .use-of name) name b)
 
+  -- what a statement shows is in order, kind by kind
   abbrev pub FineView : View Seen → Type 0
   FineView (Label x) = x < 16777216
   FineView (LabelName x) = Named ns x
@@ -119,6 +127,7 @@ module _ (ns : List ℕ) (n : ℕ) where
 
   -- ---- laws
 
+  -- such a type or none passes the rule of a row
   pub type-or-none : (t : Option TypeRef) → OptFine t → typeOrNone ns (headOf t) (argOf t) ≡ true
   type-or-none absent h = refl
   type-or-none (some Integer) h = h
@@ -128,19 +137,23 @@ module _ (ns : List ℕ) (n : ℕ) where
   type-or-none (some (FixedString k)) h = h
   type-or-none (some (Record x)) h = h
 
+  -- a name's number plus 1 is a scope
   pub marked-scope : (x : ℕ) → isMarked ns x ≡ true → scopeOk ns (x + 1) ≡ true
   unfolding scopeOk
   marked-scope x h =
       let k : x + 1 - 1 ≡ x = omega arith in
       rw (ne-eqb (x + 1) 0 (λ e. omega arith), k) h
 
+  -- the scope of a procedure's own
   pub own-scope : (x : ℕ) → Named ns x → Scope (x + 1)
   own-scope x h = record { ok = marked-scope x (h .named); fits = omega (arith, h .fits) }
 
+  -- the module's scope
   pub module-scope : Scope 0
   unfolding scopeOk
   module-scope = record { ok = refl; fits = omega arith }
 
+  -- a statement's bodies stand in a scope
   pub inner-scope : {scope : ℕ} (v : View Seen) → Scope scope → FineView v → Scope (inner scope v)
   unfolding inner
   inner-scope (Label x) s h = s
@@ -202,6 +215,7 @@ module _ (ns : List ℕ) (n : ℕ) where
   unfolding declarator over Right
   decl-fine (cons (word x) (cons ds (cons ls (cons t done)))) h = record { name = named-is x (h .0); dims = optional-small ns n ds (h .1 .0); ty = asType-fine t (h .1 .1 .1 .0) }
 
+  -- a right statement shows what is in order
   pub view-fine : (k : Kind) (r : Tree Expr (row (sorts k))) → Right ns n r → Known n r → FineView (view k (over see r))
   unfolding sorts view over Right Known see
   view-fine label (cons (word x) done) h q = h .0 .1

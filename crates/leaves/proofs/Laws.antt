@@ -59,15 +59,18 @@ answers-after {A} {B} {s} {bytes} {ends} {t} {u} {r} k a e = record { at = a .at
 -- ---- 6 and 11
 
 module _ (names rows : List ℕ) (q : Question) where
+  -- rows that are no lent table: 6
   pub ruled-bad : checked names rows ≡ Bad → ruled names rows q ≡ refused NoRows
   unfolding ruled lentRows after refused
   ruled-bad e = rw e
 
   module _ (n : ℕ) (e : checked names rows ≡ Rows n) where
+    -- a question that isn't right: 11
     pub ruled-no : admits names q ≡ false → ruled names rows q ≡ refused Lookup
     unfolding ruled lentRows after refused unless
     ruled-no a = rw (e, a)
 
+    -- else the rows
     pub ruled-yes : admits names q ≡ true → ruled names rows q ≡ gives (rowsOf n rows)
     unfolding ruled lentRows after unless
     ruled-yes a = rw (e, a)
@@ -89,6 +92,7 @@ arg-below names head arg l e = go (eqb head 44) (eqb head 45) (leb 40 head) (leb
         let z : _≡_ {A = ℕ} 0 1 = cc in
         absurd (omega arith)
 
+-- the numbers of a right question are those that `lookup` takes
 pub small-admitted : (names : List ℕ) (q : Question) → length names ≤ 1024 → admits names q ≡ true → Small q
 unfolding admits
 small-admitted names (InProc proc name) l e =
@@ -99,6 +103,7 @@ small-admitted names (InScope scope name) l e =
     (omega (arith, scope-below names scope (b .0)), omega (arith, name-below names name (b .1)))
 small-admitted names (OfType head arg) l e = arg-below names head arg l e
 
+-- its name is a name's number
 pub scope-admitted : (names : List ℕ) (scope name : ℕ) → admits names (InScope scope name) ≡ true → isMarked names name ≡ true
 unfolding admits
 scope-admitted names scope name e = and-eq-true-iff (scopeOk names scope) (isMarked names name) .0 e .1
@@ -123,6 +128,7 @@ pub record Spelled (bytes ends : List ℕ) (x : ℕ) : Type 0 where
   pub fits : getD ends x 0 ≤ length bytes
 
 module _ (bytes ends : List ℕ) (x : ℕ) (s : sound bytes ends ≡ true) (e : isMarked (namesOf bytes ends) x ≡ true) where
+  -- a name's number is below the number of strings
   pub inside : x < length ends
   inside = omega (arith, name-below (namesOf bytes ends) x e, names-length bytes ends)
 
@@ -146,6 +152,7 @@ module _ (bytes ends : List ℕ) (x : ℕ) (s : sound bytes ends ≡ true) (e : 
   unfolding stringAt
   string-length = length-take-le (getD ends x 0 - startOf ends x) (drop (startOf ends x) bytes) (omega (arith, length-drop (startOf ends x) bytes, ordered .0, ordered .1))
 
+  -- so is the string of this name
   pub spelled : Spelled bytes ends x
   spelled = record { inside = inside; more = go (order (startOf ends x) (getD ends x 0)); fits = ordered .1 }
     where

@@ -33,26 +33,32 @@ use Rattle.leaves.specs.declared.Taking.the-variants.{NoName, Entry}
 use Rattle.leaves.specs.declared.Gate.{Gate}
 use Rattle.leaves.specs.declared.Gate.the-variants.{Closed, Passed}
 
+-- yes or no
 abbrev pub tellFlag : Flagged → Told Bool
 tellFlag (NoFlag f) = refused f
 tellFlag (Flag b) = gives b
 
+-- a number
 abbrev pub tellCount : Counted → Told ℕ
 tellCount (NoCount f) = refused f
 tellCount (Count n) = gives n
 
+-- a type, or none
 abbrev pub tellType : TypedAs → Told (Option TypeRef)
 tellType (NoType f) = refused f
 tellType (Var t) = gives (typed t)
 
+-- an array, or none
 abbrev pub tellArray : Arrayed → Told (Option ArrayInfo)
 tellArray (NoLook f) = refused f
 tellArray (Look a) = gives (array a)
 
+-- a class, or none
 abbrev pub tellClass : Classed → Told (Option ℕ)
 tellClass (NoClass f) = refused f
 tellClass (Held c) = gives (class c)
 
+-- a builtin's arguments
 abbrev pub tellTaking : Taking → Told Arguments
 tellTaking (NoName f) = refused f
 tellTaking (Entry a) = gives a
@@ -74,6 +80,7 @@ pub record Passing (names rows : List ℕ) (q : Question) (n : ℕ) : Type 0 whe
   pub holds : Holds (rowsOf n rows) n rows
   pub admitted : admits names q ≡ true
 
+-- where the table passed, it is known to be so
 abbrev pub Judged : (names rows : List ℕ) → Question → Opened → Type 0
 Judged names rows q (Shut f) = Unit {0}
 Judged names rows q (Table n) = Passing names rows q n
@@ -84,6 +91,7 @@ pub record Known (bytes ends rows : List ℕ) (q : Question) (n : ℕ) : Type 0 
   pub right : sound bytes ends ≡ true
   pub small : Small q
 
+-- where it passed, all this is known
 abbrev pub Ready : (bytes ends rows : List ℕ) → Question → Opened → Type 0
 Ready bytes ends rows q (Shut f) = Unit {0}
 Ready bytes ends rows q (Table n) = Known bytes ends rows q n
@@ -93,6 +101,7 @@ abbrev pub tellGate : Gate → Told (Unit {0})
 tellGate (Closed f) = refused f
 tellGate Passed = gives tt
 
+-- what is known where they passed
 abbrev pub Passes : (bytes ends : List ℕ) → Gate → Type 0
 Passes bytes ends (Closed f) = Unit {0}
 Passes bytes ends Passed = (sound bytes ends ≡ true) × (length ends ≤ maxStrings)

@@ -18,9 +18,11 @@ use Rattle.lookup.specs.Builtins.{takes, builtins, same, entryOf, builtin}
 use Rattle.lookup.specs.declared.Arguments.the-variants.{Unknown}
 use Rattle.leaves.specs.Leaves.{admits, ruled, asked, lastByte, sharesAt, typeWordsAt, lookupArrayAt, declaredTypeAt, builtinAt}
 
+-- the bytes of the three strings
 pub bytes : List ℕ
 bytes = ascii "AB%b"
 
+-- and their ends
 pub ends : List ℕ
 ends = 1 ∷ 3 ∷ 4 ∷ []
 
@@ -28,13 +30,16 @@ ends = 1 ∷ 3 ∷ 4 ∷ []
 pub rows : List ℕ
 rows = (0x85000001 ∷ 0 ∷ 2 ∷ 7 ∷ 0 ∷ zeros (width - 5)) ++ zeros 3
 
+-- an array whose name is string 2, which is no name
 pub bad : List ℕ
 bad = 0x85000002 ∷ 0 ∷ 2 ∷ 7 ∷ 0 ∷ zeros (width - 5)
 
+-- the string table meets its rule
 pub table-sound : sound bytes ends ≡ true
 unfolding bytes ends ascii sound allBelow rightAt endRight startOf stringAt allPrintable between rises order lastRight
 table-sound = refl
 
+-- the first two strings are names
 pub marks : namesOf bytes ends ≡ 1 ∷ 1 ∷ 0 ∷ []
 unfolding bytes ends ascii namesOf marksBelow stringAt startOf isName between inner suffix rest
 marks = refl
@@ -51,6 +56,7 @@ pub stopped :
 unfolding bytes ends rows bad ascii namesOf marksBelow stringAt startOf isName between inner suffix rest lookupArrayAt sharesAt typeWordsAt builtinAt asked ruled admits after unless refused lentRows checked scan endedAt allZero key rowOk kindOk wordsOk wordOk constOk typeOk scopeOk
 stopped = (refl, refl, refl, refl, refl, refl, refl)
 
+-- an array in its scope, and none in another; a class by the suffix, and by none; a name that no builtin has
 pub answered :
     (lookupArrayAt bytes ends rows 0 1 ≡ gives (some (record { rank = 2; line = 7; lower = 0 })))
     × (lookupArrayAt bytes ends rows 1 1 ≡ gives none)

@@ -39,26 +39,32 @@ unfolding ruled
 asked bytes ends rows q f = after (ruled (namesOf bytes ends) rows q) (λ (rs : List Row). gives (f rs))
 
 module _ (bytes ends rows : List ℕ) where
+  -- `shares`
   unfoldable pub sharesAt : (proc name : ℕ) (array : Bool) → Told Bool
   unfolding asked
   sharesAt proc name array = asked bytes ends rows (InProc proc name) (λ (rs : List Row). shares rs proc name array)
 
+  -- `is_static`
   unfoldable pub isStaticAt : (proc name : ℕ) (array : Bool) → Told Bool
   unfolding asked
   isStaticAt proc name array = asked bytes ends rows (InProc proc name) (λ (rs : List Row). isStatic rs proc name array)
 
+  -- `type_words`
   unfoldable pub typeWordsAt : (head arg : ℕ) → Told ℕ
   unfolding asked
   typeWordsAt head arg = asked bytes ends rows (OfType head arg) (λ (rs : List Row). typeWords rs head arg)
 
+  -- `typed_var`
   unfoldable pub typedVarAt : (scope name : ℕ) → Told (Option TypeRef)
   unfolding asked
   typedVarAt scope name = asked bytes ends rows (InScope scope name) (λ (rs : List Row). typedVar rs scope name)
 
+  -- `typed_var_in`
   unfoldable pub typedVarInAt : (scope name : ℕ) → Told (Option TypeRef)
   unfolding asked
   typedVarInAt scope name = asked bytes ends rows (InScope scope name) (λ (rs : List Row). typedVarIn rs scope name)
 
+  -- `lookup_array`
   unfoldable pub lookupArrayAt : (scope name : ℕ) → Told (Option ArrayInfo)
   unfolding asked
   lookupArrayAt scope name = asked bytes ends rows (InScope scope name) (λ (rs : List Row). lookupArray rs scope name)
@@ -67,6 +73,7 @@ module _ (bytes ends rows : List ℕ) where
 unfoldable pub lastByte : List ℕ → ℕ
 lastByte s = getD s (length s - 1) 0
 
+-- `declared_type`, with the last byte of the name
 unfoldable pub declaredTypeAt : (bytes ends rows : List ℕ) (scope name : ℕ) → Told (Option ℕ)
 unfolding asked lastByte
 declaredTypeAt bytes ends rows scope name = asked bytes ends rows (InScope scope name) (λ (rs : List Row). declaredType rs (lastByte (stringAt bytes ends name)) scope name)

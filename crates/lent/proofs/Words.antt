@@ -36,12 +36,15 @@ module _ (names rs ws : List ℕ) (j : ℕ) where
       ∙ ap (λ (l : List ℕ). pick here (wordsOk names l (drop (suc j) ws)) false) (drop-drop 1 j rs)
       ∙ ap (λ (i : ℕ). pick here (wordsOk names (drop (j + 1) rs) (drop i ws)) false) (sym (add-one j))
 
+  -- it is right: those after it decide
   pub words-more : j < length ws → here ≡ true → wordsOk names (drop j rs) (drop j ws) ≡ wordsOk names (drop (j + 1) rs) (drop (j + 1) ws)
   words-more h o = step h ∙ pick-true rest false o
 
+  -- it isn't: nor is the row
   pub words-no : j < length ws → here ≡ false → wordsOk names (drop j rs) (drop j ws) ≡ false
   words-no h o = step h ∙ pick-false rest false o
 
+  -- past the last word nothing is asked
   pub words-end : length ws ≤ j → wordsOk names (drop j rs) (drop j ws) ≡ true
   unfolding wordsOk
   words-end h = rw (drop-of-length-le ws h)

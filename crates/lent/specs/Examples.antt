@@ -13,9 +13,11 @@ use Rattle.lent.specs.Lent.{allZero, endedAt, scan, checked}
 use Rattle.lent.specs.declared.Checked.{Checked}
 use Rattle.lent.specs.declared.Checked.the-variants.{Bad, Rows}
 
+-- the marks of the three strings
 pub names : List ℕ
 names = 1 ∷ 0 ∷ 1 ∷ []
 
+-- a test holds of each row
 pub all : (Row → Bool) → List Row → Bool
 all p [] = true
 all p (r ∷ rs) = pick (p r) (all p rs) false
@@ -98,6 +100,7 @@ outside =
     row 143 1 [] ∷
     optionBaseRow 16777216 ∷ []
 
+-- the test of one row says so
 pub bounds : (all (rowOk names) inside ≡ true) × (all (λ (r : Row). not (rowOk names r)) outside ≡ true)
 unfolding names all inside outside rowOk kindOk wordsOk wordOk constOk constRule typeOk scopeOk
 bounds = (refl, refl)

@@ -25,6 +25,7 @@ pub record Lent (names : List ℕ) (rows : List Row) (n : ℕ) (buf : List ℕ) 
   pub holds : Holds rows n buf
   pub ok : AllOk names rows
 
+-- each word is 0
 unfoldable pub allZero : List ℕ → Bool
 allZero [] = true
 allZero (x ∷ xs) = pick (eqb x 0) (allZero xs) false

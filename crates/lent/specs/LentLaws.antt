@@ -25,15 +25,18 @@ use Rattle.lent.specs.declared.Checked.the-variants.{Bad, Rows}
 
 -- ---- zeros
 
+-- a zero at i: the words from i on are all zero if those after it are
 pub all-zero-more : (b : List ℕ) (i : ℕ) → i < length b → getD b i 0 ≡ 0 → allZero (drop i b) ≡ allZero (drop (i + 1) b)
 unfolding allZero
 all-zero-more b i h e =
     ap allZero (drop-cons b i 0 h) ∙ pick-true (allZero (drop (suc i) b)) false (eq-eqb (getD b i 0) 0 e) ∙ ap (λ (n : ℕ). allZero (drop n b)) (sym (add-one i))
 
+-- a word at i that is not zero: they are not
 pub all-zero-no : (b : List ℕ) (i : ℕ) → i < length b → (getD b i 0 ≡ 0 → ⊥) → allZero (drop i b) ≡ false
 unfolding allZero
 all-zero-no b i h e = ap allZero (drop-cons b i 0 h) ∙ pick-false (allZero (drop (suc i) b)) false (ne-eqb (getD b i 0) 0 e)
 
+-- past the last word none is left
 pub all-zero-end : (b : List ℕ) (i : ℕ) → length b ≤ i → allZero (drop i b) ≡ true
 unfolding allZero
 all-zero-end b i h = rw (drop-of-length-le b h)
@@ -42,11 +45,13 @@ all-zero-end b i h = rw (drop-of-length-le b h)
 pub row-of : List ℕ → ℕ → Row
 row-of b n = take width (drop (n * width) b)
 
+-- the first word from row n on is the buffer's word there
 pub head-at : (b : List ℕ) (n : ℕ) → getD (drop (n * width) b) 0 0 ≡ getD b (n * width) 0
 head-at b n =
     let z : n * width + 0 ≡ n * width = omega arith in
     getD-drop (n * width) b 0 0 ∙ ap (λ (i : ℕ). getD b i 0) z
 
+-- the key of row n, by its two words in the buffer
 pub key-row-of : (b : List ℕ) (n : ℕ) → key (take width (drop (n * width) b)) ≡ keyOf (getD b (n * width) 0) (getD b (n * width + 1) 0)
 unfolding key
 key-row-of b n =
@@ -56,6 +61,7 @@ key-row-of b n =
 
 -- ---- images
 
+-- the first n rows of a buffer are n rows
 pub length-rowsOf : (n : ℕ) (b : List ℕ) → length (rowsOf n b) ≡ n
 unfolding rowsOf
 length-rowsOf zero b = refl
@@ -105,12 +111,14 @@ module _ (lo : ℕ) (r : Row) (rs : List Row) (b : List ℕ) (t : Table lo (r �
       let s : length b ≡ length b - width + width = omega (arith, first-fits) in
       e ∙ ap (λ (j : ℕ). image width j (r ∷ rs)) s ∙ image-cons (length b - width) r rs
 
+  -- the first row's words are the first of the buffer
   pub first-row : take width b ≡ r
   first-row = ap (take width) b-is ∙ take-at r (image width (length b - width) rs) width (t .0)
 
   rest-is : drop width b ≡ image width (length b - width) rs
   rest-is = ap (drop width) b-is ∙ drop-at r (image width (length b - width) rs) width (t .0)
 
+  -- the words after it are the image of the other rows
   pub rest-image : drop width b ≡ image width (length (drop width b)) rs
   rest-image = rest-is ∙ ap (λ (j : ℕ). image width j rs) (sym (length-drop width b))
 
@@ -122,6 +130,7 @@ bad-not m s e f =
 module _ (names : List ℕ) where
   -- ---- a turn of the scan
 
+  -- a zero where a row would begin: what is left must be zeros
   pub scan-ended : (f lo n : ℕ) (b : List ℕ) → getD b 0 0 ≡ 0 → scan names f lo n b ≡ endedAt n b
   unfolding scan
   scan-ended zero lo n b e = refl
@@ -133,6 +142,7 @@ module _ (names : List ℕ) where
     scan-there =
         pick-false (endedAt n b) (pick (rowOk names (take width b)) (pick (leb lo (key (take width b))) (scan names f (suc (key (take width b))) (suc n) (drop width b)) Bad) Bad) (ne-eqb (getD b 0 0) 0 e)
 
+    -- a row that isn't in order by itself: Bad
     pub scan-bad-row : rowOk names (take width b) ≡ false → scan names (suc f) lo n b ≡ Bad
     scan-bad-row o = scan-there ∙ pick-false (pick (leb lo (key (take width b))) (scan names f (suc (key (take width b))) (suc n) (drop width b)) Bad) Bad o
 
@@ -140,18 +150,22 @@ module _ (names : List ℕ) where
       scan-ok : scan names (suc f) lo n b ≡ pick (leb lo (key (take width b))) (scan names f (suc (key (take width b))) (suc n) (drop width b)) Bad
       scan-ok = scan-there ∙ pick-true (pick (leb lo (key (take width b))) (scan names f (suc (key (take width b))) (suc n) (drop width b)) Bad) Bad o
 
+      -- a key below lo: Bad
       pub scan-bad-key : key (take width b) < lo → scan names (suc f) lo n b ≡ Bad
       scan-bad-key h = scan-ok ∙ pick-false (scan names f (suc (key (take width b))) (suc n) (drop width b)) Bad (lt-leb lo (key (take width b)) h)
 
+      -- a row in order, with a key from lo on: the scan goes on after it
       pub scan-next : lo ≤ key (take width b) → scan names (suc f) lo n b ≡ scan names f (suc (key (take width b))) (suc n) (drop width b)
       scan-next h = scan-ok ∙ pick-true (scan names f (suc (key (take width b))) (suc n) (drop width b)) Bad (le-leb lo (key (take width b)) h)
 
   -- ---- the same from within a buffer b, at row n of the cap that fit
 
   module _ (b : List ℕ) (cap lo n : ℕ) where
+    -- a zero at row n: what is left must be zeros
     pub turn-ended : getD b (n * width) 0 ≡ 0 → scan names (cap - n) lo n (drop (n * width) b) ≡ endedAt n (drop (n * width) b)
     turn-ended e = scan-ended (cap - n) lo n (drop (n * width) b) (head-at b n ∙ e)
 
+    -- as many rows as fit: what is left must be zeros
     pub turn-done : cap ≤ n → scan names (cap - n) lo n (drop (n * width) b) ≡ endedAt n (drop (n * width) b)
     unfolding scan
     turn-done h =
@@ -165,12 +179,15 @@ module _ (names : List ℕ) where
       e′ : getD (drop (n * width) b) 0 0 ≡ 0 → ⊥
       e′ z = e (sym (head-at b n) ∙ z)
 
+      -- row n isn't in order by itself: Bad
       pub turn-bad-row : rowOk names (take width (drop (n * width) b)) ≡ false → scan names (cap - n) lo n (drop (n * width) b) ≡ Bad
       turn-bad-row o = rw fuel (scan-bad-row (cap - (n + 1)) lo n (drop (n * width) b) e′ o)
 
+      -- its key is below lo: Bad
       pub turn-bad-key : rowOk names (take width (drop (n * width) b)) ≡ true → key (take width (drop (n * width) b)) < lo → scan names (cap - n) lo n (drop (n * width) b) ≡ Bad
       turn-bad-key o k = rw fuel (scan-bad-key (cap - (n + 1)) lo n (drop (n * width) b) e′ o k)
 
+      -- it is in order, with a key from lo on: the scan goes on at row n + 1
       pub turn-next : rowOk names (take width (drop (n * width) b)) ≡ true → lo ≤ key (take width (drop (n * width) b))
           → scan names (cap - n) lo n (drop (n * width) b) ≡ scan names (cap - (n + 1)) (suc (key (take width (drop (n * width) b)))) (n + 1) (drop ((n + 1) * width) b)
       turn-next o k =
@@ -289,6 +306,7 @@ module _ (names : List ℕ) where
       ∙ scan-complete f (suc (key (take width b))) (suc n) (drop width b) rs (omega arith) (omega arith) t′ (o .1) (rest-image lo r rs b t e)
       ∙ ap Rows s
 
+  -- a lent table of n rows is said to be one of n rows
   pub checked-complete : (rows : List Row) (n : ℕ) (b : List ℕ) → Lent names rows n b → checked names b ≡ Rows n
   unfolding checked
   checked-complete rows n b L =

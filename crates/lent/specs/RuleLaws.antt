@@ -18,6 +18,7 @@ use Rattle.lent.specs.Rules.{isMarked, scopeOk, wordOk, wordsOk, kindOk,
 
 -- ---- numbers of names
 
+-- the number of a name is below the number of strings
 pub name-below : (names : List ℕ) (x : ℕ) → isMarked names x ≡ true → x < length names
 name-below names x e = go (order x (length names))
   where
@@ -27,6 +28,7 @@ name-below names x e = go (order x (length names))
         let one : getD names x 0 ≡ 1 = eqb-true (getD names x 0) 1 e in
         absurd (omega (arith, one, List·getD-eq-default names 0 h))
 
+-- a scope is at most the number of strings
 pub scope-below : (names : List ℕ) (w : ℕ) → scopeOk names w ≡ true → w ≤ length names
 unfolding scopeOk
 scope-below names w e = go (eqb w 0) refl e
@@ -37,6 +39,7 @@ scope-below names w e = go (eqb w 0) refl e
 
 -- ---- words under their rules
 
+-- two tests, one after the other, both hold
 pub pick-both : (b c : Bool) → pick b c false ≡ true → (b ≡ true) × (c ≡ true)
 pick-both true c e = (refl, e)
 pick-both false c e = absurd (false≢true e)

@@ -86,6 +86,7 @@ rules =
 abbrev pub isMarked : List ℕ → ℕ → Bool
 isMarked names x = eqb (getD names x 0) 1
 
+-- a scope: the module's 0, or a name's number plus 1
 unfoldable pub scopeOk : List ℕ → ℕ → Bool
 scopeOk names w = pick (eqb w 0) true (isMarked names (w - 1))
 

@@ -33,6 +33,7 @@ itemOk mark = pick (eqb mark 0) false (ltb mark 4)
 -- ---- rows
 
 module _ (names : List ℕ) where
+  -- 128: a line number that a payload has room for, in a scope
   pub line-ok : (number scope : ℕ) → number < 16777216 → scopeOk names scope ≡ true → rowOk names (lineRow number scope) ≡ true
   unfolding rowOk kindOk wordsOk wordOk
   line-ok number scope h s =
@@ -41,6 +42,7 @@ module _ (names : List ℕ) where
       rw (k, p, lt-ltb number 16777216 h, s)
 
   module _ (name : ℕ) (h : name < 16777216) (n : isMarked names name ≡ true) where
+    -- 129: a label's row in a scope
     pub label-ok : (scope : ℕ) → scopeOk names scope ≡ true → rowOk names (labelRow name scope) ≡ true
     unfolding rowOk kindOk wordsOk wordOk
     label-ok scope s =
@@ -48,6 +50,7 @@ module _ (names : List ℕ) where
         let p : payOf (wordOf 129 name) ≡ name = omega arith in
         rw (k, p, n, s)
 
+    -- 130: with its words and its line
     pub type-ok : (words line : ℕ) → words < 65536 → line < 16777216 → rowOk names (typeRow name words line) ≡ true
     unfolding rowOk kindOk wordsOk wordOk
     type-ok words line w l =
@@ -55,6 +58,7 @@ module _ (names : List ℕ) where
         let p : payOf (wordOf 130 name) ≡ name = omega arith in
         rw (k, p, n, lt-ltb words 65536 w, lt-ltb line 16777216 l)
 
+    -- 131: with an ordinal, a name, its first word and a type
     pub field-ok : (ordinal field word head arg : ℕ) → ordinal < 16777216 → isMarked names field ≡ true → word < 65536 → typeOk names head arg ≡ true → rowOk names (fieldRow name ordinal field word head arg) ≡ true
     unfolding rowOk kindOk wordsOk wordOk
     field-ok ordinal field word head arg o f w t =
@@ -62,6 +66,7 @@ module _ (names : List ℕ) where
         let p : payOf (wordOf 131 name) ≡ name = omega arith in
         rw (k, p, n, lt-ltb ordinal 16777216 o, f, lt-ltb word 65536 w, t)
 
+    -- 132: with a constant
     pub const-ok : (kind low high : ℕ) → constOk names kind low high ≡ true → rowOk names (constRow name kind low high) ≡ true
     unfolding rowOk kindOk wordsOk wordOk
     const-ok kind low high c =
@@ -69,6 +74,7 @@ module _ (names : List ℕ) where
         let p : payOf (wordOf 132 name) ≡ name = omega arith in
         rw (k, p, n, c)
 
+    -- 133: in a scope, with a rank and a line
     pub array-ok : (scope rank line : ℕ) (lower : Bool) → scopeOk names scope ≡ true → rank < 16777216 → line < 16777216 → rowOk names (arrayRow name scope rank line lower) ≡ true
     unfolding rowOk kindOk wordsOk wordOk
     array-ok scope rank line lower s r l =
@@ -76,6 +82,7 @@ module _ (names : List ℕ) where
         let p : payOf (wordOf 133 name) ≡ name = omega arith in
         rw (k, p, n, s, lt-ltb rank 16777216 r, lt-ltb line 16777216 l, bit-flag lower)
 
+    -- 134: in a scope, with a type
     pub typed-var-ok : (scope head arg : ℕ) → scopeOk names scope ≡ true → typeOk names head arg ≡ true → rowOk names (typedVarRow name scope head arg) ≡ true
     unfolding rowOk kindOk wordsOk wordOk
     typed-var-ok scope head arg s t =
@@ -83,6 +90,7 @@ module _ (names : List ℕ) where
         let p : payOf (wordOf 134 name) ≡ name = omega arith in
         rw (k, p, n, s, t)
 
+    -- 135: with a line, and a type or none
     pub proc-ok : (function : Bool) (line head arg : ℕ) → line < 16777216 → typeOrNone names head arg ≡ true → rowOk names (procRow name function line head arg) ≡ true
     unfolding rowOk kindOk wordsOk wordOk
     proc-ok function line head arg l t =
@@ -90,6 +98,7 @@ module _ (names : List ℕ) where
         let p : payOf (wordOf 135 name) ≡ name = omega arith in
         rw (k, p, n, bit-flag function, lt-ltb line 16777216 l, t)
 
+    -- 136: with an ordinal, a name, and a type or none
     pub param-ok : (ordinal param : ℕ) (byval array : Bool) (head arg : ℕ) → ordinal < 16777216 → isMarked names param ≡ true → typeOrNone names head arg ≡ true
         → rowOk names (paramRow name ordinal param byval array head arg) ≡ true
     unfolding rowOk kindOk wordsOk wordOk
@@ -98,6 +107,7 @@ module _ (names : List ℕ) where
         let p : payOf (wordOf 136 name) ≡ name = omega arith in
         rw (k, p, n, lt-ltb ordinal 16777216 o, f, bits-mark byval array, t)
 
+    -- 137: of an array or a variable
     pub dim-shared-ok : (array : Bool) → rowOk names (dimSharedRow name array) ≡ true
     unfolding rowOk kindOk wordsOk wordOk
     dim-shared-ok array =
@@ -105,6 +115,7 @@ module _ (names : List ℕ) where
         let p : payOf (wordOf 137 name) ≡ name = omega arith in
         rw (k, p, n, bit-flag array)
 
+    -- 138: in a scope, with an item's mark
     pub shared-ok : (scope mark : ℕ) → scopeOk names scope ≡ true → itemOk mark ≡ true → rowOk names (sharedRow name scope mark) ≡ true
     unfolding rowOk kindOk wordsOk wordOk
     shared-ok scope mark s m =
@@ -112,6 +123,7 @@ module _ (names : List ℕ) where
         let p : payOf (wordOf 138 name) ≡ name = omega arith in
         rw (k, p, n, s, m)
 
+    -- 139: in a scope, with an item's mark
     pub static-ok : (scope mark : ℕ) → scopeOk names scope ≡ true → itemOk mark ≡ true → rowOk names (staticRow name scope mark) ≡ true
     unfolding rowOk kindOk wordsOk wordOk
     static-ok scope mark s m =
@@ -119,6 +131,7 @@ module _ (names : List ℕ) where
         let p : payOf (wordOf 139 name) ≡ name = omega arith in
         rw (k, p, n, s, m)
 
+    -- 140: with the name alone
     pub static-proc-ok : rowOk names (staticProcRow name) ≡ true
     unfolding rowOk kindOk wordsOk wordOk
     static-proc-ok =
@@ -126,6 +139,7 @@ module _ (names : List ℕ) where
         let p : payOf (wordOf 140 name) ≡ name = omega arith in
         rw (k, p, n)
 
+    -- 141: with the name alone
     pub def-fn-ok : rowOk names (defFnRow name) ≡ true
     unfolding rowOk kindOk wordsOk wordOk
     def-fn-ok =
@@ -133,6 +147,7 @@ module _ (names : List ℕ) where
         let p : payOf (wordOf 141 name) ≡ name = omega arith in
         rw (k, p, n)
 
+    -- 142: an unranked parameter's row in a scope
     pub unranked-ok : (scope : ℕ) → scopeOk names scope ≡ true → rowOk names (unrankedRow name scope) ≡ true
     unfolding rowOk kindOk wordsOk wordOk
     unranked-ok scope s =
@@ -140,6 +155,7 @@ module _ (names : List ℕ) where
         let p : payOf (wordOf 142 name) ≡ name = omega arith in
         rw (k, p, n, s)
 
+  -- 143: with a value that a payload has room for
   pub option-base-ok : (value : ℕ) → value < 16777216 → rowOk names (optionBaseRow value) ≡ true
   unfolding rowOk kindOk wordsOk wordOk
   option-base-ok value v = rw (lt-ltb value 16777216 v)

@@ -12,10 +12,12 @@ use Rattle.image.specs.Laws.{longest}
 use Rattle.page.specs.Page.{refusal}
 use Rattle.listing.specs.Listing.{listed, listing}
 
+-- a file of more than 57,356 bytes lists as `E 5`
 pub oversized : (l : List ℕ) → 57356 < length l → listing l ≡ refusal 5
 unfolding listing listed
 oversized l h = rw (longest l h)
 
+-- so its first bytes, where they are more than that, list as it does
 pub first-bytes : (l : List ℕ) (n : ℕ) → 57356 < n → listing (take n l) ≡ listing l
 first-bytes l n h = go (leb (length l) n) refl
   where

@@ -95,44 +95,54 @@ module _ {bytes ends erased words notes rows out notes′ rows′ out′ : List 
       ∙ ap (textOf bytes ends) (not-short r q (tells .answer) (longer-limits bytes ends erased words (length rows) (length notes) 12288 12288 (a .at) h₁ h₂))
       ∙ placeless bytes ends (sizedProgram bytes ends words erased) (sound bytes ends) (a .at) _
 
+-- an answer's counts lie in the buffers
 pub counts-within : {bytes ends erased words notes rows out notes′ rows′ out′ : List ℕ} {r : Answer} → Analyses bytes ends erased words r notes rows out notes′ rows′ out′ → Within r notes′ rows′ out′
 counts-within {r = r} a = within r _ (a .is)
 
 module _ (bytes ends notes rows words : List ℕ) {b c : List ℕ} {i j : ℕ} {a : Answer} where
+  -- a refusal's text is its `E` line
   pub text-refused : {r : Refusal} {n : ℕ} → a ≡ Refused r → n ≡ numberOf r → Wrote (refusal n) b c i j → Wrote (answerText bytes ends a notes rows words) b c i j
   unfolding answerText shownText readOff refused
   text-refused e k p = rw (e, ← k) p
 
+  -- any other's is the page of what stands in the buffers
   pub text-done : {n : Given} → a ≡ Done n → Wrote (page bytes ends (chunks noteWidth (n .notes) notes) (chunks width (n .rows) rows) (take (n .words) words)) b c i j → Wrote (answerText bytes ends a notes rows words) b c i j
   unfolding answerText shownText readOff
   text-done e p = rw e p
 
+-- the same, of the counts that were taken from it
 pub within-done : (a : Answer) (n : Given) (notes rows words : List ℕ) → a ≡ Done n → Within a notes rows words → Within (Done n) notes rows words
 within-done a n notes rows words e h = rw e at h
 
+-- 7 and 8 are such numbers
 pub when-limit : (n : ℕ) → (n ≡ 7) ⊎ (n ≡ 8) → true ≡ limit n
 unfolding limit
 when-limit n (inl e) = rw e refl
 when-limit n (inr e) = rw e refl
 
+-- no other is
 pub no-limit : (n : ℕ) → (n ≡ 7 → ⊥) → (n ≡ 8 → ⊥) → false ≡ limit n
 unfolding limit
 no-limit n h i = rw (ne-eqb n 7 h, ne-eqb n 8 i) refl
 
+-- a refusal is too short where its number is one
 pub refused-short : {a : Answer} {f : Refusal} {n : ℕ} {b : Bool} → a ≡ Refused f → n ≡ numberOf f → b ≡ limit n → b ≡ tooShort a
 unfolding tooShort
 refused-short e k l = rw (e, ← k) l
 
+-- what was done is not
 pub done-short : {a : Answer} {n : Given} → a ≡ Done n → false ≡ tooShort a
 unfolding tooShort
 done-short e = rw e refl
 
 -- ---- an image's text
 
+-- a file that is no image lists as `E 5`
 pub no-image : {b c : List ℕ} {i j : ℕ} (l : List ℕ) → decode l ≡ none → Wrote (refusal 5) b c i j → Wrote (listing l) b c i j
 unfolding listing listed
 no-image l e p = rw e p
 
+-- the text of the program that was read of an image is its listing
 pub image-text : {s w x k : ℕ} (l : List ℕ) → Shaped l s w x k → (bytes ends words erased : List ℕ)
     → bytes ≡ take k (drop (12 + 4 * s + 4 * w + 4 * x) l) → ends ≡ wordsAt l 12 s → words ≡ wordsAt l (12 + 4 * s) w → erased ≡ wordsAt l (12 + 4 * s + 4 * w) x
     → programText bytes ends erased words ≡ listing l

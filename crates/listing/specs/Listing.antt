@@ -23,5 +23,6 @@ listed analyse (some i) = textOf (i .bytes) (i .ends) (analyse i)
 unfoldable pub analysed : Image → Told Analysis
 analysed i = analysis (some (2048 * width)) (some (2048 * noteWidth)) 0 (i .bytes) (i .ends) (i .erased) (i .words)
 
+-- the listing of a file of these bytes
 unfoldable pub listing : List ℕ → List ℕ
 listing l = listed analysed (decode l)

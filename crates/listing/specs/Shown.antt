@@ -15,10 +15,12 @@ use Rattle.analyse.specs.declared.Answer.{Answer}
 use Rattle.analyse.specs.declared.Answer.the-variants.{Refused, Done}
 use Rattle.listing.specs.Listing.{textOf}
 
+-- the text of what was read off, or of its number
 unfoldable pub shownText : (bytes ends : List ℕ) → Told Shown → List ℕ
 shownText bytes ends (stops n p) = refusal n
 shownText bytes ends (gives s) = page bytes ends (s .diagnostics) (s .rows) (s .resolved)
 
+-- the text of an answer, with the buffers behind it
 unfoldable pub answerText : (bytes ends : List ℕ) → Answer → (notes rows words : List ℕ) → List ℕ
 answerText bytes ends a notes rows words = shownText bytes ends (readOff a notes rows words)
 
@@ -30,6 +32,7 @@ programText bytes ends erased words = textOf bytes ends (analysis (some (2048 * 
 unfoldable pub limit : ℕ → Bool
 limit n = eqb n 7 || eqb n 8
 
+-- an answer that is one of them
 unfoldable pub tooShort : Answer → Bool
 tooShort (Refused f) = limit (numberOf f)
 tooShort (Done n) = false

@@ -34,6 +34,7 @@ digits-short (suc k) n = go (ltb n 10) (digits-short k (n / 10))
     go true h = omega arith
     go false h = simp length-append (omega arith)
 
+-- no number has more than ten digits
 pub decimal-short : (n : ℕ) → length (decimal n) ≤ 10
 unfolding decimal
 decimal-short n = digits-short 10 n
@@ -130,6 +131,7 @@ blank : length (ascii " ") ≡ 1
 unfolding ascii
 blank = refl
 
+-- a line's end is one byte
 pub newline : length (ascii "\n") ≡ 1
 unfolding ascii
 newline = refl
@@ -195,6 +197,7 @@ template-short [] i e = omega arith
 template-short (t ∷ ts) zero e = leb-true (mostIn t) 261 (and-elim-left (leb (mostIn t) 261) (allShort ts) e)
 template-short (t ∷ ts) (suc i) e = template-short ts i (and-elim-right (leb (mostIn t) 261) (allShort ts) e)
 
+-- a diagnostic's lines have at most 261 bytes
 pub lines-short : (bytes ends : List ℕ) (d : Diag) → Names bytes ends d → length (lines bytes ends d) ≤ 261
 unfolding lines
 lines-short bytes ends d N =

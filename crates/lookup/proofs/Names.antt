@@ -21,9 +21,11 @@ use Rattle.lookup.specs.Builtins.{Builtin, takes, builtins, same, entryO
 absent : Builtin
 absent = record { name = []; least = 0; most = 0 }
 
+-- builtin i
 pub entryAt : ℕ → Builtin
 entryAt i = getD builtins i absent
 
+-- there are 55
 pub count : length builtins ≡ 55
 unfolding builtins
 count = refl
@@ -33,10 +35,12 @@ map-at f [] i d e h = absurd (not-suc-le-zero h)
 map-at f (x ∷ xs) zero d e h = refl
 map-at f (x ∷ xs) (suc i) d e h = map-at f xs i d e (le-of-suc-le-suc h)
 
+-- the code's row i is that of builtin i
 pub cells-at : (i : ℕ) → i < 55 → getD cells i [] ≡ cellsOf (entryAt i)
 unfolding cells entryAt
 cells-at i h = map-at cellsOf builtins i absent [] (omega (arith, count))
 
+-- its name
 pub name-at : (i : ℕ) → i < 55 → nameAt i ≡ entryAt i .name
 unfolding nameAt entryAt
 name-at i h = map-at (λ (b : Builtin). b .name) builtins i absent [] (omega (arith, count))
@@ -66,24 +70,29 @@ short-at (b ∷ bs) e i h = go (leb (length (b .name)) 7) refl e i h (short-at b
 -- ---- the cells of entry i
 
 module _ (i : ℕ) (h : i < 55) where
+  -- the first cell is its name's length
   pub cell-length : getD (getD cells i []) 0 0 ≡ length (nameAt i)
   unfolding cellsOf
   cell-length = ap (λ (l : List ℕ). getD l 0 0) (cells-at i h) ∙ ap length (sym (name-at i h))
 
+  -- the second the least arguments
   pub cell-least : getD (getD cells i []) 1 0 ≡ entryAt i .least
   unfolding cellsOf
   cell-least = ap (λ (l : List ℕ). getD l 1 0) (cells-at i h)
 
+  -- the third the most
   pub cell-most : getD (getD cells i []) 2 0 ≡ entryAt i .most
   unfolding cellsOf
   cell-most = ap (λ (l : List ℕ). getD l 2 0) (cells-at i h)
 
+  -- its name has at most 7 bytes
   pub name-short : length (nameAt i) ≤ 7
   unfolding entryAt
   name-short =
       let e : length (nameAt i) ≡ length (getD builtins i absent .name) = ap length (name-at i h) in
       omega (arith, short-at builtins all-short i (omega (arith, count)))
 
+  -- and its bytes stand in the cells from the fourth on
   pub cell-byte : (j : ℕ) → j < length (nameAt i) → getD (getD cells i []) (j + 3) 0 ≡ getD (nameAt i) j 0
   unfolding cellsOf
   cell-byte j k =
@@ -127,15 +136,18 @@ flat-at (r ∷ rs) e i j h k = go (eqb (length r) 10) refl e i h (flat-at rs)
         let z : _≡_ {A = ℕ} 0 1 = cc in
         absurd (omega arith)
 
+-- ten cells for each
 pub flat-length : length (flatten cells) ≡ 550
 unfolding flatten cells builtins takes ascii cellsOf
 flat-length = refl
 
+-- cell j of row i stands at 10 i + j
 pub cell-at : (i j : ℕ) → i < 55 → j < 10 → getD (flatten cells) (i * 10 + j) 0 ≡ getD (getD cells i []) j 0
 cell-at i j h k = flat-at cells all-tens i j (omega (arith, cells-count)) k
 
 -- ---- two names
 
+-- of different lengths: not the same
 pub same-length : (a b : List ℕ) → (length a ≡ length b → ⊥) → same a b ≡ false
 unfolding same
 same-length [] [] n = absurd (n refl)
@@ -148,12 +160,15 @@ module _ (a b : List ℕ) (j : ℕ) where
   unfolding same
   step h k = rw (drop-cons a j 0 h, drop-cons b j 0 k, add-one j)
 
+  -- equal bytes at j: those after them decide
   pub same-more : j < length a → j < length b → getD a j 0 ≡ getD b j 0 → same (drop j a) (drop j b) ≡ same (drop (j + 1) a) (drop (j + 1) b)
   same-more h k e = step h k ∙ ap (λ (t : Bool). t && same (drop (j + 1) a) (drop (j + 1) b)) (eq-eqb (getD a j 0) (getD b j 0) e)
 
+  -- different bytes at j: not the same
   pub same-no : j < length a → j < length b → (getD a j 0 ≡ getD b j 0 → ⊥) → same (drop j a) (drop j b) ≡ false
   same-no h k e = step h k ∙ ap (λ (t : Bool). t && same (drop (j + 1) a) (drop (j + 1) b)) (ne-eqb (getD a j 0) (getD b j 0) e)
 
+  -- both ended: the same
   pub same-end : length a ≤ j → length b ≤ j → same (drop j a) (drop j b) ≡ true
   unfolding same
   same-end h k = rw (drop-of-length-le a h, drop-of-length-le b k)
@@ -168,12 +183,15 @@ module _ (name : List ℕ) (i : ℕ) (h : i < 55) where
       ∙ ap (λ (n : List ℕ). pick (same name n) (some (getD builtins i absent)) (entryOf name (drop (suc i) builtins))) (sym (name-at i h))
       ∙ ap (λ (k : ℕ). pick (same name (nameAt i)) (some (getD builtins i absent)) (entryOf name (drop k builtins))) (sym (add-one i))
 
+  -- builtin i has the name: it is the one
   pub entry-here : same name (nameAt i) ≡ true → entryOf name (drop i builtins) ≡ some (entryAt i)
   entry-here e = entry-step ∙ pick-true (some (entryAt i)) (entryOf name (drop (i + 1) builtins)) e
 
+  -- it has another: those after it are searched
   pub entry-next : same name (nameAt i) ≡ false → entryOf name (drop i builtins) ≡ entryOf name (drop (i + 1) builtins)
   entry-next e = entry-step ∙ pick-false (some (entryAt i)) (entryOf name (drop (i + 1) builtins)) e
 
+-- past the last there is none
 pub entry-end : (name : List ℕ) (i : ℕ) → 55 ≤ i → entryOf name (drop i builtins) ≡ none
 unfolding entryOf
 entry-end name i h =

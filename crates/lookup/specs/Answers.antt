@@ -12,14 +12,17 @@ use Rattle.lookup.specs.declared.Declared.the-variants.{Record, Class}
 use Rattle.lookup.specs.declared.Arguments.{Arguments}
 use Rattle.lookup.specs.declared.Arguments.the-variants.{Unknown, Takes}
 
+-- a type, or none
 abbrev pub typed : Typed → Option TypeRef
 typed Untyped = none
 typed (As head arg) = some (record { head = head; arg = arg })
 
+-- an array, or none
 abbrev pub array : Array → Option ArrayInfo
 array NoArray = none
 array (Info rank line lower) = some (record { rank = rank; line = line; lower = lower })
 
+-- a class by its position in `DataType`; a record has none
 abbrev pub class : Declared → Option ℕ
 class Record = none
 class (Class position) = some position

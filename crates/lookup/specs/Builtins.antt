@@ -9,15 +9,18 @@ use lib.ListN.{length, getD, replicate}
 use Rattle.words.specs.Word.{pick}
 use Rattle.text.specs.Text.{ascii}
 
+-- a name, and how many arguments
 pub record Builtin : Type 0 where
   pub name : List ℕ
   pub least : ℕ
   pub most : ℕ
 
+-- a builtin: its name, the least and the most arguments
 unfoldable pub takes : S.String → (least most : ℕ) → Builtin
 unfolding ascii
 takes s least most = record { name = ascii s; least = least; most = most }
 
+-- all 55
 unfoldable pub builtins : List Builtin
 unfolding takes
 builtins =
@@ -91,14 +94,17 @@ unfolding same
 entryOf name [] = none
 entryOf name (b ∷ bs) = pick (same name (b .name)) (some b) (entryOf name bs)
 
+-- the builtin of this name
 unfoldable pub builtin : List ℕ → Option Builtin
 unfolding entryOf builtins
 builtin name = entryOf name builtins
 
+-- there is one
 abbrev pub isSome : {A : Type 0} → Option A → Bool
 isSome none = false
 isSome (some a) = true
 
+-- the name is a builtin's
 unfoldable pub isBuiltin : List ℕ → Bool
 unfolding builtin
 isBuiltin name = isSome (builtin name)
@@ -109,6 +115,7 @@ isBuiltin name = isSome (builtin name)
 unfoldable pub cellsOf : Builtin → List ℕ
 cellsOf b = length (b .name) ∷ b .least ∷ b .most ∷ b .name ++ replicate (7 - length (b .name)) 0
 
+-- the rows of all builtins
 unfoldable pub cells : List (List ℕ)
 unfolding builtins cellsOf
 cells = map cellsOf builtins
@@ -140,6 +147,7 @@ lengthFits first n =
     pick (eqb first 85) (eqb n 6) (
     pick (eqb first 86) (eqb n 3) false)))))))))))))))
 
+-- the test of a name: by its length and its first byte
 unfoldable pub mayBe : List ℕ → Bool
 unfolding lengthFits
 mayBe name = leb 3 (length name) && (leb (length name) 7 && lengthFits (getD name 0 0) (length name))

@@ -11,6 +11,7 @@ use Rattle.lookup.specs.Lookup.{shares, isStatic, typeWords, TypeRef, Ar
 use Rattle.text.specs.Text.{ascii}
 use Rattle.lookup.specs.Builtins.{takes, builtins, same, entryOf, builtin, isBuiltin}
 
+-- the rows that are asked
 pub rows : List Row
 rows =
     typeRow 4 3 10 ∷
@@ -24,9 +25,11 @@ rows =
     staticProcRow 2 ∷
     defFnRow 3 ∷ []
 
+-- an array with these
 pub info : (rank line lower : ℕ) → Option ArrayInfo
 info rank line lower = some (record { rank = rank; line = line; lower = lower })
 
+-- a type with these
 pub typedAs : (head arg : ℕ) → Option TypeRef
 typedAs head arg = some (record { head = head; arg = arg })
 
@@ -52,6 +55,7 @@ pub variables :
 unfolding rows typedAs typedVar typedVarIn visible shares find key
 variables = (refl, refl, refl, refl, refl, refl)
 
+-- P is a STATIC procedure; S says STATIC A as a variable
 pub statics : (isStatic rows 2 6 true ≡ true) × (isStatic rows 5 1 false ≡ true) × (isStatic rows 5 1 true ≡ false)
 unfolding rows isStatic find key
 statics = (refl, refl, refl)

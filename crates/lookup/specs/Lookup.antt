@@ -51,6 +51,7 @@ abbrev pub typeOf : Option Row → Option TypeRef
 typeOf none = none
 typeOf (some r) = some (record { head = getD r 2 0; arg = getD r 3 0 })
 
+-- the array of row 133
 abbrev pub arrayOf : Option Row → Option ArrayInfo
 arrayOf none = none
 arrayOf (some r) = some (record { rank = getD r 2 0; line = getD r 3 0; lower = getD r 4 0 })
@@ -74,9 +75,11 @@ unfoldable pub typedVar : List Row → (scope name : ℕ) → Option TypeRef
 unfolding visible
 typedVar rows scope name = typeOf (visible rows 134 scope name false)
 
+-- `typed_var_in`: in this scope alone
 unfoldable pub typedVarIn : List Row → (scope name : ℕ) → Option TypeRef
 typedVarIn rows scope name = typeOf (find (entryKey 134 name scope) rows)
 
+-- `lookup_array`: the array that is visible under the name
 unfoldable pub lookupArray : List Row → (scope name : ℕ) → Option ArrayInfo
 unfolding visible
 lookupArray rows scope name = arrayOf (visible rows 133 scope name true)
@@ -97,6 +100,7 @@ unfolding fromSuffix fromTypeRef
 classOf last none = some (fromSuffix last)
 classOf last (some t) = pick (eqb (t .head) 45) none (some (fromTypeRef (t .head)))
 
+-- `declared_type`: by the variable's type, else by the name's last byte
 unfoldable pub declaredType : List Row → (last scope name : ℕ) → Option ℕ
 unfolding classOf typedVar
 declaredType rows last scope name = classOf last (typedVar rows scope name)

@@ -37,5 +37,6 @@ module _ (rows : List Row) (kind scope name : ℕ) (array : Bool) where
       pub visible-shared : shares rows (scope - 1) name array ≡ true → visible rows kind scope name array ≡ find (entryKey kind name 0) rows
       visible-shared s = others ∙ pick-true (find (entryKey kind name 0) rows) none s
 
+      -- none, where it shares it not
       pub visible-hidden : shares rows (scope - 1) name array ≡ false → visible rows kind scope name array ≡ none
       visible-hidden s = others ∙ pick-false (find (entryKey kind name 0) rows) none s

@@ -7,9 +7,11 @@ use lib.Dec.{leb}
 use borrow.Author.Tests.{leb-true}
 use Rattle.table.specs.Rows.{width}
 
+-- a test whose negation fails holds
 pub yes : (b : Bool) → not b ≡ false → b ≡ true
 yes true e = refl
 yes false e = sym e
 
+-- at most a sixth as many rows as words: their words are no more
 pub rows-fit : (count len : ℕ) → leb count (len / 6) ≡ true → count * width ≤ len
 rows-fit count len e = omega (arith, leb-true count (len / 6) e)

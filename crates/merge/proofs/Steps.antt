@@ -133,16 +133,19 @@ module _ (b up after row : List ℕ) (from to w at : ℕ) (h : from ≤ to) (k :
   len-at : length (take at up) ≡ at
   len-at = length-take-le at up (omega (arith, len-up))
 
+  -- the list keeps its length
   pub moved-length : length after ≡ length b
   moved-length =
       ap length a ∙ length-append (take at up) (row ++ drop (at + length row) up)
       ∙ omega (arith, len-at, len-up, length-append row (drop (at + length row) up), length-drop (at + length row) up)
 
+  -- before the place it is as it was
   pub moved-front : (n : ℕ) → n ≤ at → take n after ≡ take n b
   moved-front n q =
       ap (take n) a ∙ take-append-le n (take at up) (row ++ drop (at + length row) up) (omega (arith, len-at)) ∙ take-take n at up q
       ∙ ap (take n) u ∙ take-append-le n (take (from + w) b) (slice from to b ++ drop (to + w) b) (omega (arith, len-front)) ∙ take-take n (from + w) b (omega arith)
 
+  -- from there on: the words put in, the block, and what stood after its new end
   pub moved-back : drop at after ≡ row ++ (slice from to b ++ drop (to + w) b)
   moved-back =
       ap (drop at) a ∙ drop-at (take at up) (row ++ drop (at + length row) up) at len-at
@@ -182,6 +185,7 @@ module _ (rows more : List Row) (count m i j : ℕ) (b src : List ℕ) (S : Hold
       ∙ ap (λ (n : ℕ). insertAll (take j more) (take n (take i rows)) ++ (row ∷ drop n (take i rows))) (sym e)
       ∙ ap (λ (l : List Row). insertAll (take j more) l ++ (row ∷ drop p (take i rows))) (take-take p i rows h)
 
+  -- the last of the rows to come goes in before those of the first i that are above it
   pub turn : (k p : ℕ) → k ≡ keyOf (getD src (j * width) 0) (getD src (j * width + 1) 0) → p ≤ i → ((rs : List Row) → Holds rs i (take (i * width) b) → p ≡ rank k rs)
       → (i + j + 1) * width ≤ length b → (put up after : List ℕ) → put ≡ take (j * width + width - j * width) (drop (j * width) src)
       → up ≡ take (p * width + (j * width + width)) b ++ (slice (p * width) (i * width) b ++ drop (i * width + (j * width + width)) b)
@@ -230,6 +234,7 @@ module _ (rows more : List Row) (count m i j : ℕ) (b src : List ℕ) (S : Hold
 
 -- ---- the first turn, and after the last
 
+-- before the first turn nothing is merged
 pub turn-first : (rows more : List Row) (count m : ℕ) (b src : List ℕ) → Holds rows count b → Holds more m src → Apart more rows → Merging rows more count m count m b
 unfolding flatten
 turn-first rows more count m b src H S a =
@@ -248,6 +253,7 @@ turn-first rows more count m b src H S a =
       total = omega arith;
     }
 
+-- where none is to come, all rows stand in order
 pub turn-last : (rows more : List Row) (count m i : ℕ) (b src : List ℕ) → Holds more m src → Merging rows more count m i 0 b → Holds (insertAll more rows) (count + m) b
 unfolding insertAll
 turn-last rows more count m i b src S M =

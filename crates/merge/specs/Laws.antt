@@ -23,6 +23,7 @@ none-head k x xs f e =
 pub none-tail : (k : ℕ) (x : Row) (xs : List Row) → find k (x ∷ xs) ≡ none → find k xs ≡ none
 none-tail k x xs f = sym (find-ne k x xs (none-head k x xs f)) ∙ f
 
+-- a key that neither these rows nor those have is not found when the ones are put into the others
 pub find-more : (k : ℕ) (rows more : List Row) → find k more ≡ none → find k rows ≡ none → find k (insertAll more rows) ≡ none
 unfolding insertAll
 find-more k rows [] f g = g
@@ -30,6 +31,7 @@ find-more k rows (x ∷ xs) f g = find-more k (insert x rows) xs (none-tail k x 
 
 -- ---- a row that comes before the later ones
 
+-- a row below all later ones goes in among the earlier ones
 pub insert-front : (r : Row) (a c : List Row) → Table (suc (key r)) c → insert r (a ++ c) ≡ insert r a ++ c
 unfolding insert
 insert-front r [] [] t = refl
@@ -88,6 +90,7 @@ insert-first rows (x ∷ xs) r f =
 
 -- ---- tables that share no key
 
+-- one more row whose key the other table has not
 pub apart-insert : (rows more : List Row) (r : Row) → find (key r) rows ≡ none → Apart more rows → Apart (insert r more) rows
 unfolding Apart insert
 apart-insert rows [] r f a = (f, tt)
@@ -109,6 +112,7 @@ insert-apart b rows (x ∷ xs) r t h a = (
 
 -- ---- how many
 
+-- a row with a new key makes the rows one more
 pub count-insert : (more : List Row) (r : Row) → find (key r) more ≡ none → length (insert r more) ≡ length more + 1
 unfolding insert
 count-insert [] r f = refl
@@ -126,11 +130,13 @@ count-from b rows (x ∷ xs) t a =
     count-from (suc (key x)) (insert x rows) xs (t .2) (insert-apart (suc (key x)) rows xs x (t .2) (omega arith) (a .1))
     ∙ omega (arith, count-insert rows x (a .0))
 
+-- rows that share no key with the others, put into them, add their number
 pub count-more : (rows more : List Row) → Table 0 more → Apart more rows → length (insertAll more rows) ≡ length rows + length more
 count-more rows more t a = count-from 0 rows more t a
 
 -- ---- they stay in order
 
+-- a table stays one when rows of the right width are put into it
 pub all-table : (more rows : List Row) → Wide width more → Table 0 rows → Table 0 (insertAll more rows)
 unfolding insertAll
 all-table [] rows w t = t

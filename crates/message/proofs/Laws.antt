@@ -19,10 +19,12 @@ use Rattle.message.specs.Message.{Template, error, error-with-note, temp
 use Rattle.message.specs.Table.{run, table}
 use Rattle.message.specs.Plain.{Itself, Plain, marks}
 
+-- all templates have 1,325 bytes
 pub long : length (flatten table) ≡ 1325
 unfolding table run templates ascii flatten
 long = refl
 
+-- there are 29, with that of code 0
 pub many : length table ≡ 29
 unfolding table templates
 many = refl
@@ -40,6 +42,7 @@ beyond (suc n) c h =
     let k : c ≡ n → ⊥ = h .1 in
     omega arith
 
+-- past the last code a template starts at the table's end
 pub start-past : (c : ℕ) → Beyond 29 c → 1325 ≡ length (flatten (take c table))
 start-past c h =
     let l : 29 ≤ c = beyond 29 c h in
@@ -70,10 +73,12 @@ render-one bytes ends d b = append-nil (piece bytes ends d b)
 
 -- ---- bytes that stand for themselves
 
+-- none is copied
 pub plain-none : (s b : List ℕ) (from most at : ℕ) → Plain s from most 0 b b at
 unfolding render
 plain-none s b from most at = record { few = omega arith; room = omega arith; now = refl; self = λ bytes ends d. refl }
 
+-- one more byte that stands for itself
 pub plain-one : {b c : List ℕ} (s : List ℕ) (from most at i x : ℕ) → from + i < length s → i < most → i < length b - at → x ≡ getD s (from + i) 0 → Itself x → Plain s from most i b c at → Plain s from most (i + 1) b (set c (at + i) x) at
 plain-one {b} {c} s from most at i x h l r e k p =
     let t = drop from s in
@@ -152,10 +157,12 @@ plain-run s from most k n at h l r e w =
 abbrev pub sofar : List ℕ → List ℕ → Diag → List ℕ → ℕ → List ℕ
 sofar bytes ends d t i = render bytes ends d (take i t)
 
+-- nothing is written
 pub at-start : (bytes ends : List ℕ) (d : Diag) (t : List ℕ) {b : List ℕ} {at : ℕ} → Wrote (sofar bytes ends d t 0) b b at at
 unfolding render
 at-start bytes ends d t = nothing
 
+-- one more byte, with what it stands for
 pub one-more : (bytes ends : List ℕ) (d : Diag) {a b c : List ℕ} {i j k : ℕ} (t : List ℕ) (n x : ℕ) → n < length t → x ≡ getD t n 0 → Wrote (sofar bytes ends d t n) a b i j → Wrote (piece bytes ends d x) b c j k → Wrote (sofar bytes ends d t (n + 1)) a c i k
 one-more bytes ends d t n x l e p q =
     let grown : take (n + 1) t ≡ take n t ++ (x ∷ []) = ap (λ y. take y t) (add-one n) ∙ take-suc t n 0 l ∙ ap (λ y. take n t ++ (y ∷ [])) (sym e) in
@@ -169,6 +176,7 @@ plain-more bytes ends d {j = j} t n most k l p q =
     let whole : render bytes ends d (take (n + k) t) ≡ render bytes ends d (take n t) ++ u = ap (render bytes ends d) (take-add n k t) ∙ render-append bytes ends d (take n t) u ∙ ap (λ y. render bytes ends d (take n t) ++ y) (q .self bytes ends d) in
     same (sym whole) (then p (fits u (q .now) (ap (λ y. j + y) (sym short))))
 
+-- all bytes: the whole template
 pub at-end : (bytes ends : List ℕ) (d : Diag) (t : List ℕ) (i : ℕ) → length t ≤ i → sofar bytes ends d t i ≡ render bytes ends d t
 at-end bytes ends d t i l = ap (render bytes ends d) (take-all i t l)
 
@@ -195,6 +203,7 @@ flat-all ts zero = omega arith
 flat-all [] (suc c) = omega arith
 flat-all (t ∷ ts) (suc c) = simp length-append (omega (arith, flat-all ts c))
 
+-- a template ends after its start, within the table
 pub bounds : (c s e : ℕ) → s ≡ length (flatten (take c table)) → e ≡ length (flatten (take (c + 1) table)) → (s ≤ e) × (e ≤ 1325)
 bounds c s e p q =
     let r : e ≡ length (flatten (take (suc c) table)) = q ∙ ap (λ y. length (flatten (take y table))) (add-one c) in
@@ -206,19 +215,23 @@ row-long c s e p q =
     let r : e ≡ length (flatten (take (suc c) table)) = q ∙ ap (λ y. length (flatten (take y table))) (add-one c) in
     rw (r, p) (row table c)
 
+-- how long it is
 pub row-length : (c s e : ℕ) → s ≡ length (flatten (take c table)) → e ≡ length (flatten (take (c + 1) table)) → e - s ≡ length (getD table c [])
 row-length c s e p q =
     let l : e - s ≤ length (drop s (flatten table)) = simp length-drop (omega (arith, bounds c s e p q .1, long)) in
     sym (length-take-le (e - s) (drop s (flatten table)) l) ∙ ap length (row-long c s e p q)
 
+-- a text that begins with the template, cut at that length
 pub row-text : (c s e : ℕ) (t : List ℕ) → s ≡ length (flatten (take c table)) → e ≡ length (flatten (take (c + 1) table)) → take (length (getD table c [])) t ≡ getD table c [] → take (e - s) t ≡ getD table c []
 row-text c s e t p q h = ap (λ y. take y t) (row-length c s e p q) ∙ h
 
+-- this is the table's run from the start on
 pub row-flat : (c s e : ℕ) (t : List ℕ) → s ≡ length (flatten (take c table)) → e ≡ length (flatten (take (c + 1) table)) → take (length (getD table c [])) t ≡ getD table c [] → take (e - s) t ≡ take (length (take (e - s) t)) (drop s (flatten table))
 row-flat c s e t p q h =
     let k : e - s ≡ length (take (e - s) t) = row-length c s e p q ∙ sym (ap length (row-text c s e t p q h)) in
     row-text c s e t p q h ∙ sym (row-long c s e p q) ∙ ap (λ y. take y (drop s (flatten table))) k
 
+-- the text is at least that long
 pub row-fits : (c s e : ℕ) (t : List ℕ) → s ≡ length (flatten (take c table)) → e ≡ length (flatten (take (c + 1) table)) → take (length (getD table c [])) t ≡ getD table c [] → e - s ≤ length t
 row-fits c s e t p q h =
     let n = length (getD table c []) in
@@ -234,19 +247,23 @@ no-text c t h =
 
 -- ---- names and pieces
 
+-- a string's end, by its number plus 1
 pub end-at : (ends : List ℕ) (k : ℕ) → (k ≡ 0 → ⊥) → getD ends (k - 1) 0 ≡ getD (0 ∷ ends) k 0
 end-at ends zero h = absurd (h refl)
 end-at ends (suc k) h =
     let e : suc k - 1 ≡ k = omega arith in
     rw e
 
+-- past the ends it is 0
 pub end-past : (ends : List ℕ) (k : ℕ) → (k ≡ 0 → ⊥) → length ends ≤ k - 1 → 0 ≡ getD (0 ∷ ends) k 0
 end-past ends k h l = sym (List·getD-eq-default ends 0 l) ∙ end-at ends k h
 
+-- the bytes from the end before to its own are the name
 pub named : (bytes ends : List ℕ) (k l s e : ℕ) → l ≡ k - 1 → s ≡ getD (0 ∷ ends) l 0 → e ≡ getD (0 ∷ ends) k 0 → take (e - s) (drop s bytes) ≡ name bytes ends k
 unfolding name
 named bytes ends k l s e p q r = rw (r, q, p)
 
+-- any other byte than the seven marks stands for itself
 pub plain : (bytes ends : List ℕ) (d : Diag) (b : ℕ) → (b ≡ 64 → ⊥) → (b ≡ 38 → ⊥) → (b ≡ 35 → ⊥) → (b ≡ 37 → ⊥) → (b ≡ 36 → ⊥) → (b ≡ 33 → ⊥) → (b ≡ 94 → ⊥) → b ∷ [] ≡ piece bytes ends d b
 unfolding piece
 plain bytes ends d b h₁ h₂ h₃ h₄ h₅ h₆ h₇ = rw (ne-eqb b 64 h₁, ne-eqb b 38 h₂, ne-eqb b 35 h₃, ne-eqb b 37 h₄, ne-eqb b 36 h₅, ne-eqb b 33 h₆, ne-eqb b 94 h₇)
@@ -273,6 +290,7 @@ run-at [] c = refl
 run-at (t ∷ ts) zero = refl
 run-at (t ∷ ts) (suc c) = run-at ts c
 
+-- the pieces that the code writes, one after another, are the diagnostic's lines
 pub all-said : (bytes ends : List ℕ) (d : Diag) → ascii "D " ++ (decimal (d .line) ++ (32 ∷ [] ++ (render bytes ends d (getD table (d .code) []) ++ (10 ∷ [])))) ≡ lines bytes ends d
 unfolding lines table
 all-said bytes ends d = rw (run-at templates (d .code)) (run-said bytes ends d (getD templates (d .code) (error "")))

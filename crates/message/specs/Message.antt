@@ -86,9 +86,11 @@ render bytes ends d (b ∷ bs) = piece bytes ends d b ++ render bytes ends d bs
 unfoldable pub messageLine : List ℕ → List ℕ → Diag → String → List ℕ
 messageLine bytes ends d m = ascii "D " ++ (decimal (d .line) ++ (ascii " " ++ (render bytes ends d (ascii m) ++ ascii "\n")))
 
+-- the note alone, without a line number
 unfoldable pub noteLine : List ℕ → List ℕ → Diag → String → List ℕ
 noteLine bytes ends d n = ascii "N " ++ (render bytes ends d (ascii n) ++ ascii "\n")
 
+-- the line of a message, and that of its note where it has one
 unfoldable pub said : List ℕ → List ℕ → Diag → Template → List ℕ
 said bytes ends d (error m) = messageLine bytes ends d m
 said bytes ends d (error-with-note m n) = messageLine bytes ends d m ++ noteLine bytes ends d n

@@ -16,6 +16,7 @@ abbrev pub expOf : ℕ → ℕ
 expOf zero = 0
 expOf (suc x) = x
 
+-- the significand: with the leading digit, unless the field is 0
 abbrev pub sigOf : ℕ → ℕ → ℕ
 sigOf zero t = t
 sigOf (suc x) t = 4503599627370496 + t
@@ -27,6 +28,7 @@ top-not s t x e f = go (eqb t 0) (subst (λ (y : ℕ). T (finite (cond (eqb y 20
     go true k = k
     go false k = k
 
+-- a float of these fields has these parts
 pub fields-parts : (s : Bool) (x t : ℕ) → x < 2048 → t < 2 ^ 52 → T (finite (ofFields binary64 s x t)) → PartsOf (ofFields binary64 s x t) s (expOf x) (sigOf x t)
 unfolding ofFields
 fields-parts s zero t X H f = record { value = odd-sign 53 s t 0 1074; small = omega arith; lead = λ k. absurd (lt-irrefl 0 k); bound = omega arith }
@@ -41,6 +43,7 @@ fields-parts s (suc x) t X H f =
       bound = omega (arith, no);
     }
 
+-- so has a float, by its 64 bits
 pub bits-parts : (x : Float) → T (fits binary64 x) → T (finite x)
     → PartsOf x (leb 9223372036854775808 (toBits binary64 x)) (expOf (toBits binary64 x % 9223372036854775808 / 4503599627370496)) (sigOf (toBits binary64 x % 9223372036854775808 / 4503599627370496) (toBits binary64 x % 4503599627370496))
 bits-parts x ok f =

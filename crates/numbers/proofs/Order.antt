@@ -18,6 +18,7 @@ Cmp Ordering·lt a b = a < b
 Cmp Ordering·eq a b = a ≡ b
 Cmp Ordering·gt a b = b < a
 
+-- what it gives holds
 pub cmp : (a b : ℕ) → Cmp (compare a b) a b
 cmp a b = go (compare a b) (leb→le a b) (nleb→lt a b) (eqb→eq a b) (λ (e : a ≡ b). subst (λ (x : ℕ). T (eqb a x)) e (eqb-refl a))
   where
@@ -37,16 +38,20 @@ one Ordering·gt Ordering·lt a b h k = absurd (omega arith)
 one Ordering·gt Ordering·eq a b h k = absurd (omega arith)
 one Ordering·gt Ordering·gt a b h k = refl
 
+-- what holds is what it gives
 pub compare-is : (o : Ordering) (a b : ℕ) → Cmp o a b → compare a b ≡ o
 compare-is o a b h = one (compare a b) o a b (cmp a b) h
 
 -- ---- by the three cases
+-- less than half: the quotient
 pub near-lt : (h : Halves) (a b : ℕ) → a % b * 2 < b → near h a b ≡ a / b
 near-lt h a b k = ap (λ (o : Ordering). byHalf h (a / b) o) (compare-is Ordering·lt (a % b * 2) b k)
 
+-- exactly half: by the rule for halves
 pub near-eq : (h : Halves) (a b : ℕ) → a % b * 2 ≡ b → near h a b ≡ halfOf h (a / b)
 near-eq h a b k = ap (λ (o : Ordering). byHalf h (a / b) o) (compare-is Ordering·eq (a % b * 2) b k)
 
+-- more than half: the next
 pub near-gt : (h : Halves) (a b : ℕ) → b < a % b * 2 → near h a b ≡ suc (a / b)
 near-gt h a b k = ap (λ (o : Ordering). byHalf h (a / b) o) (compare-is Ordering·gt (a % b * 2) b k)
 
@@ -67,6 +72,7 @@ rest a b c d w e f h =
     let s : w * b * d ≡ w * d * b = mul-right-comm w b d in
     omega arith
 
+-- equal fractions round alike
 pub near-same : (h : Halves) (a b c d : ℕ) → 0 < b → 0 < d → a * d ≡ c * b → near h a b ≡ near h c d
 near-same h a b c d B D e =
     let q : a / b ≡ c / d = div-same a b c d B D e in
@@ -76,6 +82,7 @@ near-same h a b c d B D e =
     sym (compare-scale (a % b * 2) b d D) ∙ ap (λ (x : ℕ). compare x (b * d)) p ∙ ap (λ (x : ℕ). compare (c % d * 2 * b) x) (mul-comm b d) ∙ compare-scale (c % d * 2) d b B in
     ap (λ (x : ℕ). byHalf h x (compare (a % b * 2) b)) q ∙ ap (λ (x : Ordering). byHalf h (c / d) x) o
 
+-- a fraction below a half gives 0
 pub near-zero : (h : Halves) (a b : ℕ) → a * 2 < b → near h a b ≡ 0
 near-zero h a b k =
     let l : a < b = omega arith in
@@ -87,6 +94,7 @@ even-is q Ordering·lt = refl
 even-is q Ordering·eq = refl
 even-is q Ordering·gt = refl
 
+-- with halves to even it is the library's `closest`
 pub near-even : (a b : ℕ) → near Even a b ≡ closest a b
 near-even a b = even-is (a / b) (compare (a % b * 2) b)
 
@@ -107,8 +115,10 @@ by-ge h q Ordering·lt = omega arith
 by-ge h q Ordering·eq = half-ge h q
 by-ge h q Ordering·gt = omega arith
 
+-- at most one more than the quotient
 pub near-le : (h : Halves) (a b : ℕ) → near h a b ≤ suc (a / b)
 near-le h a b = by-le h (a / b) (compare (a % b * 2) b)
 
+-- at least the quotient
 pub near-ge : (h : Halves) (a b : ℕ) → a / b ≤ near h a b
 near-ge h a b = by-ge h (a / b) (compare (a % b * 2) b)

@@ -21,6 +21,7 @@ use Rattle.numbers.proofs.Order.{near-even, near-le, near-ge}
 use Rattle.numbers.proofs.Value.{pows, size-is, quot-ge, quot-lt}
 
 -- ---- of a value a / c
+-- narrowed, it is the fraction rounded to 32 bits
 pub narrowed-value : (x : Float) (s : Bool) (a c : ℕ) → 0 < c → HasValue x s a c → narrowed x ≡ round binary32 s a c
 unfolding narrowed
 narrowed-value nan s a c C v = absurd v
@@ -54,9 +55,11 @@ dropped exp sig small lead =
     go false h k = less (k tt)
 
 -- ---- the digits that are kept, and the places that they stand at
+-- the places
 abbrev pub spareOf : ℕ → ℕ
 spareOf exp = exp - 896
 
+-- the digits: the significand rounded to them, half to even
 abbrev pub keptOf : ℕ → ℕ → ℕ
 keptOf exp sig = near Even sig (2 ^ (925 + spareOf exp - exp))
 
@@ -73,6 +76,7 @@ kept-is exp sig k h =
     ∙ mul-assoc sig (2 ^ exp * 2 ^ 149) (2 ^ (925 + k - exp))
     ∙ ap (λ (z : ℕ). sig * z) (ap (λ (z : ℕ). z * 2 ^ (925 + k - exp)) (sym (pow-add 2 exp 149)) ∙ pows (exp + 149) (925 + k - exp) 1074 k (line-up exp k h)))
 
+-- at 32 bits a float is these digits at these places
 pub narrowed-is : (x : Float) (s : Bool) (exp sig : ℕ) → PartsOf x s exp sig → narrowed x ≡ units binary32 s (keptOf exp sig) (spareOf exp)
 narrowed-is x s exp sig p =
     narrowed-value x s (sig * 2 ^ exp) (2 ^ 1074) (pow-pos 1074) (p .value)
@@ -81,11 +85,13 @@ narrowed-is x s exp sig p =
     ∙ ap (λ (q : ℕ). units binary32 s q (exp - 896)) (kept-is exp sig (exp - 896) (reach exp) ∙ sym (near-even sig (2 ^ (925 + (exp - 896) - exp))))
 
 -- ---- bounds on what is kept
+-- at most 2 ^ 24
 pub kept-le : (exp sig : ℕ) → sig < 2 ^ 53 → keptOf exp sig ≤ 2 ^ 24
 kept-le exp sig h =
     le-trans (near-le Even sig (2 ^ (925 + (exp - 896) - exp)))
     (subst (λ (z : ℕ). z / 2 ^ (925 + (exp - 896) - exp) < 2 ^ 24) (mul-one sig) (quot-lt 24 53 (925 + (exp - 896) - exp) 0 sig (omega arith) h))
 
+-- from an exponent of 897 on the leading digit is there
 pub kept-ge : (exp sig : ℕ) → 0 < exp - 896 → (0 < exp → 2 ^ 52 ≤ sig) → 2 ^ 23 ≤ keptOf exp sig
 kept-ge exp sig h lead =
     le-trans (subst (λ (z : ℕ). 2 ^ 23 ≤ z / 2 ^ (925 + (exp - 896) - exp)) (mul-one sig) (quot-ge 23 52 (925 + (exp - 896) - exp) 0 sig (omega arith) (lead (omega arith))))
@@ -106,11 +112,13 @@ over q k h l b = go (leb 254 k) (leb→le 254 k) (nleb→lt 254 k)
     go true u v = let w = u tt in large 23 q k (omega arith) (l (omega arith))
     go false u v = let w = v tt in large 24 q k (omega arith) (omega arith)
 
+-- bits from those of an infinity on: it is an infinity
 pub single-over : (x : Float) (s : Bool) (exp sig : ℕ) → PartsOf x s exp sig → 2139095040 ≤ spareOf exp * 8388608 + keptOf exp sig → narrowed x ≡ inf s
 single-over x s exp sig p b =
     narrowed-is x s exp sig p
     ∙ units-inf s (keptOf exp sig) (spareOf exp) (over (keptOf exp sig) (spareOf exp) (kept-le exp sig (p .small)) (λ h. kept-ge exp sig h (p .lead)) b)
 
+-- an exponent from 1150 on has such bits
 pub far-over : (exp q : ℕ) → 1150 ≤ exp → (0 < exp - 896 → 2 ^ 23 ≤ q) → 2139095040 ≤ (exp - 896) * 8388608 + q
 far-over exp q h l = let k : 8388608 ≤ q = l (omega arith) in omega arith
 
@@ -174,6 +182,7 @@ bits-of (fin t m e) s n v =
     ap (λ (z : ℕ). cond t 2147483648 0 + (size z - 24) * 8388608 + z / 2 ^ (size z - 24)) w
     ∙ ap (λ (b : Bool). cond b 2147483648 0 + (size n - 24) * 8388608 + n / 2 ^ (size n - 24)) (v .0)
 
+-- below them: these are its bits
 pub single-in : (x : Float) (s : Bool) (exp sig : ℕ) → PartsOf x s exp sig → spareOf exp * 8388608 + keptOf exp sig < 2139095040
     → ofBits binary32 (cond s 2147483648 0 + (spareOf exp * 8388608 + keptOf exp sig)) ≡ narrowed x
 single-in x s exp sig p b =
@@ -186,6 +195,7 @@ single-in x s exp sig p b =
     ap (λ (z : ℕ). ofBits binary32 z) (sym (ap (toBits binary32) (narrowed-is x s exp sig p) ∙ bits-of (units binary32 s q k) s (q * 2 ^ k) v ∙ written s q k le ge))
     ∙ ofBits-toBits binary32 (narrowed x) f
 
+-- and its value is finite
 pub single-finite : (x : Float) (s : Bool) (exp sig : ℕ) → PartsOf x s exp sig → spareOf exp * 8388608 + keptOf exp sig < 2139095040
     → HasValue (narrowed x) s (keptOf exp sig * 2 ^ spareOf exp) (2 ^ 149)
 single-finite x s exp sig p b =
@@ -194,6 +204,7 @@ single-finite x s exp sig p b =
     subst (λ (y : Float). HasValue y s (q * 2 ^ k) (2 ^ 149)) (sym (narrowed-is x s exp sig p))
     (units-val binary32 s q k (under q k (kept-le exp sig (p .small)) (λ h. kept-ge exp sig h (p .lead)) b))
 
+-- a float that has a value is finite
 pub finite-to : (x : Float) (s : Bool) (a c : ℕ) → HasValue x s a c → To x ≡ finiteTo x
 finite-to nan s a c v = absurd v
 finite-to (inf t) s a c v = absurd v

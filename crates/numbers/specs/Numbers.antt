@@ -22,6 +22,7 @@ use Rattle.numbers.specs.declared.Narrow.the-variants.{To, Over}
 abbrev pub halfOf : Halves → ℕ → ℕ
 halfOf Even q = q + q % 2
 
+-- q, q + 1 or the one where the half goes: the rest after q is below, above or at a half
 abbrev pub byHalf : Halves → ℕ → Ordering → ℕ
 byHalf h q Ordering·lt = q
 byHalf h q Ordering·eq = halfOf h q
@@ -31,6 +32,7 @@ byHalf h q Ordering·gt = suc q
 abbrev pub near : Halves → ℕ → ℕ → ℕ
 near h a b = byHalf h (a / b) (compare (a % b * 2) b)
 
+-- a magnitude with its sign
 abbrev pub signed : Bool → ℕ → ℤ
 signed s n = cond s (negℤ (pos n)) (pos n)
 
@@ -45,6 +47,7 @@ wholeOf h (fin s m e) = signed s (near h (m * up e) (down e))
 abbrev pub within : ℕ → ℤ → Bool
 within k z = ltb (mag z) (2 ^ k)
 
+-- the first where the test holds, else the second
 abbrev pub pickWhole : Bool → Whole → Whole → Whole
 pickWhole true a b = a
 pickWhole false a b = b
@@ -55,33 +58,40 @@ longOf h x = pickWhole (within 31 (wholeOf h x)) (At (wholeOf h x)) Out
 
 -- ---- narrowing to 32 bits: to nearest, ties to even; an infinity where it is too large
 
+-- a float at 32 bits; what is not finite stays as it is
 unfoldable pub narrowed : Float → Float
 narrowed nan = nan
 narrowed (inf s) = inf s
 narrowed (fin s m e) = Ieee.round binary32 s (m * up e) (down e)
 
+-- a float that is finite, else Over
 abbrev pub finiteTo : Float → Narrow
 finiteTo nan = Over
 finiteTo (inf s) = Over
 finiteTo (fin s m e) = To (fin s m e)
 
+-- narrowed, then tested
 abbrev pub narrowOf : Float → Narrow
 narrowOf x = finiteTo (narrowed x)
 
 -- ---- a whole number as a float of 64 bits (law `double-exact`: up to 2 ^ 53 either way it is the same number)
 
+-- rounded to nearest, ties to even, where it isn't exact
 abbrev pub doubleOf : ℤ → Float
 doubleOf z = Ieee.ofInt binary64 z
 
 -- ---- 64 bits as two words, the low first: a float's, and a whole number's in two's complement
 
+-- a float of these bits
 abbrev pub ofWords : (low high : ℕ) → Float
 ofWords low high = Ieee.ofBits binary64 (high * 4294967296 + low)
 
+-- a whole number's 64 bits
 abbrev pub bitsOf : ℤ → ℕ
 bitsOf (pos n) = n
 bitsOf (negsuc n) = 18446744073709551615 - n
 
+-- the whole number of these words
 abbrev pub wholeAt : (low high : ℕ) → ℤ
 wholeAt low high = cond (ltb high 2147483648) (pos (high * 4294967296 + low)) (negsuc (18446744073709551615 - (high * 4294967296 + low)))
 

@@ -21,10 +21,12 @@ module _ {A : Type 0} (f : A → List ℕ) where
 
 -- ---- a line's words
 
+-- none is written
 pub words-none : {b : List ℕ} {at : ℕ} (ws : List ℕ) (from : ℕ) → Wrote (flatMap word (take 0 (drop from ws))) b b at at
 unfolding flatMap
 words-none ws from = nothing
 
+-- one more: a blank and eight digits
 pub words-more : {a b c : List ℕ} {i j k : ℕ} (ws : List ℕ) (from n : ℕ) → from + n < length ws → Wrote (flatMap word (take n (drop from ws))) a b i j → Wrote (32 ∷ hex8 (getD ws (from + n) 0)) b c j k → Wrote (flatMap word (take (n + 1) (drop from ws))) a c i k
 unfolding word
 words-more ws from n h p q =
@@ -32,6 +34,7 @@ words-more ws from n h p q =
     let short : n < length d = simp length-drop (omega arith) in
     same (sym (rw (add-one n, take-suc d n 0 short, getD-drop from ws n 0) (flatMap-snoc word (take n d) (getD ws (from + n) 0)))) (then p q)
 
+-- the letter, the words, the line's end
 pub whole-line : {a b c d : List ℕ} {i j k m : ℕ} {letter : ℕ} (ws : List ℕ) → Wrote (letter ∷ []) a b i j → Wrote (flatMap word ws) b c j k → Wrote (10 ∷ []) c d k m → Wrote (line letter ws) a d i m
 unfolding line ascii
 whole-line ws p q r = then p (then q r)
@@ -56,10 +59,12 @@ whole-row ws from room p q₁ q₂ q₃ q₄ q₅ q₆ r =
 
 -- ---- rows
 
+-- none is written
 pub rows-none : {b : List ℕ} {at : ℕ} (f : Row → List ℕ) (w : ℕ) (buf : List ℕ) → Wrote (flatMap f (chunks w 0 buf)) b b at at
 unfolding flatMap chunks
 rows-none f w buf = nothing
 
+-- one more
 pub rows-more : {a b c : List ℕ} {i j k : ℕ} (f : Row → List ℕ) (w n : ℕ) (buf : List ℕ) → Wrote (flatMap f (chunks w n buf)) a b i j → Wrote (f (take w (drop (n * w) buf))) b c j k → Wrote (flatMap f (chunks w (n + 1) buf)) a c i k
 rows-more f w n buf p q = same (sym (rw (add-one n, chunks-snoc w n buf) (flatMap-snoc f (chunks w n buf) (take w (drop (n * w) buf))))) (then p q)
 
@@ -67,6 +72,7 @@ rows-more f w n buf p q = same (sym (rw (add-one n, chunks-snoc w n buf) (flatMa
 pub word-there : (buf : List ℕ) (w at j : ℕ) → j < w → getD buf (at + j) 0 ≡ getD (take w (drop at buf)) j 0
 word-there buf w at j h = sym (getD-take w (drop at buf) j 0 h ∙ getD-drop at buf j 0)
 
+-- the diagnostic whose six words stand at a place
 pub diag-there : (buf : List ℕ) (at : ℕ) → record { code = getD buf at 0; line = getD buf (at + 1) 0; first = getD buf (at + 2) 0; second = getD buf (at + 3) 0; number = getD buf (at + 4) 0; note = getD buf (at + 5) 0 } ≡ diagOf (take 6 (drop at buf))
 unfolding diagOf
 diag-there buf at =

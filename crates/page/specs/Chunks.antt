@@ -28,6 +28,7 @@ chunks-flat w [] rest h = refl
 chunks-flat w (r ∷ rs) rest h =
     rw (append-assoc r (flatten rs) rest, take-at r (flatten rs ++ rest) w (h .0), drop-at r (flatten rs ++ rest) w (h .0), chunks-flat w rs rest (h .1))
 
+-- the rows read off a buffer that holds n rows are these
 pub chunks-filled : {w n : ℕ} {rows : List Row} {buf : List ℕ} → Filled w rows n buf → chunks w n buf ≡ rows
 unfolding image
 chunks-filled {w} {n} {rows} {buf} f = rw (f .words, ← f .count) (chunks-flat w rows _ (f .wide))

@@ -38,6 +38,7 @@ module _ {ws : List ℕ} {at end : ℕ} where
       let i : kindOf (getD ws at 0) ≡ k = ap kindOf (f .is) ∙ kind-is k 0 (lit< tt) in
       record { inside = f .inside; head-is = i ∙ sym e; short = λ y. absurd (h (omega arith)); long = λ _. (s .inside, ap payOf (s .is) ∙ pay-is kind x b ∙ sym z, omega (arith, w .span)) }
 
+  -- so it is of a type that stands there
   pub here : {ns : List ℕ} {n : ℕ} (v : Tree Expr (one TypeSort)) → Stands ws ns n at v end → Here ws at (typeRef v) end
   unfolding typeRef wordsT Right
   here (this done) s = alone 40 Integer refl refl (lit< tt) (s .wrote)
@@ -49,12 +50,15 @@ module _ {ws : List ℕ} {at end : ℕ} where
 
 -- what `type_ref` tells
 module _ {ws : List ℕ} {at : ℕ} where
+  -- a head from 44 on has a word after it
   pub type-second : 44 ≤ kindOf (getD ws at 0) → SomeTree (one TypeSort) ws at → at + 1 < length ws
   type-second h S = here (S .tree) (S .stands) .long h .0
 
+  -- a head below 44 is all
   pub type-short : kindOf (getD ws at 0) < 44 → TypeIs ws at (record { head = kindOf (getD ws at 0); arg = 0; next = at + 1 })
   type-short h = record { is = λ ns n v end s. let p = here v s in (p .head-is, sym (p .short h .0), p .short h .1); small = lit< tt }
 
+  -- one from 44 on has its argument after it
   pub type-long : 44 ≤ kindOf (getD ws at 0) → TypeIs ws at (record { head = kindOf (getD ws at 0); arg = payOf (getD ws (at + 1) 0); next = at + 2 })
   type-long h = record { is = λ ns n v end s. let p = here v s in (p .head-is, p .long h .1, p .long h .2); small = omega arith }
 
@@ -67,12 +71,14 @@ head-some Double = lit< tt
 head-some (FixedString n) = lit< tt
 head-some (Record x) = lit< tt
 
+-- an AS clause that is there: its type stands at the same place
 pub record InAs (ws ns : List ℕ) (n at end : ℕ) (v : Tree Expr (one (opt (TypeSort & nil)))) : Type 0 where
   pub inner : Tree Expr (one TypeSort)
   pub there : Stands ws ns n at inner end
   pub is : optional asType v ≡ some (typeRef inner)
 
 module _ {ws ns : List ℕ} {n at end : ℕ} where
+  -- the word 0: no type, and one word
   pub as-absent : (v : Tree Expr (one (opt (TypeSort & nil)))) → getD ws at 0 ≡ 0 → Stands ws ns n at v end → (optional asType v ≡ absent) × (at + 1 ≡ end)
   unfolding optional asType wordsT Right
   as-absent (this done) z s = (refl, omega (arith, s .wrote .span))
@@ -80,11 +86,13 @@ module _ {ws ns : List ℕ} {n at end : ℕ} where
       let p = here {ns = ns} {n = n} t (record { wrote = rw (append-nil (wordsT t)) at (s .wrote); valid = s .valid .0 }) in
       absurd (omega (arith, p .head-is, head-some (typeRef t), ap kindOf z))
 
+  -- any other: a type stands there
   pub as-present : (v : Tree Expr (one (opt (TypeSort & nil)))) → (getD ws at 0 ≡ 0 → ⊥) → Stands ws ns n at v end → InAs ws ns n at end v
   unfolding optional asType wordsT Right
   as-present (this done) z s = absurd (z (wrote-first (s .wrote) .is))
   as-present (that (part (cons t done))) z s = record { inner = t; there = record { wrote = rw (append-nil (wordsT t)) at (s .wrote); valid = s .valid .0 }; is = refl }
 
+  -- its first word is within the words
   pub as-inside : (v : Tree Expr (one (opt (TypeSort & nil)))) → Stands ws ns n at v end → at < length ws
   unfolding wordsT Right
   as-inside (this done) s = wrote-first (s .wrote) .inside
@@ -92,14 +100,17 @@ module _ {ws ns : List ℕ} {n at end : ℕ} where
 
 -- what `as_type` tells
 module _ {ws : List ℕ} {at : ℕ} where
+  -- where the word isn't 0, a type stands there
   pub as-inner : (getD ws at 0 ≡ 0 → ⊥) → SomeTree (one (opt (TypeSort & nil))) ws at → SomeTree (one TypeSort) ws at
   as-inner z S =
       let p = as-present (S .tree) z (S .stands) in
       record { names = S .names; strings = S .strings; tree = p .inner; end = S .end; stands = p .there }
 
+  -- the word 0: head and argument 0
   pub as-none : getD ws at 0 ≡ 0 → AsTypeIs ws at (record { head = 0; arg = 0; next = at + 1 })
   as-none z = record { is = λ ns n v end s. let p = as-absent v z s in (ap headOf (sym (p .0)), ap argOf (sym (p .0)), p .1); small = lit< tt }
 
+  -- any other: what `type_ref` tells
   pub as-some : {r : TypeAt} → (getD ws at 0 ≡ 0 → ⊥) → TypeIs ws at r → AsTypeIs ws at r
   as-some z T =
       record {

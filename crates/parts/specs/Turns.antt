@@ -19,6 +19,7 @@ pub record RowAt (ss : Sorts) (ws ns : List ℕ) (n at : ℕ) : Type 0 where
   pub end : ℕ
   pub stands : Stands ws ns n at tree end
 
+-- so many rows that stand there, whatever strings they have
 pub record SomeRows (ss : Sorts) (total : ℕ) (ws : List ℕ) (at : ℕ) : Type 0 where
   pub names : List ℕ
   pub strings : ℕ
@@ -27,6 +28,7 @@ pub record SomeRows (ss : Sorts) (total : ℕ) (ws : List ℕ) (at : ℕ) : Type
   pub stands : Stands ws names strings at tree end
   pub counted : count tree ≡ total
 
+-- a row that stands there, whatever strings it has
 pub some-row : {ss : Sorts} {ws ns : List ℕ} {n at : ℕ} → RowAt ss ws ns n at → SomeTree (row ss) ws at
 some-row {ns = ns} {n = n} R = record { names = ns; strings = n; tree = R .tree; end = R .end; stands = R .stands }
 
@@ -58,6 +60,7 @@ unfolding rowsOf
 first-row f r rs = refl
 
 module _ {A : Type 0} {ss : Sorts} {f : Tree Expr (row ss) → A} where
+  -- at the start none was read and all are left
   pub turn-start : (P : List A → Type 0) → P [] → (ws : List ℕ) (from total : ℕ) → Turn f P ws from total from total
   turn-start P p ws from total = record { is = λ ns n rs end S c. record { rest = rs; there = S; counted = c; done = []; split = refl; told = p } }
 
@@ -69,6 +72,7 @@ module _ {A : Type 0} {ss : Sorts} {f : Tree Expr (row ss) → A} where
         let m = in-more ws ns n (omega (arith, p .counted)) (p .there) in
         record { tree = m .head; end = m .mid; stands = m .there }
 
+    -- one more row stands there
     pub turn-some : 0 < left → SomeRows ss total ws from → SomeTree (row ss) ws at
     turn-some h S = some-row (turn-row h (S .stands) (S .counted))
 
@@ -106,10 +110,12 @@ module _ {A : Type 0} {ss : Sorts} {f : Tree Expr (row ss) → A} where
 -- ---- a list: its count, and its rows after it
 
 module _ {ss : Sorts} {ws : List ℕ} {at : ℕ} where
+  -- a list begins within the words
   pub list-inside : {ns : List ℕ} {n : ℕ} {v : Tree Expr (one (many ss))} {end : ℕ} → Stands ws ns n at v end → at < length ws
   unfolding wordsT
   list-inside {v = list rs} S = wrote-first (S .wrote) .inside
 
+  -- after its count as many rows stand
   pub list-rows : SomeTree (one (many ss)) ws at → SomeRows ss (payOf (getD ws at 0)) ws (at + 1)
   list-rows S =
       let l = in-list ws (S .names) (S .strings) (S .stands) in

@@ -36,6 +36,7 @@ first-word w = ap (λ (l : List ℕ). take 1 l) (w .is)
 pub as-sort : (k : ℕ) {s : Sort} {ws : List ℕ} {at c r m : ℕ} → sortAt k ≡ s → Planned s ws at c r m → Planned (sortAt k) ws at c r m
 as-sort k {ws = ws} {at} {c} {r} {m} q p = subst (λ (s : Sort). Planned s ws at c r m) (sym q) p
 
+-- and a field of the number is one of the sort
 pub of-sort : (k : ℕ) {s : Sort} {ws : List ℕ} {at : ℕ} → sortAt k ≡ s → SomeTree (one (sortAt k)) ws at → SomeTree (one s) ws at
 of-sort k {ws = ws} {at} q t = subst (λ (s : Sort). SomeTree (one s) ws at) q t
 
@@ -49,6 +50,7 @@ taken r s = omega (arith, small-row r)
 module _ (ws : List ℕ) (at : ℕ) where
   -- ---- a plain word
 
+  -- it is one word
   pub plan-leaf : (l : Leaf) → Planned (leaf l) ws at 1 0 0
   unfolding pieces written depthT wordsT Right count
   plan-leaf l = record { opens = λ ns n v end s. go ns n v end s; falls = taken 0 (leaf l) }
@@ -61,6 +63,7 @@ module _ (ws : List ℕ) (at : ℕ) where
   plan-never : Planned never ws at 1 0 0
   plan-never = record { opens = λ ns n v end s. elim v [ ]; falls = taken 0 never }
 
+  -- the numbers below 9 are such
   pub plan-plain : (k : ℕ) → k < 9 → Planned (sortAt k) ws at 1 0 0
   unfolding sortAt singles
   plan-plain zero h = plan-never
@@ -76,6 +79,7 @@ module _ (ws : List ℕ) (at : ℕ) where
 
   -- ---- a list, and a struct
 
+  -- a list: its head, then as many rows as it says
   pub plan-many : (r : ℕ) → Planned (many (rowOf r)) ws at 1 r (payOf (getD ws at 0))
   unfolding pieces written depthT wordsT Right count
   plan-many r = record { opens = λ ns n v end s. go ns n v end s; falls = taken r (many (rowOf r)) }
@@ -90,6 +94,7 @@ module _ (ws : List ℕ) (at : ℕ) where
   unfolding wordsT Right
   single {t = t} s = record { wrote = rw (append-nil (wordsT t)) (s .wrote); valid = (s .valid, tt) }
 
+  -- a struct: its row
   pub plan-group : (r : ℕ) → Planned (group (rowOf r)) ws at 0 r 1
   unfolding pieces written depthT wordsT Right count
   plan-group r = record { opens = λ ns n v end s. go ns n v end s; falls = omega (arith, size-group (rowOf r)) }
@@ -108,6 +113,7 @@ module _ (ws : List ℕ) (at : ℕ) where
   zero-gone : isAt ws 0 at ≡ false → at < length ws → getD ws at 0 ≡ 0 → ⊥
   zero-gone f h e = false≢true (sym f ∙ zero-here h e)
 
+  -- the word 0: one word
   pub plan-absent : (r : ℕ) → clear (opt (rowOf r)) ≡ true → at < length ws → getD ws at 0 ≡ 0 → Planned (opt (rowOf r)) ws at 1 0 0
   unfolding pieces written depthT wordsT Right count clear
   plan-absent r c h e = record { opens = λ ns n v end s. go ns n v end s; falls = taken 0 (opt (rowOf r)) }
@@ -118,6 +124,7 @@ module _ (ws : List ℕ) (at : ℕ) where
           record { inner = none; counted = refl; there = record { wrote = f .rest; valid = tt }; is = refl; after = λ g. sym (append-nil (take 1 (drop at ws)) ∙ first-word (s .wrote)); deep = refl }
       go ns n (that v) end s = absurd (zero-gone (not-first ws ns n 0 v at end (and-elim-left _ _ c) (s .valid) (s .wrote)) h e)
 
+  -- any other word: its row
   pub plan-present : (r : ℕ) → isAt ws 0 at ≡ false → Planned (opt (rowOf r)) ws at 0 r 1
   unfolding pieces written depthT wordsT Right count
   plan-present r f = record { opens = λ ns n v end s. go ns n v end s; falls = omega (arith, size-opt (rowOf r)) }
@@ -157,6 +164,7 @@ module _ (ws : List ℕ) (at : ℕ) where
   by-number {ns} {n} {end} v r q = subst (λ (ss : Sorts). (t : Tree Expr (row ss)) → Stands ws ns n (at + 1) t end → pieces v ≡ pieces t → ((g : Piece Expr → List ℕ) → written g v ≡ take 1 (drop at ws) ++ written g t) → depthT v ≡ depthT t → Opened ws ns n at end v 1 r 1) q
       (λ t h e w f. record { inner = more t none; counted = refl; there = single h; is = e ∙ sym (append-nil (pieces t)); after = λ g. w g ∙ ap (λ (l : List ℕ). take 1 (drop at ws) ++ l) (sym (append-nil (written g t))); deep = f ∙ sym (max-zero (depthT t)) })
 
+  -- its head, then the row of its number
   pub plan-choice : (first count r : ℕ) → r + count ≤ 93 → Planned (chain first (take count (drop r allRows))) ws at 1 (r + (kindOf (getD ws at 0) - first)) 1
   plan-choice first k r b = record { opens = λ ns n v end s. go ns n v end s; falls = taken (r + (kindOf (getD ws at 0) - first)) (chain first (take k (drop r allRows))) }
     where
@@ -175,6 +183,7 @@ module _ (ws : List ℕ) (at : ℕ) where
       let t = d .there in
       (omega (arith, t .wrote .span, t .wrote .inside), omega (arith, ap kindOf (d .head), kind-is (first + d .which) 0 (lit< tt)))
 
+  -- a list begins within the words
   pub many-inside : (r : ℕ) → SomeTree (one (many (rowOf r))) ws at → at < length ws
   unfolding wordsT
   many-inside r s = go (s .tree) (s .stands)
@@ -204,6 +213,7 @@ clear-in [] r e = refl
 clear-in (cs ∷ l) zero e = and-elim-left _ _ e
 clear-in (cs ∷ l) (suc r) e = clear-in l r (and-elim-right (clears cs) _ e)
 
+-- no choice begins like a later one
 pub clear-listed : {k : ℕ} → Listed k → clear (sortAt k) ≡ true
 unfolding codes partCodes stmtCodes all-clear clears clear clearR may mayR sortAt singles rowOf allRows parts sorts kinds
 clear-listed L = ap (λ (x : ℕ). clear (sortAt x)) (L .is) ∙ clear-at (codes (L .row)) (L .place) (clear-in (partCodes ++ stmtCodes) (L .row) refl)
@@ -214,6 +224,7 @@ clear-opt r L h =
     let e : r + 16 - 16 ≡ r = omega arith in
     ap clear (sym (sort-opt (r + 16) (omega arith) (omega arith) ∙ ap (λ (x : ℕ). opt (rowOf x)) e)) ∙ clear-listed L
 
+-- the number of an option's row, from the option's
 pub relisted : {k r : ℕ} → 16 ≤ k → r ≡ k - 16 → Listed k → Listed (r + 16)
 relisted {k} {r} h q L = let e : r + 16 ≡ k = omega arith in record { row = L .row; place = L .place; is = e ∙ L .is }
 

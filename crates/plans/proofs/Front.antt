@@ -36,13 +36,16 @@ quiet-at [] r e = refl
 quiet-at (ss ∷ l) zero e = and-elim-left (quietR ss) _ e
 quiet-at (ss ∷ l) (suc r) e = quiet-at l r (and-elim-right (quietR ss) _ e)
 
+-- each row of the table
 pub quiet-row : (r : ℕ) → quietR (rowOf r) ≡ true
 unfolding rowOf all-quiet quiet quietR ordinary allRows parts sorts kinds
 quiet-row r = quiet-at allRows r refl
 
+-- each kind's row
 pub quiet-kind : (k : Kind) → quietR (sorts k) ≡ true
 quiet-kind k = ap quietR (sym (row-kind (numberOf k) (number-small k) ∙ ap sorts (kind-number k))) ∙ quiet-row (numberOf k + 39)
 
+-- a list of statements
 pub quiet-body : quietI (one body) ≡ true
 unfolding quietI quiet quietR
 quiet-body = refl
@@ -74,6 +77,7 @@ pub record Next (ns : List ℕ) (n d : ℕ) (xs : List Item) (head : List ℕ) (
 abbrev pub callParts : ℕ → Exprs → List Item → List Item
 callParts f es rest = wordItem (wordOf 2 f) ∷ wordItem (wordOf 1 (manyE es)) ∷ exprsItem es ∷ rest
 
+-- which token comes first, if any is left
 pub data Front (ns : List ℕ) (n d : ℕ) (xs : List Item) : Type 0 where
   isOver : wordsIs xs ≡ [] → outerIs xs ≡ [] → ((g : Piece Expr → List ℕ) → writtenIs g xs ≡ []) → Front ns n d xs
   isWord : (w : ℕ) (rest : List Item) → ordinary (kindOf w) ≡ true → Next ns n d xs (w ∷ []) rest rest [] (λ g. w ∷ []) → Front ns n d xs
@@ -172,6 +176,7 @@ module _ (ns : List ℕ) (n d : ℕ) where
   front-item (exprsItem es) rest v r k = front-exprs es rest v r k
   front-item (treeItem t) rest v r k = front-tree t rest (v .0) (v .1) (v .2) r k
 
+  -- right items have a first token, or none is left
   pub front : (xs : List Item) → RightIs ns n d xs → Front ns n d xs
   unfolding wordsIs RightIs outerIs writtenIs
   front [] v = isOver refl refl (λ g. refl)
@@ -186,6 +191,7 @@ pub record WordsAt (ws ns : List ℕ) (n d at : ℕ) (xs : List Item) (end c : �
   pub stmts : outerIs xs ≡ outerIs rest
   pub writes : (g : Piece Expr → List ℕ) → Parted g → writtenIs g xs ≡ take c (drop at ws) ++ writtenIs g rest
 
+-- parentheses, and what stands after them
 pub record ParenAt (ws ns : List ℕ) (n d at : ℕ) (xs : List Item) (end : ℕ) : Type 0 where
   pub inner : Expr
   pub rest : List Item
@@ -205,6 +211,7 @@ pub record CallAt (ws ns : List ℕ) (n d at : ℕ) (xs : List Item) (end : ℕ)
   pub stmts : outerIs xs ≡ outerIs rest
   pub writes : (g : Piece Expr → List ℕ) → Parted g → writtenIs g xs ≡ g (exprPiece (Call name args)) ++ writtenIs g rest
 
+-- a statement: `there` for a scan that goes into it, `whole` and `after` for one that takes it at once
 pub record StmtAt (ws ns : List ℕ) (n d at : ℕ) (xs : List Item) (end : ℕ) : Type 0 where
   pub kind : Kind
   pub line : ℕ
@@ -233,6 +240,7 @@ module _ {ws ns : List ℕ} {n d at : ℕ} {xs : List Item} {end : ℕ} (S : Sta
   headed : (head left : List ℕ) → wordsIs xs ≡ head ++ left → Wrote ws at (head ++ left) end
   headed head left q = subst (λ (l : List ℕ). Wrote ws at l end) q (S .wrote)
 
+  -- so have items that stand at a place
   pub front-at : FrontAt ws ns n d at xs end
   unfolding wordsI wordsIs words wordsT Right
   front-at = go (front ns n d xs (S .valid))
@@ -296,6 +304,7 @@ pub record Ordinary (k : ℕ) : Type 0 where
   pub no-raw : 23 ≤ k → k < 28 → ⊥
   pub no-stmt : 64 ≤ k → k < 118 → ⊥
 
+-- what the test of an ordinary kind says
 pub ordinary-is : (k : ℕ) → ordinary k ≡ true → Ordinary k
 unfolding ordinary
 ordinary-is k e = or-cases (ltb k 21) _ e (λ p. let h = ltb-true k 21 p in record { no-call = λ q. omega arith; no-raw = λ a b. omega arith; no-stmt = λ a b. omega arith })
@@ -303,6 +312,7 @@ ordinary-is k e = or-cases (ltb k 21) _ e (λ p. let h = ltb-true k 21 p in reco
     (λ p. let h = ltb-true k 64 (and-elim-right (leb 28 k) _ p) in let l = leb-true 28 k (and-elim-left (leb 28 k) _ p) in record { no-call = λ q. omega arith; no-raw = λ a b. omega arith; no-stmt = λ a b. omega arith }))
 
 module _ {ws ns : List ℕ} {n d at : ℕ} {xs : List Item} {end : ℕ} (S : StandsAll ws ns n d at xs end) (z : at < end) where
+  -- 24 or 25: a literal's head and one raw word
   pub at-raw : 24 ≤ kindOf (getD ws at 0) → kindOf (getD ws at 0) ≤ 25 → WordsAt ws ns n d at xs end 2
   at-raw l u = go (front-at S)
     where
@@ -315,6 +325,7 @@ module _ {ws ns : List ℕ} {n d at : ℕ} {xs : List Item} {end : ℕ} (S : Sta
       go (callAt k w) = absurd (omega arith)
       go (stmtAt a b w) = absurd (omega arith)
 
+  -- 26 or 27: a literal's head and two raw words
   pub at-raws : 26 ≤ kindOf (getD ws at 0) → kindOf (getD ws at 0) ≤ 27 → WordsAt ws ns n d at xs end 3
   at-raws l u = go (front-at S)
     where
@@ -327,6 +338,7 @@ module _ {ws ns : List ℕ} {n d at : ℕ} {xs : List Item} {end : ℕ} (S : Sta
       go (callAt k w) = absurd (omega arith)
       go (stmtAt a b w) = absurd (omega arith)
 
+  -- 23: parentheses
   pub at-paren : kindOf (getD ws at 0) ≡ 23 → ParenAt ws ns n d at xs end
   at-paren e = go (front-at S)
     where
@@ -339,6 +351,7 @@ module _ {ws ns : List ℕ} {n d at : ℕ} {xs : List Item} {end : ℕ} (S : Sta
       go (callAt k w) = absurd (omega arith)
       go (stmtAt a b w) = absurd (omega arith)
 
+  -- 21: a call
   pub at-call : kindOf (getD ws at 0) ≡ 21 → CallAt ws ns n d at xs end
   at-call e = go (front-at S)
     where
@@ -351,6 +364,7 @@ module _ {ws ns : List ℕ} {n d at : ℕ} {xs : List Item} {end : ℕ} (S : Sta
       go (callAt k w) = w
       go (stmtAt a b w) = absurd (omega arith)
 
+  -- 64 to 117: a statement
   pub at-stmt : 64 ≤ kindOf (getD ws at 0) → kindOf (getD ws at 0) < 118 → StmtAt ws ns n d at xs end
   at-stmt l u = go (front-at S)
     where

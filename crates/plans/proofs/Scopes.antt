@@ -19,6 +19,7 @@ use Rattle.plans.proofs.Walk.{head-kind, of-number, fields}
 
 -- ---- the kinds that have a scope of their own, and the others
 
+-- what is shown of SUB, of FUNCTION and of all others is shown of each kind
 pub by-scope : (C : Kind → Type 0) → C sub → C function → ((k : Kind) → (numberOf k ≡ 20 → ⊥) → (numberOf k ≡ 21 → ⊥) → C k) → (k : Kind) → C k
 unfolding kindAt kinds
 by-scope C a b c k = go (eqb (numberOf k) 20) (eqb (numberOf k) 21) refl refl
@@ -28,6 +29,7 @@ by-scope C a b c k = go (eqb (numberOf k) 20) (eqb (numberOf k) 21) refl refl
     go false true p q = subst C (sym (of-number k 21 (eqb-true (numberOf k) 21 q))) b
     go false false p q = c k (eqb-false (numberOf k) 20 p) (eqb-false (numberOf k) 21 q)
 
+-- all others keep the scope
 pub inner-other : {E : Type 0} (scope : ℕ) (k : Kind) (r : Tree E (row (sorts k))) → (numberOf k ≡ 20 → ⊥) → (numberOf k ≡ 21 → ⊥) → scope ≡ inner scope (view k r)
 unfolding sorts view inner numberOf
 inner-other scope label (cons (word x) done) f g = refl
@@ -95,6 +97,7 @@ module _ {E F : Type 0} (g : E → F) (scope : ℕ) where
   unfolding sorts view inner over
   function-over (cons (word x) (cons ps (cons t (cons b (cons s (cons d done)))))) = refl
 
+  -- the scope inside is the same after every expression is replaced
   pub inner-over : (k : Kind) (r : Tree E (row (sorts k))) → inner scope (view k (over g r)) ≡ inner scope (view k r)
   inner-over k = by-scope (λ (k : Kind). (r : Tree E (row (sorts k))) → inner scope (view k (over g r)) ≡ inner scope (view k r)) sub-over function-over (λ k p q r. sym (inner-other scope k (over g r) p q) ∙ inner-other scope k r p q) k
 
@@ -132,22 +135,27 @@ module _ (ws : List ℕ) (at scope : ℕ) where
       go : (v : Tree Expr (one stmt)) → Stands ws (t .names) (t .strings) at v (t .end) → at + 1 < length ws
       go (Stmt k line r) s = opens j o q k (t .names) (t .strings) line r (t .end) s .0
 
+  -- SUB: its name's number plus 1
   pub in-sub : kindOf (getD ws at 0) ≡ 84 → InsideAt ws at scope (payOf (getD ws (at + 1) 0) + 1)
   unfolding kindAt kinds
   in-sub q = own 20 opens-sub q
 
+  -- and the name is within the words
   pub two-sub : kindOf (getD ws at 0) ≡ 84 → SomeTree (one stmt) ws at → at + 1 < length ws
   unfolding kindAt kinds
   two-sub q t = two 20 opens-sub q t
 
+  -- FUNCTION: its name's number plus 1
   pub in-function : kindOf (getD ws at 0) ≡ 85 → InsideAt ws at scope (payOf (getD ws (at + 1) 0) + 1)
   unfolding kindAt kinds
   in-function q = own 21 opens-function q
 
+  -- and the name is within the words
   pub two-function : kindOf (getD ws at 0) ≡ 85 → SomeTree (one stmt) ws at → at + 1 < length ws
   unfolding kindAt kinds
   two-function q t = two 21 opens-function q t
 
+  -- all others: the scope around
   pub in-other : scope ≤ 16777216 → (kindOf (getD ws at 0) ≡ 84 → ⊥) → (kindOf (getD ws at 0) ≡ 85 → ⊥) → InsideAt ws at scope scope
   in-other h f g = record {
     fits = h;

@@ -20,26 +20,33 @@ use Rattle.plans.specs.Plans.{Planned, Shallow, ShallowRows, SomeRows, W
 
 -- ---- some tree, and one of known strings and depth
 
+-- some tree is one of its own strings and depth
 pub of-some : {i : Shape} {ws : List ℕ} {at : ℕ} (s : SomeTree i ws at) → Shallow i (s .names) (s .strings) (depthT (s .tree)) ws at
 of-some s = record { tree = s .tree; end = s .end; stands = s .stands; shallow = omega arith }
 
+-- and one of known strings and depth is some tree
 pub to-some : {i : Shape} {ns : List ℕ} {n d : ℕ} {ws : List ℕ} {at : ℕ} → Shallow i ns n d ws at → SomeTree i ws at
 to-some {ns = ns} {n} s = record { names = ns; strings = n; tree = s .tree; end = s .end; stands = s .stands }
 
+-- the same of rows
 pub of-some-rows : {ss : Sorts} {k : ℕ} {ws : List ℕ} {at : ℕ} (s : SomeRows ss k ws at) → ShallowRows ss k (s .some .names) (s .some .strings) (depthT (s .some .tree)) ws at
 of-some-rows s = record { tree = s .some .tree; end = s .some .end; stands = s .some .stands; counted = s .counted; shallow = omega arith }
 
+-- and back
 pub to-some-rows : {ss : Sorts} {k : ℕ} {ns : List ℕ} {n d : ℕ} {ws : List ℕ} {at : ℕ} → ShallowRows ss k ns n d ws at → SomeRows ss k ws at
 to-some-rows {ns = ns} {n} s = record { some = record { names = ns; strings = n; tree = s .tree; end = s .end; stands = s .stands }; counted = s .counted }
 
 -- ---- a sort or a row by its number
 
+-- a tree that stands there, of the same shape under another name
 pub shallow-as : {i j : Shape} {ns : List ℕ} {n d : ℕ} {ws : List ℕ} {at : ℕ} → i ≡ j → Shallow i ns n d ws at → Shallow j ns n d ws at
 shallow-as {ns = ns} {n} {d} {ws} {at} q s = subst (λ (k : Shape). Shallow k ns n d ws at) q s
 
+-- some tree, the same
 pub some-as : {i j : Shape} {ws : List ℕ} {at : ℕ} → i ≡ j → SomeTree i ws at → SomeTree j ws at
 some-as {ws = ws} {at} q s = subst (λ (k : Shape). SomeTree k ws at) q s
 
+-- a walk's promise, the same
 pub walks-as : {i j : Shape} {ws : List ℕ} {at to : ℕ} {P : List ℕ → ℕ → List (Piece Expr) → Type 0} → i ≡ j → Walks j ws at to P → Walks i ws at to P
 walks-as {ws = ws} {at} {to} {P} q w = subst (λ (k : Shape). Walks k ws at to P) (sym q) w
 
@@ -50,15 +57,18 @@ body-sort = refl
 
 -- ---- an expression
 
+-- a field that is an expression: it stands there, and is its one piece
 pub record InValue (ws ns : List ℕ) (n at : ℕ) (v : Tree Expr (one expr)) (end : ℕ) : Type 0 where
   pub expression : Expr
   pub there : W.Stands ws (strings ns n) at expression end
   pub is : pieces v ≡ exprPiece expression ∷ []
 
+-- what stands there is one expression, and one piece
 pub in-value : {ws ns : List ℕ} {n at end : ℕ} {v : Tree Expr (one expr)} → Stands ws ns n at v end → InValue ws ns n at v end
 unfolding wordsT Right pieces
 in-value {v = value e} s = record { expression = e; there = record { wrote = s .wrote; valid = s .valid }; is = refl }
 
+-- a walk over it: its end, and P of the one piece
 pub value-done : {ws : List ℕ} {at to : ℕ} {P : List ℕ → ℕ → List (Piece Expr) → Type 0} → ((ns : List ℕ) (n : ℕ) (e : Expr) (end : ℕ) → W.Stands ws (strings ns n) at e end → (to ≡ end) × P ns n (exprPiece e ∷ [])) → Walks (one expr) ws at to P
 value-done {P = P} f = record {
   gives = λ ns n v end s.
@@ -70,17 +80,20 @@ value-done {P = P} f = record {
 -- ---- a field that is some words and then rows
 
 module _ {s : Sort} {ns : List ℕ} {n d : ℕ} {ws : List ℕ} {at c r k : ℕ} (t : Shallow (one s) ns n d ws at) (p : Planned s ws at c r k) where
+  -- these words are within the words
   pub open-fits : at + c ≤ length ws
   open-fits =
       let o = p .opens ns n (t .tree) (t .end) (t .stands) in
       let h = o .there in
       omega (arith, h .wrote .span, h .wrote .inside)
 
+  -- the rows stand after them
   pub open-rows : ShallowRows (rowOf r) k ns n d ws (at + c)
   open-rows =
       let o = p .opens ns n (t .tree) (t .end) (t .stands) in
       record { tree = o .inner; end = t .end; stands = o .there; counted = o .counted; shallow = omega (arith, o .deep, t .shallow) }
 
+-- a walk over the rows is one over the field
 pub open-done : {s : Sort} {ws : List ℕ} {at to c r k : ℕ} {P : List ℕ → ℕ → List (Piece Expr) → Type 0} → Planned s ws at c r k → WalksRows (rowOf r) k ws (at + c) to P → Walks (one s) ws at to P
 open-done {P = P} p w = record {
   gives = λ ns n v end s.
@@ -166,6 +179,7 @@ pub record Here (i : Shape) (ns : List ℕ) (n d : ℕ) (ws : List ℕ) (at a : 
 
 -- ---- several rows
 
+-- of v, so many rows are left after i
 pub record RowsPart (ws ns : List ℕ) (n : ℕ) {ss : Sorts} (v : Tree Expr (rows ss)) (at end a i : ℕ) (P : List (Piece Expr) → Type 0) : Type 0 where
   pub part : Rest ws ns n v (rows ss) at end a P
   pub few : count (part .left) + i ≡ count v
@@ -174,10 +188,12 @@ pub record RowsPart (ws ns : List ℕ) (n : ℕ) {ss : Sorts} (v : Tree Expr (ro
 pub record WalkedRows (ss : Sorts) (k : ℕ) (ws : List ℕ) (at a i : ℕ) (P : List ℕ → ℕ → List (Piece Expr) → Type 0) : Type 0 where
   pub gives : (ns : List ℕ) (n : ℕ) (v : Tree Expr (rows ss)) (end : ℕ) → Stands ws ns n at v end → count v ≡ k → RowsPart ws ns n v at end a i (P ns n)
 
+-- no row is walked
 pub rows-start : (ss : Sorts) (k : ℕ) (ws : List ℕ) (at : ℕ) {P : List ℕ → ℕ → List (Piece Expr) → Type 0} → ((ns : List ℕ) (n : ℕ) → P ns n []) → WalkedRows ss k ws at at 0 P
 unfolding rest-start
 rows-start ss k ws at {P} f = record { gives = λ ns n v end s q. record { part = rest-start {P = P ns n} (f ns n) s; few = add-zero (count v) } }
 
+-- the next one stands at a
 pub next-row : {ss : Sorts} {k : ℕ} {ns : List ℕ} {n d : ℕ} {ws : List ℕ} {at a i : ℕ} {P : List ℕ → ℕ → List (Piece Expr) → Type 0} → ShallowRows ss k ns n d ws at → WalkedRows ss k ws at a i P → i < k → Here (row ss) ns n d ws at a
 next-row {ns = ns} {n} t w h =
     let R = w .gives ns n (t .tree) (t .end) (t .stands) (t .counted) in
@@ -185,6 +201,7 @@ next-row {ns = ns} {n} t w h =
     let S = split-rows (omega (arith, R .few, t .counted)) (p .there) in
     record { ready = record { tree = S .head; end = S .mid; stands = S .there; shallow = omega (arith, S .deep, p .below, t .shallow) }; from = p .from }
 
+-- one more walked
 pub rows-step : {ss : Sorts} {k : ℕ} {ws : List ℕ} {at a i a′ : ℕ} {P Q P′ : List ℕ → ℕ → List (Piece Expr) → Type 0} → WalkedRows ss k ws at a i P → i < k → Walks (row ss) ws a a′ Q → ((ns : List ℕ) (n : ℕ) (xs ys : List (Piece Expr)) → P ns n xs → Q ns n ys → P′ ns n (xs ++ ys)) → WalkedRows ss k ws at a′ (i + 1) P′
 unfolding rest-step
 rows-step {P = P} {Q} {P′} w h d f = record {
@@ -196,6 +213,7 @@ rows-step {P = P} {Q} {P′} w h d f = record {
       record { part = rest-step {P = P ns n} {Q = Q ns n} {P′ = P′ ns n} p S (d .gives ns n (S .head) (S .mid) (S .there)) (f ns n); few = omega (arith, R .few, split-count z (p .there)) };
 }
 
+-- all are walked
 pub rows-done : {ss : Sorts} {k : ℕ} {ws : List ℕ} {at a i : ℕ} {P : List ℕ → ℕ → List (Piece Expr) → Type 0} → WalkedRows ss k ws at a i P → k ≤ i → WalksRows ss k ws at a P
 rows-done {P = P} w h = record {
   gives = λ ns n v end s q.
@@ -213,6 +231,7 @@ pub record WalkedRow (r : ℕ) (ws : List ℕ) (at a i : ℕ) (P : List ℕ → 
 rest-as : {ws ns : List ℕ} {n : ℕ} {i j k : Shape} {v : Tree Expr i} {at end a : ℕ} {P : List (Piece Expr) → Type 0} → j ≡ k → Rest ws ns n v j at end a P → Rest ws ns n v k at end a P
 rest-as {ws} {ns} {n} {v = v} {at} {end} {a} {P} q p = subst (λ (j : Shape). Rest ws ns n v j at end a P) q p
 
+-- no field is walked
 pub row-start : (r : ℕ) (ws : List ℕ) (at : ℕ) {P : List ℕ → ℕ → List (Piece Expr) → Type 0} → ((ns : List ℕ) (n : ℕ) → P ns n []) → WalkedRow r ws at at 0 P
 row-start r ws at {P} f = record { gives = λ ns n v end s. rest-as {P = P ns n} (ap row (sym (decode-row r))) (rest-start {P = P ns n} (f ns n) s) }
 
@@ -220,12 +239,14 @@ row-start r ws at {P} f = record { gives = λ ns n v end s. rest-as {P = P ns n}
 pub on : (r i k : ℕ) → k ≡ getD (codes r) i 0 → (k ≡ 0 → ⊥) → decode (drop i (codes r)) ≡ sortAt k & decode (drop (i + 1) (codes r))
 on r i k e z = decode-go (codes r) i (λ y. z (e ∙ y)) ∙ ap (λ (x : ℕ). sortAt x & decode (drop (i + 1) (codes r))) (sym e)
 
+-- the next one, of the number k, stands at a
 pub next-field : {r : ℕ} {ns : List ℕ} {n d : ℕ} {ws : List ℕ} {at a i k : ℕ} {P : List ℕ → ℕ → List (Piece Expr) → Type 0} → Shallow (row (rowOf r)) ns n d ws at → WalkedRow r ws at a i P → k ≡ getD (codes r) i 0 → (k ≡ 0 → ⊥) → Here (one (sortAt k)) ns n d ws at a
 next-field {r} {ns} {n} {i = i} {k} {P} t w e z =
     let p = rest-as {P = P ns n} (ap row (on r i k e z)) (w .gives ns n (t .tree) (t .end) (t .stands)) in
     let S = split-row (p .there) in
     record { ready = record { tree = S .head; end = S .mid; stands = S .there; shallow = omega (arith, S .deep, p .below, t .shallow) }; from = p .from }
 
+-- one more walked
 pub row-step : {r : ℕ} {ws : List ℕ} {at a i k a′ : ℕ} {P Q P′ : List ℕ → ℕ → List (Piece Expr) → Type 0} → WalkedRow r ws at a i P → k ≡ getD (codes r) i 0 → (k ≡ 0 → ⊥) → Walks (one (sortAt k)) ws a a′ Q → ((ns : List ℕ) (n : ℕ) (xs ys : List (Piece Expr)) → P ns n xs → Q ns n ys → P′ ns n (xs ++ ys)) → WalkedRow r ws at a′ (i + 1) P′
 row-step {r} {i = i} {k} {P = P} {Q} {P′} w e z d f = record {
   gives = λ ns n v end s.
@@ -242,18 +263,22 @@ row-nil {P = P} w q = record {
       rest-end {P = P ns n} p (z .0) (z .1);
 }
 
+-- at the first 0 all are walked
 pub row-stop : {r : ℕ} {ws : List ℕ} {at a i k : ℕ} {P : List ℕ → ℕ → List (Piece Expr) → Type 0} → WalkedRow r ws at a i P → k ≡ getD (codes r) i 0 → k ≡ 0 → Walks (row (rowOf r)) ws at a P
 row-stop {r} {i = i} w e z = row-nil w (decode-stop (codes r) i (sym e ∙ z))
 
+-- so they are after the sixth
 pub row-full : {r : ℕ} {ws : List ℕ} {at a i : ℕ} {P : List ℕ → ℕ → List (Piece Expr) → Type 0} → WalkedRow r ws at a i P → 6 ≤ i → Walks (row (rowOf r)) ws at a P
 row-full {r} {i = i} w h = row-nil w (decode-over r i h)
 
 -- ---- a statement
 
+-- its head's kind is 64 plus its kind's number
 pub head-kind : {ws ns : List ℕ} {n at end : ℕ} {k : Kind} {line : ℕ} {r : Tree Expr (row (sorts k))} → Stands ws ns n at (Stmt k line r) end → kindOf (getD ws at 0) ≡ 64 + numberOf k
 unfolding wordsT Right
 head-kind {k = k} {line} s = ap kindOf (wrote-first (s .wrote) .is) ∙ kind-is (64 + numberOf k) line (s .valid .0)
 
+-- its head is within the words, and its kind from 64 to 117
 pub head-range : {ws ns : List ℕ} {n at end : ℕ} {v : Tree Expr (one stmt)} → Stands ws ns n at v end → (64 ≤ kindOf (getD ws at 0)) × (kindOf (getD ws at 0) < 118) × (at < length ws)
 unfolding wordsT
 head-range {v = Stmt k line r} s = (omega (arith, head-kind s), omega (arith, head-kind s, number-small k), wrote-first (s .wrote) .inside)
@@ -262,6 +287,7 @@ head-range {v = Stmt k line r} s = (omega (arith, head-kind s), omega (arith, he
 pub of-number : (k : Kind) (j : ℕ) → numberOf k ≡ j → k ≡ kindAt j
 of-number k j q = sym (kind-number k) ∙ ap kindAt q
 
+-- the row of its head's kind is its kind's
 pub stmt-row : {ws ns : List ℕ} {n at end : ℕ} {k : Kind} {line : ℕ} {r : Tree Expr (row (sorts k))} → Stands ws ns n at (Stmt k line r) end → rowOf (kindOf (getD ws at 0) - 64 + 39) ≡ sorts k
 stmt-row {ws} {at = at} {k = k} s =
     let e : kindOf (getD ws at 0) - 64 ≡ numberOf k = omega (arith, head-kind s) in
@@ -272,6 +298,7 @@ pub fields : {ws ns : List ℕ} {n at end : ℕ} {k : Kind} {line : ℕ} {r : Tr
 unfolding wordsT Right
 fields s = record { wrote = wrote-first (s .wrote) .rest; valid = s .valid .1 }
 
+-- its row stands after the head, no deeper
 pub fields-there : {ns : List ℕ} {n d : ℕ} {ws : List ℕ} {at : ℕ} → Shallow (one stmt) ns n d ws at → Shallow (row (rowOf (kindOf (getD ws at 0) - 64 + 39))) ns n d ws (at + 1)
 unfolding depthT
 fields-there {ns} {n} {d} {ws} {at} t = go (t .tree) (t .stands) (t .shallow)

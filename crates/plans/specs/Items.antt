@@ -19,6 +19,7 @@ ordinary k = ltb k 21 || (eqb k 22 || between 28 64 k)
 
 -- no leaf and no choice of the sort begins like one of those
 unfoldable mutual
+  -- so of a sort; what stands in an expression or a statement doesn't count
   pub quiet : Sort → Bool
   quiet (leaf l) = ordinary (kindL l)
   quiet expr = true
@@ -28,10 +29,12 @@ unfoldable mutual
   quiet (either k ss s) = ordinary k && (quietR ss && quiet s)
   quiet never = true
 
+  -- of each sort of a row
   pub quietR : Sorts → Bool
   quietR nil = true
   quietR (s & ss) = quiet s && quietR ss
 
+-- of a shape's sorts
 unfoldable pub quietI : Shape → Bool
 quietI (one s) = quiet s
 quietI (row ss) = quietR ss
@@ -39,6 +42,7 @@ quietI (rows ss) = quietR ss
 
 -- ---- items
 
+-- a word, a literal, an expression, several, or a tree of any shape
 pub data Item : Type 0 where
   -- an ordinary word
   wordItem : ℕ → Item
@@ -47,6 +51,7 @@ pub data Item : Type 0 where
   exprsItem : Exprs → Item
   treeItem : {i : Shape} → Tree Expr i → Item
 
+-- the words of an item
 unfoldable pub wordsI : Item → List ℕ
 wordsI (wordItem w) = w ∷ []
 wordsI (litItem l) = wordsL l
@@ -54,12 +59,14 @@ wordsI (exprItem e) = words e
 wordsI (exprsItem es) = wordsAll es
 wordsI (treeItem v) = wordsT v
 
+-- of several, one after another
 unfoldable pub wordsIs : List Item → List ℕ
 wordsIs [] = []
 wordsIs (x ∷ xs) = wordsI x ++ wordsIs xs
 
 -- of n strings whose marks are ns; the trees are at most d deep, and of quiet sorts
 module _ (ns : List ℕ) (n d : ℕ) where
+  -- an item is right: an ordinary word, a valid literal, valid expressions, or a right tree
   unfoldable pub RightI : Item → Type 0
   RightI (wordItem w) = ordinary (kindOf w) ≡ true
   RightI (litItem l) = ValidL n l
@@ -67,6 +74,7 @@ module _ (ns : List ℕ) (n d : ℕ) where
   RightI (exprsItem es) = Valids (strings ns n) es
   RightI (treeItem {i} v) = (quietI i ≡ true) × Right ns n v × (depthT v ≤ d)
 
+  -- each of several
   unfoldable pub RightIs : List Item → Type 0
   RightIs [] = Unit {0}
   RightIs (x ∷ xs) = RightI x × RightIs xs
@@ -78,6 +86,7 @@ pub record StandsAll (ws ns : List ℕ) (n d at : ℕ) (xs : List Item) (end : �
 
 -- ---- the statements in them that stand in no other, in the words' order
 
+-- of a tree; those inside a statement are not among them
 unfoldable pub outer : {i : Shape} → Tree Expr i → List (Piece Expr)
 outer (word x) = []
 outer (value e) = []
@@ -91,6 +100,7 @@ outer (cons v r) = outer v ++ outer r
 outer nothing = []
 outer (add r rs) = outer r ++ outer rs
 
+-- those in an item
 unfoldable pub outerI : Item → List (Piece Expr)
 outerI (wordItem w) = []
 outerI (litItem l) = []
@@ -98,16 +108,19 @@ outerI (exprItem e) = []
 outerI (exprsItem es) = []
 outerI (treeItem v) = outer v
 
+-- those in several, one after another
 unfoldable pub outerIs : List Item → List (Piece Expr)
 outerIs [] = []
 outerIs (x ∷ xs) = outerI x ++ outerIs xs
 
 -- ---- their words, where g tells those of each expression and of each statement
 
+-- of expressions, one after another
 unfoldable pub eachE : (Piece Expr → List ℕ) → Exprs → List ℕ
 eachE g none = []
 eachE g (more e es) = g (exprPiece e) ++ eachE g es
 
+-- an item's
 unfoldable pub writtenI : (Piece Expr → List ℕ) → Item → List ℕ
 writtenI g (wordItem w) = w ∷ []
 writtenI g (litItem l) = wordsL l
@@ -115,6 +128,7 @@ writtenI g (exprItem e) = g (exprPiece e)
 writtenI g (exprsItem es) = eachE g es
 writtenI g (treeItem v) = written g v
 
+-- those of several, one after another
 unfoldable pub writtenIs : (Piece Expr → List ℕ) → List Item → List ℕ
 writtenIs g [] = []
 writtenIs g (x ∷ xs) = writtenI g x ++ writtenIs g xs

@@ -10,6 +10,7 @@ pub data Piece (E : Type 0) : Type 0 where
   exprPiece : E → Piece E
   stmtPiece : (k : Kind) → (line : ℕ) → Tree E (row (sorts k)) → Piece E
 
+-- the pieces of a tree; a statement is one, whatever stands in it
 unfoldable pub pieces : {E : Type 0} {i : Shape} → Tree E i → List (Piece E)
 pieces (word x) = []
 pieces (value e) = exprPiece e ∷ []

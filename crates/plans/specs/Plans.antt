@@ -21,6 +21,7 @@ pub record Opened (ws ns : List ℕ) (n at end : ℕ) {s : Sort} (v : Tree Expr 
   pub after : (g : Piece Expr → List ℕ) → written g v ≡ take c (drop at ws) ++ written g inner
   pub deep : depthT v ≡ depthT inner
 
+-- so it is of whatever field of the sort stands there
 pub record Planned (s : Sort) (ws : List ℕ) (at c r k : ℕ) : Type 0 where
   pub opens : (ns : List ℕ) (n : ℕ) (v : Tree Expr (one s)) (end : ℕ) → Stands ws ns n at v end → Opened ws ns n at end v c r k
   -- either a word is taken, or the row is a smaller one

@@ -51,14 +51,17 @@ module _ {A : Type 0} {R : A → Type 0} {f : A → Sized} where
   pub enters : {g : Sized} {s r : Counts} {b b′ : List ℕ} → Rows g s r b b′ → ((x : A) → R x → (N D : ℕ) (st : State) → g N D st ≡ f x N D st) → Enters R f s r b b′
   enters F e = record { kept = F .kept; fit = F .fit; does = λ x h d k. same (f x) (e x h) (rows-does F d k) }
 
+  -- none
   pub enters-nothing : {s : Counts} {b : List ℕ} → s .rows * width ≤ length b → ((x : A) → R x → (N D : ℕ) (st : State) → st ≡ f x N D st) → Enters R f s s b b
   enters-nothing l e = record { kept = refl; fit = l; does = λ x h d k. same (f x) (e x h) (nothing-does (l, k)) }
 
+  -- neither a diagnostic nor a row
   pub acts-nothing : {s : Counts} {b d : List ℕ} → Fit s (length b) (length d) → ((x : A) → R x → (N D : ℕ) (st : State) → st ≡ f x N D st) → Acts R f s s b d b d
   acts-nothing l e = record { fit = l; does = λ x h. same (f x) (e x h) (nothing-does l) }
 
 -- ---- types
 
+-- a type with the head 44 is a fixed string, and its argument is its length
 pub fixed-yes : {h a : ℕ} → h ≡ 44 → (ty : Option TypeRef) → h ≡ headOf ty → a ≡ argOf ty → a ≡ fixedLength ty
 unfolding fixedLength
 fixed-yes z none e f = absurd (omega arith)
@@ -69,6 +72,7 @@ fixed-yes z (some Double) e f = absurd (omega arith)
 fixed-yes z (some (FixedString n)) e f = f
 fixed-yes z (some (Record x)) e f = absurd (omega arith)
 
+-- any other type, or none, has the length 0
 pub fixed-no : {h a : ℕ} → (h ≡ 44 → ⊥) → (ty : Option TypeRef) → h ≡ headOf ty → a ≡ argOf ty → 0 ≡ fixedLength ty
 unfolding fixedLength
 fixed-no z none e f = refl
@@ -83,11 +87,13 @@ fixed-no z (some (Record x)) e f = refl
 
 -- of its result's type
 module _ (bytes ends : List ℕ) (line name : ℕ) {h : ℕ} where
+  -- nothing where it has none
   pub result-none : h ≡ 0 → (ty : Option TypeRef) → h ≡ headOf ty → (N D : ℕ) (st : State) → st ≡ resultType (given (some N) (some D) bytes ends []) line name ty st
   unfolding resultType
   result-none z none e N D st = refl
   result-none z (some t) e N D st = absurd (omega (arith, head-some t))
 
+  -- 15 where it isn't the one that the name's suffix says
   pub result-some : {yes : Bool} → (h ≡ 0 → ⊥) → ((t : TypeRef) → h ≡ head t → yes ≡ disagrees (lastOf (stringAt bytes ends name)) t) → (ty : Option TypeRef) → h ≡ headOf ty
       → (N D : ℕ) (st : State) → noting yes (15 ∷ line ∷ (name + 1) ∷ 0 ∷ 0 ∷ 0 ∷ []) N D st ≡ resultType (given (some N) (some D) bytes ends []) line name ty st
   unfolding resultType noting differs
@@ -110,6 +116,7 @@ unfolding noting checkVariableLengthStrings
 strings-said line f o e N D st =
     ap₂ (λ (m x : ℕ). (each (paramString (plain N D) line x) (f .params) ⨾ when (not (eqb m 0)) (push (some D) (fixedResult line x m))) st) e (o .name)
 
+-- 22 of each parameter that is a fixed string, then 23 of such a result
 pub strings-says : (line n : ℕ) {p : ProcAt} {ws : List ℕ} {s t r : Counts} {d d′ d″ : List ℕ}
     → Says (ParamsAt ws (p .params) (p .count)) (λ ps N D. each (paramString (plain N D) line (p .name)) ps) s t d d′
     → ((ty : Option TypeRef) → p .head ≡ headOf ty → p .arg ≡ argOf ty → n ≡ fixedLength ty)
@@ -139,6 +146,7 @@ module _ (line name prev : ℕ) (yes : Bool) {s r : Counts} {b d d′ : List ℕ
       (λ rows H. ap₂ (λ (x : Bool) (y : ℕ). (x, y)) (told rows H) (told′ rows H))
       (notes-does F b k)
 
+  -- 25, with the line where it was
   pub defined-acts : s .rows * width ≤ length b
       → ((rows : List Row) → Keeps rows (s .rows) b → yes ≡ has rows 135 name 0)
       → ((rows : List Row) → Keeps rows (s .rows) b → prev ≡ rowWord 3 (find (entryKey 135 name 0) rows))
@@ -176,14 +184,17 @@ before-acts bytes ends scope line {ws} {p} {s} {s1} {s2} {s3} {r} {b} {d} {d1} {
 
 -- a mark
 module _ (kind name : ℕ) (yes : Bool) {s : Counts} {b : List ℕ} where
+  -- none is entered
   pub mark-no : yes ≡ false → s .rows * width ≤ length b → Enters (λ x. yes ≡ x) (λ x N D. when x (enter (some N) (row kind name (0 ∷ [])))) s s b b
   mark-no e k = enters-nothing k (λ x q N D st. ap (λ (t : Bool). when t (enter (some N) (row kind name (0 ∷ []))) st) (sym e ∙ q))
 
+  -- it is entered
   pub mark-yes : {r : Counts} {b′ : List ℕ} → yes ≡ true → Rows (entering (row kind name (0 ∷ 0 ∷ 0 ∷ 0 ∷ 0 ∷ []))) s r b b′
       → Enters (λ x. yes ≡ x) (λ x N D. when x (enter (some N) (row kind name (0 ∷ [])))) s r b b′
   unfolding entering
   mark-yes e F = enters F (λ x q N D st. ap (λ (t : Bool). when t (enter (some N) (row kind name (0 ∷ []))) st) (sym e ∙ q))
 
+-- STATIC, then DEF FN
 pub marks-enter : {ws : List ℕ} {p : ProcAt} {s t r : Counts} {b b1 b′ : List ℕ}
     → Enters (λ x. p .keeps ≡ x) (λ x N D. when x (enter (some N) (row 140 (p .name) (0 ∷ [])))) s t b b1
     → Enters (λ x. p .deffn ≡ x) (λ x N D. when x (enter (some N) (row 141 (p .name) (0 ∷ [])))) t r b1 b′
@@ -217,6 +228,7 @@ row-of : (name i m : ℕ) {r : ParamAt} (p : Param) → ParamOf r p → m ≡ bi
     → row 136 name (i ∷ r .name ∷ m ∷ r .head ∷ r .arg ∷ []) ≡ paramRow name i (p .name) (p .byval) (p .array) (headOf (p .ty)) (argOf (p .ty))
 row-of name i m {r} p o e = rw (e, o .name, o .byval, o .array, o .head, o .arg)
 
+-- its row after those before
 pub params-next : (name : ℕ) {i m : ℕ} {q : ParamAt} {s c r : Counts} {b d b′ b″ : List ℕ} → m ≡ bit (q .byval) + 2 * bit (q .array)
     → Rows (entering (row 136 name (i ∷ q .name ∷ m ∷ q .head ∷ q .arg ∷ []))) c r b′ b″
     → c .notes * noteWidth ≤ length d
@@ -276,6 +288,7 @@ with-params line m {ws} {p} {s} {s1} {s2} {r} {b} {b1} {b2} {b′} few e F G H =
 -- ---- its parameters inside the body
 
 module _ (scope line name : ℕ) (u : Use) {s r : Counts} {b b′ : List ℕ} where
+  -- a use was found: the array's row with its count
   pub ranked-some : u .found ≡ true → Rows (entering (row 133 name (scope ∷ u .count ∷ line ∷ 1 ∷ 0 ∷ []))) s r b b′
       → Enters (λ o. useOf u ≡ o) (λ o N D. ranked (plain N D) scope line name o) s r b b′
   unfolding entering ranked useOf
@@ -283,6 +296,7 @@ module _ (scope line name : ℕ) (u : Use) {s r : Counts} {b b′ : List ℕ} wh
       let is : some (u .count) ≡ useOf u = sym (ap (λ (t : Bool). pick t (some (u .count)) none) e) in
       enters F (λ o q N D st. ap (λ (x : Option ℕ). ranked (plain N D) scope line name x st) (is ∙ q))
 
+  -- none was: a row of rank 1, and one that says so
   pub ranked-none : {t : Counts} {b1 : List ℕ} → u .found ≡ false → Rows (entering (row 133 name (scope ∷ 1 ∷ line ∷ 1 ∷ 0 ∷ []))) s t b b1
       → Rows (entering (row 142 name (scope ∷ 0 ∷ 0 ∷ 0 ∷ 0 ∷ []))) t r b1 b′
       → Enters (λ o. useOf u ≡ o) (λ o N D. ranked (plain N D) scope line name o) s r b b′
@@ -299,12 +313,14 @@ module _ (scope line name : ℕ) (u : Use) {s r : Counts} {b b′ : List ℕ} wh
 
 -- an array
 module _ (scope line : ℕ) {p : ParamAt} {s : Counts} {b : List ℕ} where
+  -- a parameter that is no array has no such row
   pub array-no : p .array ≡ false → s .rows * width ≤ length b → (t : Tree Seen (one bodySort)) → Enters (ParamOf p) (λ q N D. arrayParam (plain N D) scope line t q) s s b b
   unfolding arrayParam
   array-no e k t =
       enters-nothing k (λ q o N D st.
       ap (λ (y : Bool). when y (ranked (plain N D) scope line (q .name) (subscriptCount (λ name (e : Seen). e .use-of name) (q .name) t)) st) (sym e ∙ o .array))
 
+  -- one that is has the rank of its first use in the body
   pub array-yes : (u : Use) {ws : List ℕ} {body past : ℕ} {r : Counts} {b′ : List ℕ} → p .array ≡ true
       → ((ns : List ℕ) (n : ℕ) (v : Tree Expr (one bodySort)) → Stands ws ns n body v past → useOf u ≡ subscriptCount (λ name (e : Expr). inExpr name e) (p .name) v)
       → Enters (λ o. useOf u ≡ o) (λ o N D. ranked (plain N D) scope line (p .name) o) s r b b′
@@ -334,6 +350,7 @@ module _ (line name : ℕ) where
   other-type z (FixedString n) e N D st = refl
   other-type z (Record x) e N D st = absurd (z e)
 
+  -- a type that is no TYPE's name is never undefined
   pub undefined-other : {h a : ℕ} {s : Counts} {b d : List ℕ} → (h ≡ 45 → ⊥) → Fit s (length b) (length d)
       → Acts (λ ty. (h ≡ head ty) × (a ≡ arg ty)) (λ ty N D. undefined (plain N D) ty (λ (x : ℕ). paramUndefined line name x)) s s b d b d
   undefined-other z k = acts-nothing k (λ ty q. other-type z ty (q .0))
@@ -357,6 +374,7 @@ module _ (line name : ℕ) where
     record-does z F (FixedString n) e f = absurd (omega arith)
     record-does z F (Record x) e f = subst (λ (y : ℕ). Does (λ N D. asking (λ rows. when (not (has rows 130 y 0)) (push (some D) (paramUndefined line name y)))) s r b d b d′) f F
 
+    -- 26 where no TYPE has the name
     pub undefined-record : {h : ℕ} → h ≡ 45 → (known : Bool) → s .rows * width ≤ length b → ((rows : List Row) → Keeps rows (s .rows) b → known ≡ has rows 130 a 0)
         → Notes (noting (not known) (26 ∷ line ∷ (name + 1) ∷ (a + 1) ∷ 0 ∷ 0 ∷ [])) s r d d′
         → Acts (λ ty. (h ≡ head ty) × (a ≡ arg ty)) (λ ty N D. undefined (plain N D) ty (λ (x : ℕ). paramUndefined line name x)) s r b d b d′
@@ -372,10 +390,12 @@ untyped scope line false name none e N D st = refl
 untyped scope line false name (some t) e N D st = absurd (omega (arith, head-some t))
 
 module _ (scope line : ℕ) (p : ParamAt) {s : Counts} {b d : List ℕ} where
+  -- an array has no such row
   pub typed-array : p .array ≡ true → Fit s (length b) (length d) → Acts (ParamOf p) (λ q N D. typedParam (plain N D) scope line q) s s b d b d
   unfolding typedParam
   typed-array e k = acts-nothing k (λ q o N D st. ap (λ (y : Bool). when (not y) (paramType (plain N D) scope line (q .name) (q .ty)) st) (sym e ∙ o .array))
 
+  -- nor has a parameter without a type
   pub typed-none : p .head ≡ 0 → Fit s (length b) (length d) → Acts (ParamOf p) (λ q N D. typedParam (plain N D) scope line q) s s b d b d
   unfolding typedParam
   typed-none e k = acts-nothing k (λ q o N D st. untyped scope line (q .array) (q .name) (q .ty) (sym (o .head) ∙ e) N D st)
@@ -391,6 +411,7 @@ module _ (scope line : ℕ) (p : ParamAt) {s : Counts} {b d : List ℕ} where
         (λ N D st. ap₂ (λ (x y : ℕ). (undefined (plain N D) ty (λ (r : ℕ). paramUndefined line (p .name) r) ⨾ enter (some N) (row 134 (p .name) (scope ∷ x ∷ y ∷ []))) st) e f)
         (then (F .does ty (e, f)) (rows-does G d′ (F .fit .1)))
 
+    -- any other: what is said of its TYPE, then its row
     pub typed-some : p .array ≡ false → Acts (ParamOf p) (λ q N D. typedParam (plain N D) scope line q) s r b d b′ d′
     unfolding typedParam
     typed-some e =
@@ -404,6 +425,7 @@ module _ (scope line : ℕ) (p : ParamAt) {s : Counts} {b d : List ℕ} where
 
 -- ---- the whole
 
+-- what is said before, its rows, its marks, its arrays, its typed parameters
 pub procedure-acts : (bytes ends : List ℕ) (scope : ℕ) {ws : List ℕ} {p : ProcAt} {s s1 s2 s3 s4 r : Counts} {b b1 b2 b3 b′ d d1 d′ : List ℕ}
     → Acts (ProcOf ws p) (λ f N D. beforeEntry (given (some N) (some D) bytes ends []) scope (p .line) f) s s1 b d b d1
     → Enters (ProcOf ws p) (λ f N D. withParams (plain N D) (p .line) f) s1 s2 b b1
@@ -436,6 +458,7 @@ any-erased : (bytes ends erased : List ℕ) (scope line : ℕ) (f : Proc) (N D :
 unfolding procedure resultType differs checkVariableLengthStrings paramString arrayParam ranked typedParam paramType undefined
 any-erased bytes ends erased scope line f N D st = refl
 
+-- so the statement is collected, whatever names are erased
 pub collects : {ns : List ℕ} {n : ℕ} {k : Kind} {ws bytes ends : List ℕ} (scope : ℕ) {at : ℕ} {p : ProcAt} {s r : Counts} {b d b′ d′ : List ℕ} → ProcIs ns n k ws at p
     → Acts (ProcOf ws p) (λ f N D. procedure (given (some N) (some D) bytes ends []) scope (p .line) f) s r b d b′ d′
     → (erased : List ℕ) → Collects ns n k ws bytes ends erased scope at s r b d b′ d′
@@ -455,16 +478,19 @@ collects {ns} {n} {k} {ws} {bytes} {ends} scope {at} {p} {s} {r} {b} {d} {b′} 
 -- ---- loops: one more parameter
 
 module _ (f : Param → Sized) {q : ParamAt} where
+  -- what is said of it after what is said of those before
   pub says-next : {s c r : Counts} {d d′ d″ : List ℕ} → c .rows ≡ s .rows → Says (ParamOf q) f c r d′ d″ → (done : List Param) (p : Param) → ParamOf q p
       → ((b : List ℕ) → s .rows * width ≤ length b → Does (λ N D. each (λ x. f x N D) done) s c b d b d′)
       → (b : List ℕ) → s .rows * width ≤ length b → Does (λ N D. each (λ x. f x N D) (done ++ (p ∷ []))) s r b d b d″
   says-next e F done p o G b k = each-next f done p (G b k) (F .does p o b (subst (λ (m : ℕ). m * width ≤ length b) (sym e) k))
 
+  -- its row after theirs
   pub enters-next : {s c r : Counts} {b b′ b″ : List ℕ} → c .notes ≡ s .notes → Enters (ParamOf q) f c r b′ b″ → (done : List Param) (p : Param) → ParamOf q p
       → ((d : List ℕ) → s .notes * noteWidth ≤ length d → Does (λ N D. each (λ x. f x N D) done) s c b d b′ d)
       → (d : List ℕ) → s .notes * noteWidth ≤ length d → Does (λ N D. each (λ x. f x N D) (done ++ (p ∷ []))) s r b d b″ d
   enters-next e F done p o G d k = each-next f done p (G d k) (F .does p o d (subst (λ (m : ℕ). m * noteWidth ≤ length d) (sym e) k))
 
+  -- both
   pub acts-next : {s c r : Counts} {b d b′ d′ b″ d″ : List ℕ} → Acts (ParamOf q) f c r b′ d′ b″ d″ → (done : List Param) (p : Param) → ParamOf q p
       → Does (λ N D. each (λ x. f x N D) done) s c b d b′ d′ → Does (λ N D. each (λ x. f x N D) (done ++ (p ∷ []))) s r b d b″ d″
   acts-next F done p o G = each-next f done p G (F .does p o)

@@ -48,9 +48,11 @@ apart-there {ws} {at} {end} w (x ∷ y ∷ xs) r q =
 
 -- ---- the loop over them
 
+-- before the first pair of words
 pub quiet-start : (ws : List ℕ) (from w : ℕ) → Quiet ws from (from + 1) w
 quiet-start ws from w i l h e k = absurd (omega arith)
 
+-- one more word that is no list right after the name
 pub quiet-next : (ws : List ℕ) {from i w : ℕ} → from < i → Quiet ws from i w → (getD ws (i - 1) 0 ≡ w → kindOf (getD ws i 0) ≡ 1 → ⊥) → Quiet ws from (i + 1) w
 quiet-next ws {from} {i} {w} h q new j l m e k = go (ltb (j + 1) i) refl
   where
@@ -282,6 +284,7 @@ module _ (name : ℕ) (ns : List ℕ) (n : ℕ) where
 
 -- ---- the body
 
+-- in such a body there is no use of the name
 pub quiet-none : {ws ns : List ℕ} {n at end : ℕ} (name : ℕ) (v : Tree Expr (one bodySort)) → Stands ws ns n at v end → Quiet ws at end (wordOf 2 name)
     → subscriptCount (λ x (e : Expr). inExpr x e) name v ≡ nothing
 quiet-none {ns = ns} {n} name v s q = tree-none name ns n v (record { right = s .valid; apart = apart-there (wordOf 2 name) (wordsT v) (s .wrote) q })

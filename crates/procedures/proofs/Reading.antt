@@ -41,6 +41,7 @@ flag-is w x e h = ap (λ (y : ℕ). eqb y 1) (ap payOf e ∙ pay-is 3 x h)
 
 -- ---- a parameter: three words, and its AS clause
 
+-- its parts, where the words have them
 pub record InParam (ws ns : List ℕ) (n at end : ℕ) (p : Param) : Type 0 where
   pub inside : at + 2 < length ws
   pub name : payOf (getD ws at 0) ≡ p .name
@@ -50,6 +51,7 @@ pub record InParam (ws ns : List ℕ) (n at end : ℕ) (p : Param) : Type 0 wher
   pub there : Stands ws ns n (at + 3) clause end
   pub type-is : optional asType clause ≡ p .ty
 
+-- what stands there, word by word
 pub in-param : {ws ns : List ℕ} {n at end : ℕ} (v : Tree Expr (row ParamRow)) → Stands ws ns n at v end → InParam ws ns n at end (param v)
 unfolding param isSet wordsT Right
 in-param {ws} {ns} {n} {at} {end} (cons (word x) (cons (word y) (cons (word z) (cons t done)))) s =
@@ -68,14 +70,17 @@ in-param {ws} {ns} {n} {at} {end} (cons (word x) (cons (word y) (cons (word z) (
     }
 
 module _ {ws : List ℕ} {at : ℕ} where
+  -- its three words are within the words
   pub param-inside : SomeTree (row ParamRow) ws at → at + 2 < length ws
   param-inside S = in-param (S .tree) (S .stands) .inside
 
+  -- its AS clause stands after them
   pub param-clause : SomeTree (row ParamRow) ws at → SomeTree (one (opt (TypeSort & nil))) ws (at + 3)
   param-clause S =
       let p = in-param (S .tree) (S .stands) in
       record { names = S .names; strings = S .strings; tree = p .clause; end = S .end; stands = p .there }
 
+  -- so the parameter is read from these words
   pub param-is : {byval array : Bool} {t : TypeAt} → byval ≡ eqb (payOf (getD ws (at + 1) 0)) 1 → array ≡ eqb (payOf (getD ws (at + 2) 0)) 1 → AsTypeIs ws (at + 3) t
       → ParamIs ws at (record { name = payOf (getD ws at 0); byval = byval; array = array; head = t .head; arg = t .arg; next = t .next })
   param-is {byval} {array} {t} e d T = record { is = by; name-small = omega arith; arg-small = T .small }
@@ -94,9 +99,11 @@ unfolding wordsT
 body-word (list rs) s = (omega (arith, s .wrote .span), s .wrote .inside)
 
 module _ {ws : List ℕ} {at end : ℕ} (S : SomeBody ws at end) where
+  -- a body ends after its place, within the words
   pub body-inside : (at < end) × (end ≤ length ws)
   body-inside = body-word (S .there .tree) (S .there .stands)
 
+  -- it is a list of statements
   pub body-tree : SomeTree (one bodySort) ws at
   body-tree = let B = S .there in record { names = B .names; strings = B .strings; tree = B .tree; end = end; stands = B .stands }
 
@@ -233,9 +240,11 @@ module _ {ws ns : List ℕ} {n at end : ℕ} (S : StmtTo ns n sub ws at end) whe
   here : InSub ws ns n at (S .stmt .end) (S .stmt .line) (S .stmt .fields)
   here = in-sub (S .stmt .line) (S .stmt .fields) (S .stmt .stands)
 
+  -- its line, its name and its count are within the words
   pub sub-inside : at + 2 < length ws
   sub-inside = here .inside
 
+  -- as many parameters stand after them
   pub sub-params : SomeParams ws (at + 3) (payOf (getD ws (at + 2) 0))
   sub-params =
       let h = here in
@@ -245,6 +254,7 @@ module _ {ws ns : List ℕ} {n at end : ℕ} (S : StmtTo ns n sub ws at end) whe
   pub last-flag : (1 ≤ end) × (end - 1 < length ws)
   last-flag = (omega (arith, here .last, S .ends), omega (arith, here .last, here .flag-inside, S .ends))
 
+  -- so the SUB is read: its body after the parameters, its flag last
   pub sub-is : {m : ℕ} → ((ps : List Param) (T : ParamsAt ws (at + 3) (payOf (getD ws (at + 2) 0)) ps) → m ≡ T .end) → (keeps : Bool) → keeps ≡ eqb (payOf (getD ws (end - 1) 0)) 1
       → ProcIs ns n sub ws at (record { line = payOf (getD ws at 0); name = payOf (getD ws (at + 1) 0); params = at + 3; count = payOf (getD ws (at + 2) 0); head = 0; arg = 0; body = m; past = end - 1; function = false; keeps = keeps; deffn = false })
   sub-is {m} past-params keeps q = record { shows = by; named = subst (λ (x : ℕ). eqb (getD ns x 0) 1 ≡ true) (sym (here .name-is)) (here .named) }
@@ -340,9 +350,11 @@ module _ {ws ns : List ℕ} {n at end : ℕ} (S : StmtTo ns n function ws at end
   found : InFunction ws ns n at (S .stmt .end) (S .stmt .line) (S .stmt .fields)
   found = in-function (S .stmt .line) (S .stmt .fields) (S .stmt .stands)
 
+  -- its line, its name and its count are within the words
   pub function-inside : at + 2 < length ws
   function-inside = found .inside
 
+  -- as many parameters stand after them
   pub function-params : SomeParams ws (at + 3) (payOf (getD ws (at + 2) 0))
   function-params =
       let h = found in
@@ -357,9 +369,11 @@ module _ {ws ns : List ℕ} {n at end : ℕ} (S : StmtTo ns n function ws at end
     clause-at : {end line : ℕ} {r : Tree Expr (row (sorts function))} (h : InFunction ws ns n at end line r) → Stands ws ns n m (h .clause) (h .next)
     clause-at h = subst (λ (x : ℕ). Stands ws ns n x (h .clause) (h .next)) (sym (params-end at past-params (h .counted) (h .params-there))) (h .clause-there)
 
+    -- its AS clause stands after the parameters
     pub function-clause : SomeTree (one (opt (TypeSort & nil))) ws m
     function-clause = record { names = ns; strings = n; tree = found .clause; end = found .next; stands = clause-at found }
 
+    -- so the FUNCTION is read: its body after the clause, its two flags last
     pub function-is : {t : TypeAt} → AsTypeIs ws m t → (keeps deffn : Bool) → keeps ≡ eqb (payOf (getD ws (end - 2) 0)) 1 → deffn ≡ eqb (payOf (getD ws (end - 1) 0)) 1
         → ProcIs ns n function ws at (record { line = payOf (getD ws at 0); name = payOf (getD ws (at + 1) 0); params = at + 3; count = payOf (getD ws (at + 2) 0); head = t .head; arg = t .arg; body = t .next; past = end - 2; function = true; keeps = keeps; deffn = deffn })
     function-is {t} T keeps deffn q d = record { shows = by; named = subst (λ (x : ℕ). eqb (getD ns x 0) 1 ≡ true) (sym (found .name-is)) (found .named) }
@@ -389,17 +403,21 @@ module _ {ws ns : List ℕ} {n at end : ℕ} (S : StmtTo ns n function ws at end
 
 -- ---- a name's number
 
+-- the number of a name is below 1,024
 pub name-below : {bytes ends ns : List ℕ} → Named bytes ends ns → length ends ≤ 1024 → (x : ℕ) → eqb (getD ns x 0) 1 ≡ true → x < 1024
 name-below {bytes} {ends} {ns} N h x e = omega (arith, marked-below ns x e, ap length (N .names), names-length bytes ends)
 
 -- ---- from what was read to what the code asks
 
+-- what was read of a statement is a procedure that stands there
 pub some-proc : {ns : List ℕ} {n : ℕ} {k : Kind} {ws : List ℕ} {at : ℕ} {r : ProcAt} → StmtAt ns n k ws at → ProcIs ns n k ws at r → SomeProc ws r
 some-proc S I = let h = I .shows (S .line) (S .fields) (S .end) (S .stands) in record { proc = h .proc; of = h .of }
 
 module _ {ws : List ℕ} {r : ProcAt} (P : SomeProc ws r) where
+  -- its body stands there
   pub proc-body : SomeBody ws (r .body) (r .past)
   proc-body = record { body = P .proc .body; there = P .of .body }
 
+  -- and its parameters
   pub proc-params : SomeParams ws (r .params) (r .count)
   proc-params = record { params = P .proc .params; there = P .of .params }

@@ -14,20 +14,24 @@ use Rattle.parts.specs.Turns.{Turn, turn-start, turn-some, turn-next, turn-end}
 use Rattle.procedures.specs.Post.{ParamOf, ParamIs, ParamsAt, SomeParams}
 use Rattle.procedures.specs.declared.ParamAt.{ParamAt}
 
+-- i of k parameters read
 pub record Walked (P : List Param → Type 0) (ws : List ℕ) (from k at i : ℕ) : Type 0 where
   pub turn : Turn param (λ ps. (length ps ≡ i) × P ps) ws from k at (k - i)
 
+-- none was read
 pub walk-start : (P : List Param → Type 0) (ws : List ℕ) (from k : ℕ) → P [] → Walked P ws from k from 0
 walk-start P ws from k p =
     let all : k ≡ k - 0 = omega arith in
     record { turn = subst (λ (m : ℕ). Turn param (λ ps. (length ps ≡ 0) × P ps) ws from k from m) all (turn-start (λ ps. (length ps ≡ 0) × P ps) (refl, p) ws from k) }
 
 module _ {P : List Param → Type 0} {ws : List ℕ} {from k at i : ℕ} (W : Walked P ws from k at i) where
+  -- the next parameter stands at the place
   pub walk-place : i < k → SomeParams ws from k → SomeTree (row ParamRow) ws at
   walk-place h S =
       let T = S .there in
       turn-some (W .turn) (omega arith) (record { names = T .names; strings = T .strings; tree = T .tree; end = T .end; stands = T .stands; counted = T .counted })
 
+  -- one more was read
   pub walk-next : {r : ParamAt} (Q : List Param → Type 0) → i < k → ParamIs ws at r
       → ((done : List Param) (p : Param) → length done ≡ i → ParamOf r p → P done → Q (done ++ (p ∷ []))) → Walked Q ws from k (r .next) (i + 1)
   walk-next {r} Q h I step =
@@ -40,8 +44,10 @@ module _ {P : List Param → Type 0} {ws : List ℕ} {from k at i : ℕ} (W : Wa
           let J = I .is ns n v end s in
           (J .1, λ done p. (length-append done (param v ∷ []) ∙ ap (λ (m : ℕ). m + 1) (p .0), step done (param v) (p .0) (J .0) (p .1)))
 
+  -- all were read: P holds of them
   pub walk-end : k ≤ i → (ps : List Param) → ParamsAt ws from k ps → P ps
   walk-end h ps T = subst P (T .are) (turn-end (W .turn) (omega arith) (T .names) (T .strings) (T .tree) (T .end) (T .stands) (T .counted) .1 .1)
 
+  -- and the place is past them
   pub walk-at : k ≤ i → (ps : List Param) (T : ParamsAt ws from k ps) → at ≡ T .end
   walk-at h ps T = turn-end (W .turn) (omega arith) (T .names) (T .strings) (T .tree) (T .end) (T .stands) (T .counted) .0

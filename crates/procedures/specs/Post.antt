@@ -59,6 +59,7 @@ pub record ParamsAt (ws : List ℕ) (from k : ℕ) (ps : List Param) : Type 0 wh
   pub counted : count tree ≡ k
   pub are : rowsOf param tree ≡ ps
 
+-- some parameters stand there
 pub record SomeParams (ws : List ℕ) (from k : ℕ) : Type 0 where
   pub params : List Param
   pub there : ParamsAt ws from k params
@@ -71,6 +72,7 @@ pub record BodyAt (ws : List ℕ) (at end : ℕ) (b : Tree Seen (one bodySort)) 
   pub stands : Stands ws names strings at tree end
   pub is : over see tree ≡ b
 
+-- some body does
 pub record SomeBody (ws : List ℕ) (at end : ℕ) : Type 0 where
   pub body : Tree Seen (one bodySort)
   pub there : BodyAt ws at end body
@@ -90,6 +92,7 @@ pub record ProcOf (ws : List ℕ) (r : ProcAt) (f : Proc) : Type 0 where
   pub static : r .keeps ≡ f .is-static
   pub def-fn : r .deffn ≡ f .def-fn
 
+-- some procedure is as the code read it
 pub record SomeProc (ws : List ℕ) (r : ProcAt) : Type 0 where
   pub proc : Proc
   pub of : ProcOf ws r proc
@@ -101,6 +104,7 @@ pub record Shown (ws : List ℕ) (k : Kind) (r : ProcAt) (line : ℕ) (fields : 
   pub of : ProcOf ws r proc
   pub line-is : r .line ≡ line
 
+-- what the code read is so of whatever statement stands there, and its name is a name's
 pub record ProcIs (ns : List ℕ) (n : ℕ) (k : Kind) (ws : List ℕ) (at : ℕ) (r : ProcAt) : Type 0 where
   pub shows : (line : ℕ) (fields : Tree Expr (row (sorts k))) (end : ℕ) → Stands ws ns n at (Stmt k line fields) end → Shown ws k r line fields
   pub named : eqb (getD ns (r .name) 0) 1 ≡ true

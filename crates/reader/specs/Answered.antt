@@ -19,18 +19,21 @@ upTo (Read c) = c .at
 upTo (Wrong p) = p
 upTo (Deep p) = p
 
+-- the code read up to a place: so did the definition, and its tree is there
 pub answer-read : {A : Type 0} (g : Got A) {s : Step} {c : Cursor} → s ≡ stepOf g → s ≡ Read c → ReadTo g (c .at)
 unfolding stepOf upTo
 answer-read (got a k) {c = c} e q = let z : k ≡ c .at = ap upTo (sym e ∙ q) in record { tree = a; is = ap (got a) z }
 answer-read (wrong p) e q = let z : _≡_ {A = ℕ} 0 1 = cc in absurd (omega arith)
 answer-read (deep p) e q = let z : _≡_ {A = ℕ} 0 1 = cc in absurd (omega arith)
 
+-- a wrong word at p: the definition says the same
 pub answer-wrong : {A : Type 0} (g : Got A) {s : Step} {p : ℕ} → s ≡ stepOf g → s ≡ Wrong p → g ≡ wrong p
 unfolding stepOf
 answer-wrong (got a k) e q = let z : _≡_ {A = ℕ} 0 1 = cc in absurd (omega arith)
 answer-wrong (wrong p) e q = ap wrong (cc)
 answer-wrong (deep p) e q = let z : _≡_ {A = ℕ} 0 1 = cc in absurd (omega arith)
 
+-- too deep at p: the definition says the same
 pub answer-deep : {A : Type 0} (g : Got A) {s : Step} {p : ℕ} → s ≡ stepOf g → s ≡ Deep p → g ≡ deep p
 unfolding stepOf
 answer-deep (got a k) e q = let z : _≡_ {A = ℕ} 0 1 = cc in absurd (omega arith)

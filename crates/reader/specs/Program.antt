@@ -28,6 +28,7 @@ unfoldable pub erasedFrom : List ℕ → ℕ → List ℕ → Bool
 erasedFrom ns low [] = true
 erasedFrom ns low (e ∷ es) = leb low e && (eqb (getD ns e 0) 1 && erasedFrom ns (e + 1) es)
 
+-- the program that all the words are; number 2 or 3 where they are none
 unfoldable pub programOf : List ℕ → List ℕ → Told Program
 unfolding wholeOf
 programOf ns ws = wholeOf ws (programAt ws ns (length ns))

@@ -32,6 +32,7 @@ unfoldable pub statementOf : List ℕ → List ℕ → ℕ → Told Node
 unfolding nodeOf
 statementOf ns ws at = nodeOf ws at (stmtAt ws ns (length ns) maxDepth at)
 
+-- the same for an expression
 unfoldable pub expressionOf : List ℕ → List ℕ → ℕ → Told Node
 unfolding nodeOf
 expressionOf ns ws at = nodeOf ws at (exprAt ws (strings ns (length ns)) maxDepth at)

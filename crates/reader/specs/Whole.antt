@@ -16,10 +16,12 @@ use Rattle.tree.specs.Reader.{programAt}
 use Rattle.tree.proofs.Sound.{program-sound}
 use Rattle.reader.specs.Program.{wholeOf, erasedFrom, programOf, acceptedOf}
 
+-- the program stands from the first word to the last, at most 100 deep
 pub record Whole (ws ns : List ℕ) (n : ℕ) (p : Program) : Type 0 where
   pub stands : Stands ws ns n 0 p (length ws)
   pub shallow : depthT p ≤ 100
 
+-- a call that stops gives nothing
 pub stops-gives : {A : Type 0} {n p : ℕ} {a : A} → stops n p ≡ gives a → ⊥
 stops-gives e = let z : _≡_ {A = ℕ} 0 1 = cc in omega arith
 
@@ -33,6 +35,7 @@ whole-gives ws (got a m) {p} e = go (eqb m (length ws)) refl e
 whole-gives ws (wrong p) e = absurd (stops-gives e)
 whole-gives ws (deep p) e = absurd (stops-gives e)
 
+-- a program that was read stands from the first word to the last, no deeper than 100
 pub program-whole : (ns ws : List ℕ) (p : Program) → programOf ns ws ≡ gives p → Whole ws ns (length ns) p
 unfolding programOf
 program-whole ns ws p e =
@@ -45,6 +48,7 @@ erased-gives (stops n m) b e = absurd (stops-gives e)
 erased-gives (gives q) true e = e
 erased-gives (gives q) false e = absurd (stops-gives e)
 
+-- so does one that was accepted with its erased names
 pub accepted-whole : (ns ws erased : List ℕ) (p : Program) → acceptedOf ns ws erased ≡ gives p → Whole ws ns (length ns) p
 unfolding acceptedOf
 accepted-whole ns ws erased p e = program-whole ns ws p (erased-gives (programOf ns ws) (erasedFrom ns 0 erased) e)

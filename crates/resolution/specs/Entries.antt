@@ -37,6 +37,7 @@ pub record Written : Type 0 where
   pub words′ : List ℕ
   pub end : ℕ
 
+-- what was read, or number 2 or 3 with its place
 unfoldable pub takenOf : {A : Type 0} → Got A → Told (Taken A)
 takenOf (got a m) = gives (record { tree = a; end = m })
 takenOf (wrong p) = stops 2 p
@@ -46,6 +47,7 @@ takenOf (deep p) = stops 3 p
 unfoldable pub ruling : (names rows : List ℕ) (right : Bool) (size room : ℕ) → Told (List Row)
 ruling names rows right size room = after (lentRows names rows) (λ (rs : List Row). unless right 11 0 (unless (leb size room) 10 0 (gives rs)))
 
+-- what was read, written anew by f under the rows that passed
 unfoldable pub rewritten : {A : Type 0} → (names rows : List ℕ) (right : Bool) (at room : ℕ) → (Tables → A → List ℕ) → Taken A → Told Written
 unfolding ruling
 rewritten names rows right at room f x = after (ruling names rows right (x .end - at) room) (λ (rs : List Row). gives (record { words′ = f (tablesOf rs) (x .tree); end = x .end }))
@@ -79,6 +81,7 @@ unfoldable pub told : Resolution → Told Reached
 told (Wrote r) = gives r
 told (Refused f) = refused f
 
+-- the same of what the definition tells
 unfoldable pub counted : Told Written → Told Reached
 counted (stops n p) = stops n p
 counted (gives w) = gives (record { end = w .end; count = length (w .words′) })

@@ -19,6 +19,7 @@ pub record Passed (names rows : List ℕ) (right : Bool) (size room n : ℕ) : T
   pub admitted : right ≡ true
   pub roomy : size ≤ room
 
+-- the refusal is the definition's, or these rows passed
 abbrev pub Ruled : (names rows : List ℕ) (right : Bool) (size room : ℕ) → Opened → Type 0
 Ruled names rows right size room (Shut f) = ruling names rows right size room ≡ refused f
 Ruled names rows right size room (Table n) = Passed names rows right size room n

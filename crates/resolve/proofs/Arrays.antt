@@ -51,6 +51,7 @@ module _ {rows : List Row} {n : ℕ} {buf : List ℕ} (H : Holds rows n buf) (f 
   key-there : p < n → getD buf (p * width) 0 * 4294967296 + getD buf (p * width + 1) 0 ≡ key (getD rows (rank (entryKey 133 f 0) rows) [])
   key-there l = key-of-row (H .filled) p l ∙ ap (λ (i : ℕ). key (getD rows i [])) e
 
+  -- the row is an array of the name: its scope
   pub first-there : p < n → getD buf (p * width) 0 ≡ wordOf 133 f → FirstScope rows f (getD buf (p * width + 1) 0)
   first-there l w =
       let s : ℕ = getD buf (p * width + 1) 0 in
@@ -73,6 +74,7 @@ module _ {rows : List Row} {n : ℕ} {buf : List ℕ} (H : Holds rows n buf) (f 
         there = λ h. absurd (omega (arith, h));
       }
 
+  -- past the last row there is none
   pub first-end : n ≤ p → FirstScope rows f 4294967295
   first-end l = record {
     below = λ σ h. ap hasRow (miss rows (H .table) (entryKey 133 f 0) (entryKey 133 f σ) (omega arith) (λ m. absurd (omega (arith, m, l, e, H .filled .count))));

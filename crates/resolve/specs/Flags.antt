@@ -9,11 +9,13 @@ use Rattle.tree.specs.Tree.{Shape, Tree, word, value, Stmt, list, part, this, t
 use Rattle.resolve.specs.Tables.{Tables, Places, nowhere, places, after, element}
 use Rattle.resolve.specs.Resolve.{passed, called, resolveExpr, resolveArgs, first, inside, argued, resolveTree}
 
+-- what stood in parentheses: a whole argument by reference keeps one pair, any other keeps none
 unfoldable pub keep : Bool → Expr → Expr
 keep true e = Paren e
 keep false e = e
 
 unfoldable mutual
+  -- an expression resolved, by its flag
   pub resE : Tables → ℕ → Bool → Expr → Expr
   resE T σ k (Lit l) = Lit l
   resE T σ k (Var n) = Var n
@@ -24,6 +26,7 @@ unfoldable mutual
   resE T σ k (Field e n) = Field (resE T σ false e) n
   resE T σ k (Paren e) = keep k (resE T σ false e)
 
+  -- a list resolved: m tells each member's flag by its position
   pub resL : Tables → ℕ → Places → Exprs → Exprs
   resL T σ m none = none
   resL T σ m (more e es) = more (resE T σ (m 0) e) (resL T σ (after m) es)
@@ -48,6 +51,7 @@ keep-is false e = refl
 mutual
   unfolding resE resL resolveExpr resolveArgs passed
 
+  -- an expression: what the first shape makes of it, with the pair that an argument by reference keeps
   pub resE-is : (T : Tables) (σ : ℕ) (k : Bool) (e : Expr) → resE T σ k e ≡ passed k e (resolveExpr T σ e)
   resE-is T σ k (Lit l) = refl
   resE-is T σ k (Var n) = refl
@@ -58,13 +62,16 @@ mutual
   resE-is T σ k (Field e n) = ap (λ x. Field x n) (resE-is T σ false e ∙ passed-false e (resolveExpr T σ e))
   resE-is T σ k (Paren e) = ap (keep k) (resE-is T σ false e ∙ passed-false e (resolveExpr T σ e)) ∙ keep-is k (resolveExpr T σ e)
 
+  -- a list: what the first shape makes of it
   pub resL-is : (T : Tables) (σ : ℕ) (m : Places) (es : Exprs) → resL T σ m es ≡ resolveArgs T σ m es
   resL-is T σ m none = refl
   resL-is T σ m (more e es) = ap₂ more (resE-is T σ (m 0) e) (resL-is T σ (after m) es)
 
+-- an expression that is no argument by reference
 pub resE-plain : (T : Tables) (σ : ℕ) (e : Expr) → resE T σ false e ≡ resolveExpr T σ e
 resE-plain T σ e = resE-is T σ false e ∙ passed-false e (resolveExpr T σ e)
 
+-- a tree of any shape resolved
 unfoldable pub res : Tables → ℕ → Places → {i : Shape} → Tree Expr i → Tree Expr i
 res T σ m (word x) = word x
 res T σ m (value e) = value (resE T σ (m 0) e)
@@ -78,6 +85,7 @@ res T σ m (cons v r) = cons (res T σ m v) (res T σ m r)
 res T σ m nothing = nothing
 res T σ m (add r rs) = add (res T σ m r) (res T σ (after m) rs)
 
+-- a tree: what the first shape makes of it
 pub res-is : (T : Tables) (σ : ℕ) (m : Places) {i : Shape} (v : Tree Expr i) → res T σ m v ≡ resolveTree T σ m v
 unfolding res resolveTree
 res-is T σ m (word x) = refl

@@ -15,16 +15,19 @@ use Rattle.resolve.specs.Flags.{keep, resE, resL, res, resE-plain, resL-
 
 -- ---- counts
 
+-- a list of expressions keeps its count
 pub many-res : (T : Tables) (σ : ℕ) (m : Places) (es : Exprs) → many (resL T σ m es) ≡ many es
 unfolding many resL
 many-res T σ m none = refl
 many-res T σ m (more e es) = ap (λ (n : ℕ). n + 1) (many-res T σ (after m) es)
 
+-- so does a list of rows
 pub count-res : (T : Tables) (σ : ℕ) (m : Places) {ss : Sorts} (rs : Tree Expr (rows ss)) → count (res T σ m rs) ≡ count rs
 unfolding count res
 count-res T σ m nothing = refl
 count-res T σ m (add r rs) = ap (λ (n : ℕ). n + 1) (count-res T σ (after m) rs)
 
+-- the same in the first shape
 pub count-tree : (T : Tables) (σ : ℕ) (m : Places) {ss : Sorts} (rs : Tree Expr (rows ss)) → count (resolveTree T σ m rs) ≡ count rs
 count-tree T σ m rs = ap count (sym (res-is T σ m rs)) ∙ count-res T σ m rs
 
@@ -71,12 +74,15 @@ len-res T σ m (cons v r) = simp length-append (omega (arith, len-res T σ m v, 
 len-res T σ m nothing = omega arith
 len-res T σ m (add r rs) = simp length-append (omega (arith, len-res T σ m r, len-res T σ (after m) rs))
 
+-- an expression has no more words than before
 pub shorter : (T : Tables) (σ : ℕ) (e : Expr) → length (words (resolveExpr T σ e)) ≤ length (words e)
 shorter T σ e = subst (λ (d : Expr). length (words d) ≤ length (words e)) (resE-plain T σ e) (len-resE T σ false e)
 
+-- nor has a list
 pub shorter-args : (T : Tables) (σ : ℕ) (m : Places) (es : Exprs) → length (wordsAll (resolveArgs T σ m es)) ≤ length (wordsAll es)
 shorter-args T σ m es = subst (λ (ds : Exprs). length (wordsAll ds) ≤ length (wordsAll es)) (resL-is T σ m es) (len-resL T σ m es)
 
+-- nor has a tree
 pub shorter-tree : (T : Tables) (σ : ℕ) (m : Places) {i : Shape} (v : Tree Expr i) → length (wordsT (resolveTree T σ m v)) ≤ length (wordsT v)
 shorter-tree T σ m {i} v = subst (λ (u : Tree Expr i). length (wordsT u) ≤ length (wordsT v)) (res-is T σ m v) (len-res T σ m v)
 
@@ -123,6 +129,7 @@ right-res ns n T σ m (cons v t) r = (right-res ns n T σ m v (r .0), right-res 
 right-res ns n T σ m nothing r = r
 right-res ns n T σ m (add t ts) r = (right-res ns n T σ m t (r .0), right-res ns n T σ (after m) ts (r .1))
 
+-- a right tree stays right
 pub right-tree : (ns : List ℕ) (n : ℕ) (T : Tables) (σ : ℕ) (m : Places) {i : Shape} (v : Tree Expr i) → Right ns n v → Right ns n (resolveTree T σ m v)
 right-tree ns n T σ m {i} v r = subst (λ (u : Tree Expr i). Right ns n u) (res-is T σ m v) (right-res ns n T σ m v r)
 
@@ -169,5 +176,6 @@ deep-res T σ m (cons v r) = omega (arith, deep-res T σ m v, deep-res T σ m r)
 deep-res T σ m nothing = omega arith
 deep-res T σ m (add r rs) = omega (arith, deep-res T σ m r, deep-res T σ (after m) rs)
 
+-- a tree is no deeper than before
 pub deep-tree : (T : Tables) (σ : ℕ) (m : Places) {i : Shape} (v : Tree Expr i) → depthT (resolveTree T σ m v) ≤ depthT v
 deep-tree T σ m {i} v = subst (λ (u : Tree Expr i). depthT u ≤ depthT v) (res-is T σ m v) (deep-res T σ m v)

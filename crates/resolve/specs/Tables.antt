@@ -3,6 +3,7 @@
 use Prim.Native.Nat.{ℕ, suc}
 use mathlib.Core.Bool.{Bool, true, false, _&&_, not}
 
+-- what is asked of the rows
 pub record Tables : Type 0 where
   -- a procedure of that name is known
   pub procedure : ℕ → Bool

@@ -28,6 +28,7 @@ use Rattle.resolver.proofs.Lists.{Part, Walked, part-start, part-next, 
 
 -- ---- one member of a list after another
 
+-- none is resolved
 pub list-start : (m : Tables → Places) (k : ℕ) (ws buf out : List ℕ) (count scope at to : ℕ) → Walked m k ws buf out count scope at to at to 0 out
 list-start m k ws buf out count scope at to = record { gives = λ rows H n es end s q. part-start (tablesOf rows) scope (m (tablesOf rows)) to out s }
 
@@ -43,6 +44,7 @@ module _ {m : Tables → Places} {k : ℕ} {ws buf out : List ℕ} {count scope 
   own : Part (tablesOf (r .room .rows)) scope (m (tablesOf (r .room .rows))) ws (r .strings) (r .trees) at (r .end) to out a t i now
   own = w .gives (r .room .rows) (r .room .holds) (r .strings) (r .trees) (r .end) (r .stands) (r .counted)
 
+  -- the next one stands at a, within the words, and has room
   pub here : i < k → Here ws at size a t
   here h =
       let N = part-next own (omega (arith, r .counted)) in
@@ -86,14 +88,17 @@ ready-plain {ws = ws} {buf} {count = count} {scope} {size′ = size′} {a} {t} 
     let x = ready-next r w z (unpaired i ws buf now count a t) q in
     rw (add-zero a, add-zero t) at x
 
+-- the next one that is no argument resolved
 pub plain-step : {k : ℕ} {ws buf out : List ℕ} {count scope at to a t i : ℕ} {now last : List ℕ} {a′ t′ : ℕ} → Walked (λ T. nowhere) k ws buf out count scope at to a t i now → i < k → Resolved ws buf now last count scope a t a′ t′ → Walked (λ T. nowhere) k ws buf out count scope at to a′ t′ (i + 1) last
 plain-step {ws = ws} {buf} {count = count} {a = a} {t} {i} {now} w z d = list-step w z (unpaired i ws buf now count a t) (rw (add-zero a, add-zero t) d)
 
+-- all are resolved
 pub args-done : {f k : ℕ} {ws buf out : List ℕ} {count scope at to a t i : ℕ} {now : List ℕ} → Walked (λ T. places T f) k ws buf out count scope at to a t i now → k ≤ i → ResolvedArgs f k ws buf out now count scope at to a t
 args-done w h = record { gives = λ rows H n es end s q. part-end (w .gives rows H n es end s q) (omega (arith, q)) }
 
 -- ---- a pair that goes
 
+-- what stands in it may be resolved, at the same place of the output
 pub ready-pair : {ws buf : List ℕ} {count scope at to size size′ : ℕ} → Ready ws buf count scope at to size → kindOf (getD ws at 0) ≡ 23 → size′ ≡ size → Ready ws buf count scope (at + 1) to size′
 ready-pair r q z =
     let P = in-pair q (r .some .stands) in
@@ -102,6 +107,7 @@ ready-pair r q z =
       room = record { rows = r .room .rows; holds = r .room .holds; held = r .room .held; scoped = r .room .scoped; behind = omega (arith, r .room .behind); fits = omega (arith, r .room .fits) };
     }
 
+-- and that is the whole
 pub pair-done : {ws buf out last : List ℕ} {count scope at to a t : ℕ} → kindOf (getD ws at 0) ≡ 23 → Resolved ws buf out last count scope (at + 1) to a t → Resolved ws buf out last count scope at to a t
 pair-done {ws} {buf} {out} {last} {count} {scope} q d = record {
   gives = λ rows H n e end s.
@@ -111,6 +117,7 @@ pair-done {ws} {buf} {out} {last} {count} {scope} q d = record {
 
 -- ---- a call
 
+-- its arguments may be resolved, after its first three words
 pub ready-call : {ws buf : List ℕ} {count scope at to size size′ : ℕ} → Ready ws buf count scope at to size → kindOf (getD ws at 0) ≡ 21 → size′ ≡ size → ReadyAll ws buf count scope (at + 3) (to + 3) size′ (payOf (getD ws (at + 2) 0))
 ready-call r q z =
     let C = in-call q (r .some .stands) in
@@ -123,12 +130,14 @@ ready-call r q z =
       room = record { rows = r .room .rows; holds = r .room .holds; held = r .room .held; scoped = r .room .scoped; behind = omega (arith, r .room .behind); fits = omega (arith, r .room .fits) };
     }
 
+-- for these there is room
 pub call-room : {ws buf : List ℕ} {count scope at to size : ℕ} → Ready ws buf count scope at to size → kindOf (getD ws at 0) ≡ 21 → (at + 3 ≤ length ws) × (to + 3 ≤ size)
 call-room {ws} {at = at} r q =
     let s = in-call q (r .some .stands) .there in
     let l : at + 3 ≤ length ws = omega (arith, s .wrote .span, s .wrote .inside) in
     (l, omega (arith, r .room .behind, r .room .fits))
 
+-- its head by the rows, its name and list's head copied, its arguments resolved: the call is
 pub call-done : {ws buf out mid last : List ℕ} {count scope at to a t h : ℕ} → kindOf (getD ws at 0) ≡ 21 → ((rows : List Row) → Holds rows count buf → h ≡ wordOf (pick (element (tablesOf rows) scope (payOf (getD ws (at + 1) 0))) 18 21) 0) → mid ≡ sets out to (h ∷ getD ws (at + 1) 0 ∷ getD ws (at + 2) 0 ∷ []) → ResolvedArgs (payOf (getD ws (at + 1) 0)) (payOf (getD ws (at + 2) 0)) ws buf mid last count scope (at + 3) (to + 3) a t → Resolved ws buf out last count scope at to a t
 call-done {ws} {buf} {out} {mid} {last} {count} {scope} {at} {to} {a} {t} {h} q hh b d = record { gives = λ rows H n e end s. go rows H n e end s }
   where
@@ -158,6 +167,7 @@ pub some-expr : {ws : List ℕ} {at : ℕ} → Some ws at → SomeExpr ws at
 some-expr s = record { strings = s .strings; expr = s .tree; end = s .end; stands = s .stands }
 
 module _ {ws buf : List ℕ} {count scope at to size : ℕ} {f : Shape} (r : Ready ws buf count scope at to size) (g : ShapedAt ws at f) where
+  -- the shape that the code found is the expression's
   pub shape : Shaped (r .some .tree) f
   shape = g (r .some .strings) (r .some .tree) (r .some .end) (r .some .stands)
 
@@ -165,12 +175,14 @@ module _ {ws buf : List ℕ} {count scope at to size : ℕ} {f : Shape} (r : Rea
   pub beyond : 0 < f .front
   beyond = front-some (some-expr (r .some)) g
 
+  -- for the words before its children there is room
   pub front-room : (at + f .front ≤ length ws) × (to + f .front ≤ size)
   front-room =
       let l = simp length-append at (ap length (node (r .some .tree))) in
       let x : at + f .front ≤ length ws = omega (arith, before shape, r .some .stands .wrote .span, r .some .stands .wrote .inside) in
       (x, omega (arith, r .room .behind, r .room .fits))
 
+  -- its children may be resolved after them
   unfoldable pub ready-kids : {size′ a t : ℕ} → size′ ≡ size → a ≡ at + f .front → t ≡ to + f .front → ReadyAll ws buf count scope a t size′ (f .children)
   ready-kids q x y =
       let I = inside (r .some .stands) in
@@ -184,6 +196,7 @@ module _ {ws buf : List ℕ} {count scope at to size : ℕ} {f : Shape} (r : Rea
         room = record { rows = r .room .rows; holds = r .room .holds; held = r .room .held; scoped = r .room .scoped; behind = omega (arith, r .room .behind); fits = omega (arith, r .room .fits) };
       }
 
+  -- for the words after them there is room
   pub back-room : {one now : List ℕ} {size′ a₀ t₀ a t i : ℕ} → size′ ≡ size → a₀ ≡ at + f .front → t₀ ≡ to + f .front → Walked (λ T. nowhere) (f .children) ws buf one count scope a₀ t₀ a t i now → f .children ≤ i → (a + f .back ≤ length ws) × (t + f .back ≤ size′)
   unfolding ready-kids
   back-room {one} {now} {size′} {a₀} {t₀} {a} {t} {i} q x y w e =
@@ -207,6 +220,7 @@ back-words {ws} {at} {xs} {end} {z} w q = ap (λ (l : List ℕ). take z l) (w .i
 abbrev pub Copied : (ws out last : List ℕ) (at to n at′ to′ : ℕ) → Type 0
 Copied ws out last at to n at′ to′ = (at′ ≡ at + n) × (to′ ≡ to + n) × (last ≡ sets out to (take n (drop at ws)))
 
+-- the words around its children copied, and the children resolved: the node is
 pub node-done : {ws buf out one now last : List ℕ} {count scope at to a₀ t₀ a t a′ t′ i : ℕ} {f : Shape} → (kindOf (getD ws at 0) ≡ 21 → ⊥) → (kindOf (getD ws at 0) ≡ 23 → ⊥) → ShapedAt ws at f → Copied ws out one at to (f .front) a₀ t₀ → Walked (λ T. nowhere) (f .children) ws buf one count scope a₀ t₀ a t i now → f .children ≤ i → Copied ws now last a t (f .back) a′ t′ → Resolved ws buf out last count scope at to a′ t′
 node-done {ws} {buf} {out} {one} {now} {last} {count} {scope} {at} {to} {a₀} {t₀} {a} {t} {a′} {t′} {i} {f} nc np g b w e c = record { gives = λ rows H n x end s. go rows H n x end s }
   where

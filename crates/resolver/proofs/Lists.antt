@@ -51,6 +51,7 @@ pub record Part (T : Tables) (σ : ℕ) (m : Places) (ws : List ℕ) (n : String
 pub record Walked (m : Tables → Places) (k : ℕ) (ws buf out : List ℕ) (count scope at to a t i : ℕ) (now : List ℕ) : Type 0 where
   pub gives : (rows : List Row) → Holds rows count buf → (n : Strings) (es : Exprs) (end : ℕ) → StandsAll ws n at es end → many es ≡ k → Part (tablesOf rows) scope (m (tablesOf rows)) ws n es at end to out a t i now
 
+-- none is resolved, and all are left
 pub part-start : (T : Tables) (σ : ℕ) (m : Places) {ws : List ℕ} {n : Strings} {es : Exprs} {at end : ℕ} (to : ℕ) (out : List ℕ) → StandsAll ws n at es end → Part T σ m ws n es at end to out at to 0 out
 part-start T σ m {ws} {n} {es} {at} {end} to out s = record { left = es; there = s; few = add-zero (many es); wrote = []; upto = sym (add-zero to); short = omega arith; is = refl; rest = ap (λ (p : Places). wordsAll (resolveArgs T σ p es)) (sym (onward-all m)) }
 
@@ -63,12 +64,14 @@ pub record Next (ws : List ℕ) (n : Strings) (a : ℕ) (es : Exprs) (end : ℕ)
   pub next : StandsAll ws n mid tail end
   pub is : es ≡ more head tail
 
+-- a list that isn't empty has a first member
 pub next : {ws : List ℕ} {n : Strings} {a : ℕ} {es : Exprs} {end : ℕ} → 0 < many es → StandsAll ws n a es end → Next ws n a es end
 unfolding many wordsAll Valids
 next {es = none} h s = absurd (omega arith)
 next {es = more e es} h s = record { head = e; mid = _; tail = es; there = record { wrote = wrote-left (words e) (wordsAll es) (s .wrote); valid = s .valid .0 }; next = record { wrote = wrote-right (words e) (s .wrote); valid = s .valid .1 }; is = refl }
 
 module _ {T : Tables} {σ : ℕ} {m : Places} {ws : List ℕ} {n : Strings} {es : Exprs} {at end to : ℕ} {out : List ℕ} {a t i : ℕ} {now : List ℕ} (p : Part T σ m ws n es at end to out a t i now) where
+  -- where some are left, there is a next one
   pub part-next : i < many es → Next ws n a (p .left) end
   part-next h = next (omega (arith, p .few)) (p .there)
 

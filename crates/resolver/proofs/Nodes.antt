@@ -33,6 +33,7 @@ pub record Inside (ws : List ℕ) (n : Strings) (at : ℕ) (e : Expr) (end : ℕ
   pub there : StandsAll ws n (at + length (front e)) (children e) mid
   pub behind : Wrote ws mid (back e) end
 
+-- so it is of an expression that stands there
 pub inside : {ws : List ℕ} {n : Strings} {at : ℕ} {e : Expr} {end : ℕ} → Stands ws n at e end → Inside ws n at e end
 inside {ws} {n} {at} {e} {end} s =
     let w : Wrote ws at (front e ++ (wordsAll (children e) ++ back e)) end = rw (node e) at (s .wrote) in
@@ -62,17 +63,21 @@ back-long (Call x es) = refl
 back-long (Field e x) = refl
 back-long (Paren e) = refl
 
+-- how many words stand before the children
 pub before : {e : Expr} {s : Shape} → Shaped e s → s .front ≡ length (front e)
 before {e} h = h .front-is ∙ front-long e
 
+-- how many after them
 pub after : {e : Expr} {s : Shape} → Shaped e s → s .back ≡ length (back e)
 after {e} h = h .back-is ∙ back-long e
 
+-- it ends after its place, within the words
 pub moves : {ws : List ℕ} {n : Strings} {at : ℕ} {e : Expr} {end : ℕ} → Stands ws n at e end → (at < end) × (end ≤ length ws)
 moves s = let w = within s in (w .moves, w .inside)
 
 -- ---- a call, and a pair
 
+-- a call: its name, its list's head, and its arguments
 pub record InCall (ws : List ℕ) (n : Strings) (at : ℕ) (e : Expr) (end : ℕ) : Type 0 where
   pub name : ℕ
   pub args : Exprs
@@ -83,6 +88,7 @@ pub record InCall (ws : List ℕ) (n : Strings) (at : ℕ) (e : Expr) (end : ℕ
   pub few : many args < 16777216
   pub there : StandsAll ws n (at + 3) args end
 
+-- 21: a name, a list's head, and the arguments
 pub in-call : {ws : List ℕ} {n : Strings} {at : ℕ} {e : Expr} {end : ℕ} → kindOf (getD ws at 0) ≡ 21 → Stands ws n at e end → InCall ws n at e end
 unfolding words Valid kindE
 in-call {ws} {n} {at} {e} {end} q s = go e (sym (kind-of s) ∙ q) (s .wrote) (s .valid)
@@ -103,11 +109,13 @@ in-call {ws} {n} {at} {e} {end} q s = go e (sym (kind-of s) ∙ q) (s .wrote) (s
     go (Field e x) k w v = absurd (omega (arith, k))
     go (Paren e) k w v = absurd (omega (arith, k))
 
+-- a pair: the expression in it
 pub record InPair (ws : List ℕ) (n : Strings) (at : ℕ) (e : Expr) (end : ℕ) : Type 0 where
   pub arg : Expr
   pub is : e ≡ Paren arg
   pub there : Stands ws n (at + 1) arg end
 
+-- 23: an expression in parentheses
 pub in-pair : {ws : List ℕ} {n : Strings} {at : ℕ} {e : Expr} {end : ℕ} → kindOf (getD ws at 0) ≡ 23 → Stands ws n at e end → InPair ws n at e end
 unfolding words Valid kindE
 in-pair {ws} {n} {at} {e} {end} q s = go e (sym (kind-of s) ∙ q) (s .wrote) (s .valid)

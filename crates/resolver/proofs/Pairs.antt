@@ -27,14 +27,17 @@ no-pair k (Field e x) q = refl
 no-pair k (Paren e) q = absurd (q refl)
 
 module _ (f i : ℕ) (ws buf out : List ℕ) (count at to : ℕ) where
+  -- a pair around an argument by reference stays
   pub kept : kindOf (getD ws at 0) ≡ 23 → ((rs : List Row) → Holds rs count buf → true ≡ places (tablesOf rs) f i) → Paired (λ T. places T f i) ws buf out (set out to (wordOf 23 0)) count at to 1
   unfolding pairOf
   kept q h = record { gives = λ rs H n e end s. rw (in-pair q s .is, sym (h rs H)) (refl, refl) }
 
+  -- around any other it goes
   pub dropped : kindOf (getD ws at 0) ≡ 23 → ((rs : List Row) → Holds rs count buf → false ≡ places (tablesOf rs) f i) → Paired (λ T. places T f i) ws buf out out count at to 0
   unfolding pairOf
   dropped q h = record { gives = λ rs H n e end s. rw (in-pair q s .is, sym (h rs H)) (refl, refl) }
 
+  -- where there is none, none is kept
   pub none : (kindOf (getD ws at 0) ≡ 23 → ⊥) → Paired (λ T. places T f i) ws buf out out count at to 0
   none q = record { gives = λ rs H n e end s. rw (no-pair (places (tablesOf rs) f i) e (λ z. q (kind-of s ∙ z))) (refl, refl) }
 

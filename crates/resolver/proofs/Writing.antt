@@ -66,6 +66,7 @@ unfolding called words
 called-words true f es = refl
 called-words false f es = refl
 
+-- a list keeps its count
 pub many-args : (T : Tables) (σ : ℕ) (m : Places) (es : Exprs) → many (resolveArgs T σ m es) ≡ many es
 unfolding many resolveArgs
 many-args T σ m none = refl
@@ -76,6 +77,7 @@ pub call-words : (T : Tables) (σ f : ℕ) (es : Exprs) → words (resolveExpr T
 unfolding resolveExpr
 call-words T σ f es = rw (called-words (element T σ f) f (resolveArgs T σ (places T f) es), many-args T σ (places T f) es)
 
+-- parentheses go
 pub pair-words : (T : Tables) (σ : ℕ) (e : Expr) → words (resolveExpr T σ (Paren e)) ≡ words (resolveExpr T σ e)
 unfolding resolveExpr
 pair-words T σ e = refl

@@ -6,6 +6,7 @@ use mathlib.Core.List.{List, [], _∷_}
 use Rattle.words.specs.Word.{wordOf, pick}
 use Rattle.expr.specs.Expr.{Expr, Lit, Var, Elem, Unary, Binary, Call, Field, Paren, many, wordsL}
 
+-- before its children
 unfoldable pub front : Expr → List ℕ
 unfolding wordsL many
 front (Lit l) = wordOf 16 0 ∷ wordsL l
@@ -17,6 +18,7 @@ front (Call x es) = wordOf 21 0 ∷ wordOf 2 x ∷ wordOf 1 (many es) ∷ []
 front (Field e x) = wordOf 22 0 ∷ []
 front (Paren e) = wordOf 23 0 ∷ []
 
+-- after them: a field's name
 unfoldable pub back : Expr → List ℕ
 back (Lit l) = []
 back (Var x) = []

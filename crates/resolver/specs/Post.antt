@@ -29,6 +29,7 @@ pub record Some (ws : List ℕ) (at : ℕ) : Type 0 where
   pub end : ℕ
   pub stands : Stands ws strings at tree end
 
+-- some expression stands there, and there is room
 pub record Ready (ws buf : List ℕ) (count scope at to size : ℕ) : Type 0 where
   pub some : Some ws at
   pub room : Room ws buf count scope at to size

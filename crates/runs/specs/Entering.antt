@@ -30,14 +30,17 @@ use Rattle.runs.specs.Laws.{holds-keeps, keeps-fits, keeps-count, keeps-
 
 -- ---- the words from a place on, lent and given back
 
+-- the words put back stand behind those that were not lent
 pub rest-back : (l tail : List ℕ) (at : ℕ) → putRest l at tail ≡ take at l ++ tail
 rest-back l tail at =
     let gone : drop (length l - at) (drop at l) ≡ [] = drop-of-length-le (drop at l) {i = length l - at} (le-of-eq (length-drop at l)) in
     ap (λ (x : List ℕ). take at l ++ (tail ++ x)) gone ∙ ap (λ (x : List ℕ). take at l ++ x) (append-nil tail)
 
+-- how many words are lent
 pub rest-length : (l : List ℕ) (at : ℕ) → length (restOf l at) ≡ length l - at
 rest-length l at = length-take-le (length l - at) (drop at l) (le-of-eq (sym (length-drop at l)))
 
+-- as many put back as were lent: the buffer keeps its length
 pub rest-kept : (l tail : List ℕ) (at : ℕ) → at ≤ length l → length tail ≡ length (restOf l at) → length (putRest l at tail) ≡ length l
 rest-kept l tail at h e = ap length (rest-back l tail at) ∙ length-append (take at l) tail ∙ omega (arith, length-take-le at l h, rest-length l at)
 
@@ -61,6 +64,7 @@ filled-set {rows} {n} {buf} F i h row new e w c =
     record { words = after ∙ ap (λ (k : ℕ). image width k new) (sym (ap length after ∙ long)); count = c; wide = w }
 
 module _ {first late : List Row} {m n : ℕ} {buf : List ℕ} (R : Runs first late m n buf) (row : Row) (w : length row ≡ width) where
+  -- a row of the first run with the row's key is written over: the row stands in its place, and the other run is as it was
   pub set-first : (i : ℕ) → i < m → key (getD first i []) ≡ key row → Runs (insert row first) late m n (take (i * width) buf ++ (row ++ drop (i * width + width) buf))
   set-first i h e =
       let l : i < length first = omega (arith, R .split) in
@@ -79,6 +83,7 @@ module _ {first late : List Row} {m n : ℕ} {buf : List ℕ} (R : Runs first la
         apart = apart-other first late row (apart-none (key row) first late (getD first i []) (R .apart) (find-at 0 (key row) first (R .first-table) i l e)) (R .apart);
       }
 
+  -- the same in the late run
   pub set-late : (i : ℕ) → i < n - m → key (getD late i []) ≡ key row
       → Runs first (insert row late) m n (take ((m + i) * width) buf ++ (row ++ drop ((m + i) * width + width) buf))
   set-late i h e =
@@ -125,6 +130,7 @@ put-full {new} n after h =
           absurd (omega arith);
     }
 
+-- a key made of a row's first two words is the row's key
 pub key-words : (row : Row) (k : ℕ) → k ≡ keyOf (getD row 0 0) (getD row 1 0) → k ≡ key row
 unfolding key
 key-words row k e = e
@@ -232,6 +238,7 @@ module _ {rows : List Row} {n : ℕ} {buf : List ℕ} (K : Keeps rows n buf) (ro
 
 -- ---- taken out of the late run, where the first has no such row
 
+-- rows taken out of the late run alone, while none of the first is between lo and hi, are taken out of the table
 pub out-late : {rows : List Row} {n : ℕ} {buf : List ℕ} (K : Keeps rows n buf) (m : ℕ) → m ≡ firstRun n → (lo hi : ℕ) → lo ≤ hi → ltb (rank lo (K .first)) (rank hi (K .first)) ≡ false
     → (r : ℕ) (tail : List ℕ) → ((rs : List Row) → Holds rs (n - m) (restOf buf (m * width)) → Removed lo hi rs (length (restOf buf (m * width))) r tail)
     → TakenOut (remove lo hi rows) (m + r) (putRest buf (m * width) tail)

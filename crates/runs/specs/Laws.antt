@@ -24,12 +24,15 @@ holds-keeps {rows} {n} H = record {
 }
 
 module _ {rows : List Row} {n : ℕ} {buf : List ℕ} (K : Keeps rows n buf) where
+  -- the rows fit the buffer
   pub keeps-fits : n * width ≤ length buf
   keeps-fits = holds-fits (K .runs .filled)
 
+  -- the table has n rows
   pub keeps-count : length rows ≡ n
   keeps-count = ap length (K .all) ∙ both-count (K .runs)
 
+  -- its rows are in order
   pub keeps-table : Table 0 rows
   keeps-table = subst (Table 0) (sym (K .all)) (both-table (K .runs))
 

@@ -25,6 +25,7 @@ use Rattle.runs.specs.Runs.{rowOf, rowIn, Runs}
 use Rattle.runs.specs.Places.{row-filled}
 use Rattle.runs.specs.Union.{find-rest, find-among, find-below, find-beyond, rank-both, all-none, all-append, apart-append, table-front, table-back, table-append, apart-none}
 
+-- two runs of rows of w words, one after the other, are rows of w words
 pub wide-append : (w : ℕ) (a c : List Row) → Wide w a → Wide w c → Wide w (a ++ c)
 wide-append w [] c t u = u
 wide-append w (r ∷ rs) c t u = (t .0, wide-append w rs c (t .1) u)
@@ -33,9 +34,11 @@ wide-append w (r ∷ rs) c t u = (t .0, wide-append w rs c (t .1) u)
 abbrev pub restOf : List ℕ → ℕ → List ℕ
 restOf l at = take (length l - at) (drop at l)
 
+-- the words of l before the place, then these
 abbrev pub putRest : List ℕ → ℕ → List ℕ → List ℕ
 putRest l at tail = take at l ++ (tail ++ drop (length l - at) (drop at l))
 
+-- the words that are lent are all from the place on
 pub rest-part : (l : List ℕ) (at : ℕ) → restOf l at ≡ drop at l
 rest-part l at = take-all (length l - at) (drop at l) (le-of-eq (length-drop at l))
 
@@ -70,18 +73,23 @@ rest-zeros rows n k buf t c e =
 -- ---- each run by itself
 
 module _ {first late : List Row} {m n : ℕ} {buf : List ℕ} (R : Runs first late m n buf) where
+  -- the late run has the rows that the first has not
   pub runs-count : m + length late ≡ n
   runs-count = omega (arith, R .split, R .filled .count, length-append first late)
 
+  -- the words before the late run are the first run's rows
   pub first-words : take (m * width) buf ≡ flatten first
   first-words = take-rows (R .filled) m (omega (arith, runs-count)) ∙ ap flatten (take-at first late m (R .split))
 
+  -- those after it are the late run's rows, and zeros
   pub late-words : drop (m * width) buf ≡ flatten late ++ zeros (length buf - n * width)
   late-words = drop-rows (R .filled) m (omega (arith, runs-count)) ∙ ap (λ (l : List Row). flatten l ++ zeros (length buf - n * width)) (drop-at first late m (R .split))
 
+  -- the first run's part of the buffer holds it as a table
   pub first-holds : Holds first m (take (m * width) buf)
   first-holds = holds-full first m (take (m * width) buf) (R .first-table) (R .split) first-words
 
+  -- so does the rest of the buffer the late run
   pub late-holds : Holds late (n - m) (drop (m * width) buf)
   late-holds = rest-zeros late (n - m) (length buf - n * width) (drop (m * width) buf) (R .late-table) (omega (arith, runs-count)) late-words
 
@@ -89,17 +97,21 @@ module _ {first late : List Row} {m n : ℕ} {buf : List ℕ} (R : Runs first la
   pub late-part : Holds late (n - m) (restOf buf (m * width))
   late-part = subst (Holds late (n - m)) (sym (rest-part buf (m * width))) late-holds
 
+  -- a row at a place below m is the first run's
   pub row-first : (i : ℕ) → i < m → rowOf buf i ≡ getD first i []
   row-first i h = row-filled (R .filled) i (omega (arith, runs-count)) ∙ List·getD-append first late [] i (omega (arith, R .split))
 
+  -- one at m + i is the late run's row i
   pub row-late : (i : ℕ) → i < n - m → rowOf buf (m + i) ≡ getD late i []
   row-late i h =
       let e : m + i ≡ length first + i = omega (arith, R .split) in
       row-filled (R .filled) (m + i) (omega arith) ∙ ap (λ (j : ℕ). getD (first ++ late) j []) e ∙ getD-append-add first late i []
 
+  -- the key that stands there is this row's
   pub key-first : (i : ℕ) → i < m → keyOf (getD buf (i * width) 0) (getD buf (i * width + 1) 0) ≡ key (getD first i [])
   key-first i h = key-of-row (R .filled) i (omega (arith, runs-count)) ∙ ap key (List·getD-append first late [] i (omega (arith, R .split)))
 
+  -- the key that stands at m is that of the late run's first row
   pub key-late : m < n → keyOf (getD buf (m * width) 0) (getD buf (m * width + 1) 0) ≡ key (getD late 0 [])
   key-late h =
       let e : m ≡ length first + 0 = omega (arith, R .split) in
@@ -109,23 +121,29 @@ module _ {first late : List Row} {m n : ℕ} {buf : List ℕ} (R : Runs first la
   pub both-count : length (insertAll late first) ≡ n
   both-count = count-more first late (R .late-table) (R .apart) ∙ omega (arith, R .split, runs-count)
 
+  -- its rows are in order
   pub both-table : Table 0 (insertAll late first)
   both-table = all-table late first (table-wide 0 late (R .late-table)) (R .first-table)
 
   -- ---- a key in one of the runs, by what stands at its ends
 
+  -- without rows the first run has no key
   pub none-first : (k : ℕ) → m ≡ 0 → find k first ≡ none
   none-first k e = find-empty k first (R .split ∙ e)
 
+  -- a key above the first run's last is not in it
   pub beyond-first : (k x : ℕ) → 0 < m → x ≡ keyOf (getD buf ((m - 1) * width) 0) (getD buf ((m - 1) * width + 1) 0) → x < k → find k first ≡ none
   beyond-first k x h e l = find-beyond 0 k first (R .first-table) (m - 1) (omega (arith, R .split)) (subst (λ (y : ℕ). y < k) (e ∙ key-first (m - 1) (omega arith)) l)
 
+  -- without rows the late run has none
   pub none-late : (k : ℕ) → m ≡ n → find k late ≡ none
   none-late k e = find-empty k late (omega (arith, runs-count))
 
+  -- a key below the late run's first is not in it
   pub below-late : (k x : ℕ) → m < n → x ≡ keyOf (getD buf (m * width) 0) (getD buf (m * width + 1) 0) → k < x → find k late ≡ none
   below-late k x h e l = find-below 0 k late (R .late-table) (subst (λ (y : ℕ). k < y) (e ∙ key-late h) l)
 
+  -- what is found at place i of the late run stands in the buffer at m + i
   pub found-late : (k i : ℕ) → i < n - m → At i ≡ foundAt (rank k late) (find k late) → some (rowOf buf (m + i)) ≡ find k late
   found-late k i h e = ap (λ (r : Row). some r) (row-late i h) ∙ sym (found-row late (n - m) (drop (m * width) buf) late-holds k i e)
 
@@ -133,6 +151,7 @@ module _ {first late : List Row} {m n : ℕ} {buf : List ℕ} (R : Runs first la
   pub both-first : (k : ℕ) (r : Row) → some r ≡ find k first → some r ≡ find k (insertAll late first)
   both-first k r e = e ∙ sym (find-rest k first late (apart-none k first late r (R .apart) (sym e)))
 
+  -- a key that isn't in the first run finds in both what it finds in the late one
   pub both-late : (k : ℕ) → none ≡ find k first → find k late ≡ find k (insertAll late first)
   both-late k e = go (find k late) refl
     where
@@ -146,6 +165,7 @@ module _ {first late : List Row} {m n : ℕ} {buf : List ℕ} (R : Runs first la
       lt-ltb (rank lo (insertAll late first)) (rank hi (insertAll late first)) (
       omega (arith, rank-both 0 lo first late (R .late-table) (R .apart), rank-both 0 hi first late (R .late-table) (R .apart), rank-mono lo hi late h, ltb-true (rank lo first) (rank hi first) e))
 
+  -- where the first run has no key between lo and hi, the late one alone tells whether both have
   pub between-late : (lo hi : ℕ) → lo ≤ hi → ltb (rank lo first) (rank hi first) ≡ false
       → ltb (rank lo late) (rank hi late) ≡ ltb (rank lo (insertAll late first)) (rank hi (insertAll late first))
   between-late lo hi h e =
@@ -187,6 +207,7 @@ holds-runs {rows} {n} {buf} H m h =
       apart = apart-append 0 (take m rows) (drop m rows) t;
     }
 
+-- a table is its first m rows, with the others put into them
 pub parts-all : {rows : List Row} (m : ℕ) → Table 0 rows → rows ≡ insertAll (drop m rows) (take m rows)
 parts-all {rows} m t =
     let e : rows ≡ take m rows ++ drop m rows = sym (take-append-drop m rows) in

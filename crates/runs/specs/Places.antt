@@ -59,6 +59,7 @@ unfolding Each
 each-of P [] f = tt
 each-of P (r ∷ rs) f = (f 0 (omega arith), each-of P rs (λ i h. f (suc i) (omega arith)))
 
+-- what holds of each of two lists of rows holds of each when the ones are put into the others
 pub each-all : (P : Row → Type 0) (more rows : List Row) → Each P more → Each P rows → Each P (insertAll more rows)
 unfolding Each insertAll
 each-all P [] rows a b = b

@@ -47,6 +47,7 @@ unfolding Apart find
 apart-none k rows [] r a f = refl
 apart-none k rows (x ∷ xs) r a f = find-ne k x xs (λ e. found-clash (ap (λ (n : ℕ). find n rows) (sym e) ∙ a .0) f) ∙ apart-none k rows xs r (a .1) f
 
+-- and one that is in the other is not in the one
 pub none-apart : (k : ℕ) (rows more : List Row) (r : Row) → Apart more rows → find k more ≡ some r → find k rows ≡ none
 none-apart k rows more r a f = go (find k rows) refl
   where
@@ -60,6 +61,7 @@ unfolding find
 find-below b k [] t h = refl
 find-below b k (r ∷ rs) t h = find-ne k r rs (λ (e : key r ≡ k). omega arith) ∙ find-above k rs (t .2) (omega arith)
 
+-- a key above the last row's finds nothing
 pub find-beyond : (b k : ℕ) (rows : List Row) → Table b rows → (m : ℕ) → suc m ≡ length rows → key (getD rows m []) < k → find k rows ≡ none
 find-beyond b k rows t m e h = find-miss b k rows t (λ (l : rank k rows < length rows) _. omega (arith, rank-high b k rows t m (omega arith) h))
 
@@ -98,10 +100,12 @@ rank-both b k rows (x ∷ xs) t a =
 
 -- ---- a table in two parts
 
+-- the first part of a table is one
 pub table-front : (b : ℕ) (a c : List Row) → Table b (a ++ c) → Table b a
 table-front b [] c t = tt
 table-front b (r ∷ rs) c t = (t .0, t .1, table-front (suc (key r)) rs c (t .2))
 
+-- and so is the second
 pub table-back : (b : ℕ) (a c : List Row) → Table b (a ++ c) → Table b c
 table-back b [] c t = t
 table-back b (r ∷ rs) [] t = tt
@@ -121,6 +125,7 @@ unfolding insertAll insert
 all-none b [] t = refl
 all-none b (x ∷ xs) t = all-after (suc (key x)) x [] xs (t .2) (omega arith) ∙ ap (λ (l : List Row). x ∷ l) (all-none (suc (key x)) xs (t .2))
 
+-- the second part put into the first gives the table
 pub all-append : (b : ℕ) (a c : List Row) → Table b (a ++ c) → insertAll c a ≡ a ++ c
 all-append b [] c t = all-none b c t
 all-append b (y ∷ ys) c t =
@@ -139,6 +144,7 @@ apart-cons b y rows (x ∷ xs) t h a = (
   apart-cons (suc (key x)) y rows xs (t .2) (omega (arith, t .1)) (a .1),
 )
 
+-- the two parts share no key
 pub apart-append : (b : ℕ) (a c : List Row) → Table b (a ++ c) → Apart c a
 apart-append b [] c t = apart-none-in c
 apart-append b (y ∷ ys) c t = apart-cons (suc (key y)) y ys c (table-back (suc (key y)) ys c (t .2)) (omega arith) (apart-append (suc (key y)) ys c (t .2))
@@ -202,11 +208,13 @@ insert-at b rows r t i h e =
     let p : rank (key r) rows ≡ i = rank-at b rows t i (key r) h e in
     insert-old r rows (omega arith) (ap (λ (n : ℕ). key (getD rows n [])) p ∙ e) ∙ ap (λ (n : ℕ). take n rows ++ (r ∷ drop (suc n) rows)) p
 
+-- and there are as many rows as before
 pub insert-at-length : (b : ℕ) (rows : List Row) (r : Row) → Table b rows → (i : ℕ) → i < length rows → key (getD rows i []) ≡ key r → length (insert r rows) ≡ length rows
 insert-at-length b rows r t i h e =
     ap length (insert-at b rows r t i h e) ∙ length-append (take i rows) (r ∷ drop (suc i) rows)
     ∙ omega (arith, length-take-le i rows (omega arith), length-drop (suc i) rows)
 
+-- a row of a table is what its key finds
 pub find-at : (b k : ℕ) (rows : List Row) → Table b rows → (i : ℕ) → i < length rows → key (getD rows i []) ≡ k → find k rows ≡ some (getD rows i [])
 find-at b k rows t i h e =
     let p : rank k rows ≡ i = rank-at b rows t i k h e in
@@ -303,6 +311,7 @@ remove-both b lo hi rows (x ∷ xs) h t u = go (reach lo hi (key x)) (remove-bot
     go (inr q) ih =
         ih ∙ ap (insertAll (remove lo hi xs)) (remove-insert-out 0 lo hi x rows h u q) ∙ ap (λ (l : List Row). insertAll l (remove lo hi rows)) (sym (remove-out lo hi x xs h q))
 
+-- rows that share no key with others share none when some of them are taken out
 pub apart-remove : (lo hi : ℕ) (rows more : List Row) → lo ≤ hi → Apart more rows → Apart (remove lo hi more) rows
 unfolding Apart remove
 apart-remove lo hi rows [] h a = tt

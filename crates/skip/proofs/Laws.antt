@@ -18,6 +18,7 @@ use Rattle.skip.specs.declared.Shape.{Shape}
 
 -- ---- where the children stand
 
+-- a literal has as many words as its kind says
 pub literal-long : (l : Literal) → length (wordsL l) ≡ literalWords (kindL l)
 unfolding wordsL literalWords kindL
 literal-long (Integer a) = refl
@@ -35,6 +36,7 @@ literal-some k = go (eqb k 26) (eqb k 27)
     go false true = omega arith
     go false false = omega arith
 
+-- these are at most three
 pub literal-few : (k : ℕ) → literalWords k ≤ 3
 unfolding literalWords
 literal-few k = go (eqb k 26) (eqb k 27)
@@ -102,6 +104,7 @@ module _ (ws : List ℕ) (n : Strings) where
       record { mid = at + 1 + length (words e); items = one-child e a (v .0); to = omega (arith, b .span) }
   inside-of (Paren e) at end w v = record { mid = end; items = one-child e (wrote-first w .rest) v; to = omega arith }
 
+-- so they stand in an expression that stands there
 pub inside : {ws : List ℕ} {n : Strings} {at : ℕ} {e : Expr} {end : ℕ} → Stands ws n at e end → Inside ws n at e end
 inside {ws} {n} {at} {e} {end} s = inside-of ws n e at end (s .wrote) (s .valid)
 
@@ -116,14 +119,17 @@ pub told : {ws : List ℕ} {at : ℕ} {r s : Shape} → r ≡ s → ShapedAt ws 
 told {ws} {at} q S = subst (λ (x : Shape). ShapedAt ws at x) (sym q) S
 
 module _ {ws : List ℕ} {at : ℕ} where
+  -- 16: a literal has no children
   pub shape-16 : kindOf (getD ws at 0) ≡ 16 → {f : ℕ} → f ≡ literalWords (kindOf (getD ws (at + 1) 0)) → ShapedAt ws at (record { front = 1 + f; children = 0; back = 0 })
   unfolding front children back many
   shape-16 k q n e end s = let v = in-lit k s in rw (v .is) (record { front-is = rw (q, v .kind) refl; children-is = refl; back-is = refl })
 
+  -- 17: nor has a variable
   pub shape-17 : kindOf (getD ws at 0) ≡ 17 → ShapedAt ws at (record { front = 2; children = 0; back = 0 })
   unfolding front children back many
   shape-17 k n e end s = let v = got-17 k (node s .body) in rw (v .is) (record { front-is = refl; children-is = refl; back-is = refl })
 
+  -- 18 or 21: an element and a call have as many as the list says
   pub shape-18 : (kindOf (getD ws at 0) ≡ 18) ⊎ (kindOf (getD ws at 0) ≡ 21) → ShapedAt ws at (record { front = 3; children = payOf (getD ws (at + 2) 0); back = 0 })
   unfolding front children back
   shape-18 k n e end s =
@@ -133,14 +139,17 @@ module _ {ws : List ℕ} {at : ℕ} where
       ⊎-elim (λ (q : e ≡ Elem (v .name) (v .args)). rw q (record { front-is = refl; children-is = c; back-is = refl }))
       (λ (q : e ≡ Call (v .name) (v .args)). rw q (record { front-is = refl; children-is = c; back-is = refl })) (v .is)
 
+  -- 19: a unary operator has one
   pub shape-19 : kindOf (getD ws at 0) ≡ 19 → ShapedAt ws at (record { front = 2; children = 1; back = 0 })
   unfolding front children back many
   shape-19 k n e end s = rw (in-unary k s .is) (record { front-is = refl; children-is = refl; back-is = refl })
 
+  -- 20: a binary operator has two
   pub shape-20 : kindOf (getD ws at 0) ≡ 20 → ShapedAt ws at (record { front = 2; children = 2; back = 0 })
   unfolding front children back many
   shape-20 k n e end s = rw (in-binary k s .is) (record { front-is = refl; children-is = refl; back-is = refl })
 
+  -- 22: a field has one, and its name comes last
   pub shape-22 : kindOf (getD ws at 0) ≡ 22 → ShapedAt ws at (record { front = 1; children = 1; back = 1 })
   unfolding front children back many
   shape-22 k n e end s = rw (in-field k s .is) (record { front-is = refl; children-is = refl; back-is = refl })
@@ -164,6 +173,7 @@ module _ {ws : List ℕ} {at : ℕ} where
 
 -- ---- the words that are looked at
 
+-- the head is within the words
 pub here : {ws : List ℕ} {at : ℕ} → SomeExpr ws at → at < length ws
 here {ws} {at} A = let w = within (A .stands) in omega (arith, w .moves, w .inside)
 
@@ -223,6 +233,7 @@ pub record Rest (ws : List ℕ) (n : Strings) (m left b end : ℕ) : Type 0 wher
 abbrev pub Left : List ℕ → ℕ → ℕ → ℕ → ℕ → Type 0
 Left ws at m left b = (n : Strings) (e : Expr) (end : ℕ) → Stands ws n at e end → Rest ws n m left b end
 
+-- at first all children are left
 pub left-all : {ws : List ℕ} {at : ℕ} {r : Shape} → ShapedAt ws at r → Left ws at (at + r .front) (r .children) (r .back)
 left-all {ws} {at} {r} S n e end s =
     let h = S n e end s in
@@ -251,9 +262,11 @@ split {ws} {n} {m} {left} {b} {end} r p = go (r .es) (r .items) (r .count)
     }
 
 module _ {ws : List ℕ} {at m left b : ℕ} (L : Left ws at m left b) (p : 0 < left) where
+  -- where some are left, the next one stands at m
   pub left-some : SomeExpr ws at → SomeExpr ws m
   left-some A = let t = split (L _ _ _ (A .stands)) p in record { strings = A .strings; expr = t .first; end = t .stop; stands = t .stands }
 
+  -- past it one less is left
   pub left-next : {r : ℕ} → ((n : Strings) (e : Expr) (end : ℕ) → Stands ws n m e end → r ≡ end) → Left ws at r (left - 1) b
   left-next {r} E n e end s =
       let t = split (L n e end s) p in

@@ -19,6 +19,7 @@ pub record SomeExpr (ws : List ℕ) (at : ℕ) : Type 0 where
 unfoldable pub literalWords : ℕ → ℕ
 literalWords k = pick (eqb k 26) 3 (pick (eqb k 27) 3 2)
 
+-- how many words stand before the children
 unfoldable pub front : Expr → ℕ
 unfolding literalWords kindL
 front (Lit l) = 1 + literalWords (kindL l)
@@ -30,6 +31,7 @@ front (Call x es) = 3
 front (Field e x) = 1
 front (Paren e) = 1
 
+-- the children in order
 unfoldable pub children : Expr → Exprs
 children (Lit l) = none
 children (Var x) = none

@@ -68,12 +68,15 @@ pub record Counted (f : Sized) (s r : Counts) : Type 0 where
 unfoldable pub changing : (List Row → List Row) → Sized
 changing f N D = change (some N) f
 
+-- a row entered
 unfoldable pub entering : Row → Sized
 entering row N D = enter (some N) row
 
+-- a diagnostic pushed
 unfoldable pub pushing : Row → Sized
 pushing note N D = push (some D) note
 
+-- one pushed where a test holds
 unfoldable pub noting : Bool → Row → Sized
 noting t note N D = when t (push (some D) note)
 
@@ -82,24 +85,29 @@ abbrev pub rowsPut : Counts → Put → Counts
 rowsPut s Full = record { stop = 7; rows = s .rows; notes = s .notes }
 rowsPut s (Done n) = record { stop = 0; rows = n; notes = s .notes }
 
+-- the same of a diagnostic: 8 where it had no room
 abbrev pub notesPut : Counts → Put → Counts
 notesPut s Full = record { stop = 8; rows = s .rows; notes = s .notes }
 notesPut s (Done n) = record { stop = 0; rows = s .rows; notes = n }
 
 -- ---- what is left of a run at its end, in buffers of N and D words: rows and diagnostics with zeros after them; a stopped run leaves only zeros
 
+-- the number that stopped it, or how many rows and diagnostics there are
 unfoldable pub countsOf : State → Counts
 countsOf (running rows notes) = record { stop = 0; rows = length rows; notes = length notes }
 countsOf (stopped k) = record { stop = k; rows = 0; notes = 0 }
 
+-- the rows' buffer
 unfoldable pub rowsLeft : ℕ → State → List ℕ
 rowsLeft N (running rows notes) = image width N rows
 rowsLeft N (stopped k) = zeros N
 
+-- the diagnostics' buffer
 unfoldable pub notesLeft : ℕ → State → List ℕ
 notesLeft D (running rows notes) = image noteWidth D notes
 notesLeft D (stopped k) = zeros D
 
+-- the answer and both buffers are so
 pub record Left (N D : ℕ) (st : State) (r : Counts) (b d : List ℕ) : Type 0 where
   pub answer : r ≡ countsOf st
   pub rows : b ≡ rowsLeft N st

@@ -46,6 +46,7 @@ module _ (s : Counts) (b : List ℕ) (f : List Row → List Row) where
   change-stopped d N D (running rows notes) h H = absurd (h (H .inside .0))
   change-stopped d N D (stopped k) h H = H
 
+  -- in a stopped run no row changes
   pub stopped-change : s .rows * width ≤ length b → (s .stop ≡ 0 → ⊥) → Rows (changing f) s s b b
   unfolding changing
   stopped-change fit h = record { fit = fit; kept = refl; after = λ d N D st H. change-stopped d N D st h H }
@@ -76,11 +77,13 @@ module _ (s : Counts) (b : List ℕ) (f : List Row → List Row) where
     put-keeps Full = refl
     put-keeps (Done m) = refl
 
+    -- the rows were changed as f says, or had no room: the step is done, under the counts of the answer
     pub put-change : s .rows * width ≤ length b → (r : Put) → Answers.Fit width (length b) r → ((rows : List Row) → Keeps rows (s .rows) b → PutIn (f rows) (length b) r b′)
         → Rows (changing f) s (rowsPut s r) b b′
     unfolding changing
     put-change fit r h E = record { fit = put-fits r h fit; kept = put-keeps r; after = λ d N D st H. put-in r d N D st E H }
 
+-- the rows changed by inserting a row: the row is entered
 pub entering-is : (row : Row) {s r : Counts} {b b′ : List ℕ} → Rows (changing (insert row)) s r b b′ → Rows (entering row) s r b b′
 unfolding changing entering enter
 entering-is row F = record { fit = F .fit; kept = F .kept; after = F .after }
@@ -97,6 +100,7 @@ module _ (s : Counts) (b : List ℕ) (lo hi : ℕ) (go : s .stop ≡ 0) (b′ : 
       rw yes (record { rows-long = len ∙ H .rows-long; notes-long = H .notes-long; inside = (refl, R rows K .after, H .inside .2) })
   remove-in d N D (stopped k) R H = going k (sym go ∙ H .inside .0) (H .inside .1)
 
+  -- those between lo and hi taken out, with m left: the step is done
   pub remove-change : s .rows * width ≤ length b → m ≤ s .rows → ((rows : List Row) → Keeps rows (s .rows) b → TakenOut (remove lo hi rows) m b′)
       → Rows (changing (remove lo hi)) s (record { stop = 0; rows = m; notes = s .notes }) b b′
   unfolding changing
@@ -110,10 +114,12 @@ module _ (s : Counts) (d : List ℕ) (note : Row) (fit : s .notes * noteWidth �
   note-stopped b N D (running rows notes) h H = absurd (h (H .inside .0))
   note-stopped b N D (stopped k) h H = H
 
+  -- in a stopped run none is pushed
   pub stopped-note : (s .stop ≡ 0 → ⊥) → Notes (pushing note) s s d d
   unfolding pushing
   stopped-note h = record { fit = fit; kept = refl; after = λ b N D st H. note-stopped b N D st h H }
 
+  -- none is pushed where the test fails
   pub no-note : (t : Bool) → t ≡ false → Notes (noting t note) s s d d
   unfolding noting
   no-note t e = record { fit = fit; kept = refl; after = λ b N D st H. rw e H }
@@ -145,11 +151,13 @@ module _ (s : Counts) (d : List ℕ) (note : Row) (fit : s .notes * noteWidth �
     note-keeps Full = refl
     note-keeps (Done m) = refl
 
+    -- it was pushed or had no room: the step is done, under the counts of the answer
     pub put-note : (r : Put) → Answers.Fit noteWidth (length d) r → ((notes : List Row) → Filled noteWidth notes (s .notes) d → Pushed note notes (length d) r d′)
         → Notes (pushing note) s (notesPut s r) d d′
     unfolding pushing
     put-note r h P = record { fit = note-fits r h; kept = note-keeps r; after = λ b N D st H. note-in r b N D st P H }
 
+-- where the test holds, it is pushed
 pub noting-is : (note : Row) (t : Bool) {s r : Counts} {d d′ : List ℕ} → t ≡ true → Notes (pushing note) s r d d′ → Notes (noting t note) s r d d′
 unfolding pushing noting
 noting-is note t e F = record { fit = F .fit; kept = F .kept; after = λ b N D st H. rw e (F .after b N D st H) }
@@ -157,6 +165,7 @@ noting-is note t e F = record { fit = F .fit; kept = F .kept; after = λ b N D s
 -- ---- stop and finish
 
 module _ (s : Counts) (number : ℕ) where
+  -- a run that is stopped keeps its number
   pub stop-again : (s .stop ≡ 0 → ⊥) → Counted (λ N D. stop number) s s
   unfolding stop
   stop-again h = record { rows-kept = refl; notes-kept = refl; after = by }
@@ -165,6 +174,7 @@ module _ (s : Counts) (number : ℕ) where
       by b d N D (running rows notes) H = absurd (h (H .inside .0))
       by b d N D (stopped k) H = H
 
+  -- one that goes on stops with the number
   pub stop-now : s .stop ≡ 0 → 0 < number → Counted (λ N D. stop number) s (record { stop = number; rows = s .rows; notes = s .notes })
   unfolding stop
   stop-now go h = record { rows-kept = refl; notes-kept = refl; after = by }
@@ -208,6 +218,7 @@ module _ {N D : ℕ} {s : Counts} {b d : List ℕ} where
 
 -- ---- the refusal of a stopped run
 
+-- a number that leaves zeros and is neither 7 nor 8 is that of TypeWords
 pub last-number : (k : ℕ) → zeroing k ≡ true → (k ≡ 7 → ⊥) → (k ≡ 8 → ⊥) → Numbered k TypeWords
 unfolding zeroing
 last-number k z n m =
@@ -220,5 +231,6 @@ zero-leaves : zeroing 0 ≡ false
 unfolding zeroing
 zero-leaves = refl
 
+-- a number that leaves zeros is not 0
 pub stops-some : {k : ℕ} → zeroing k ≡ true → k ≡ 0 → ⊥
 stops-some z e = false≢true (sym zero-leaves ∙ ap zeroing (sym e) ∙ z)

@@ -10,12 +10,15 @@ use Rattle.steps.specs.declared.Counts.{Counts}
 use Rattle.steps.specs.Held.{Held, Sized, Rows}
 use Rattle.steps.specs.Compose.{Stays, each-snoc}
 
+-- to do nothing leaves counts and rows as they are
 pub rows-nothing : {s : Counts} {b : List ℕ} → s .rows * width ≤ length b → Rows (λ N D. nothing) s s b b
 rows-nothing h = record { fit = h; kept = refl; after = λ d N D st H. H }
 
+-- two steps done, one on the rows that the other left, are done in turn
 pub rows-then : {f g : Sized} {s r t : Counts} {b b′ b″ : List ℕ} → Rows f s r b b′ → Rows g r t b′ b″ → Rows (λ N D. f N D ⨾ g N D) s t b b″
 rows-then {f} F G = record { fit = G .fit; kept = G .kept ∙ F .kept; after = λ d N D st H. G .after d N D (f N D st) (F .after d N D st H) }
 
+-- a step that gives the same state for each is done where the other is
 pub rows-same : {f : Sized} (g : Sized) {s r : Counts} {b b′ : List ℕ} → ((N D : ℕ) (st : State) → f N D st ≡ g N D st) → Rows f s r b b′ → Rows g s r b b′
 rows-same g {s} {r} {b} {b′} e F = record { fit = F .fit; kept = F .kept; after = λ d N D st H. subst (λ (x : State). Held N D x r b′ d) (e N D st) (F .after d N D st H) }
 
@@ -34,6 +37,7 @@ pub rows-each-none : {A : Type 0} (f : A → Sized) {s : Counts} {b : List ℕ} 
 unfolding each
 rows-each-none f h = rows-nothing h
 
+-- the next element, after those before it
 pub rows-each-next : {A : Type 0} (f : A → Sized) (done : List A) (x : A) {s r t : Counts} {b b′ b″ : List ℕ}
     → Rows (λ N D. each (λ x. f x N D) done) s r b b′ → Rows (f x) r t b′ b″ → Rows (λ N D. each (λ x. f x N D) (done ++ (x ∷ []))) s t b b″
 rows-each-next f done x F G = rows-same (λ N D. each (λ x. f x N D) (done ++ (x ∷ []))) (λ N D st. each-snoc (λ x. f x N D) done x st) (rows-then F G)

@@ -10,10 +10,12 @@ use Rattle.words.specs.Word.{pick}
 use Rattle.table.specs.Rows.{Row, width, noteWidth, insert}
 
 infixl 20 _⨾_
+-- a run that goes on, or one that stopped
 pub data State : Type 0 where
   running : (rows notes : List Row) → State
   stopped : (number : ℕ) → State
 
+-- what is done to the state
 abbrev pub Step : Type 0
 Step = State → State
 
@@ -21,9 +23,11 @@ Step = State → State
 abbrev pub _⨾_ : Step → Step → Step
 f ⨾ g = λ s. g (f s)
 
+-- the state as it is
 abbrev pub nothing : Step
 nothing = λ s. s
 
+-- the step, where the test holds
 abbrev pub when : Bool → Step → Step
 when true f = f
 when false f = nothing
@@ -33,10 +37,12 @@ unfoldable pub asking : (List Row → Step) → Step
 asking f (running rows notes) = f rows (running rows notes)
 asking f (stopped n) = stopped n
 
+-- a step for each of a list, in order
 unfoldable pub each : {A : Type 0} → (A → Step) → List A → Step
 each f [] = nothing
 each f (x ∷ xs) = f x ⨾ each f xs
 
+-- a run stops with n; one that has stopped keeps its number
 unfoldable pub stop : ℕ → Step
 stop n (running rows notes) = stopped n
 stop n (stopped m) = stopped m

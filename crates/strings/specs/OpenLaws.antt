@@ -25,6 +25,7 @@ unfolding verdictOf
 verdict-breaks at p true e = let z : _≡_ {A = ℕ} 0 1 = cc in absurd (omega arith)
 verdict-breaks at p false e = (refl, cc)
 
+-- where `check` answers Sound, the table is sound
 pub said-sound : {bytes ends : List ℕ} {v : Verdict} → Said bytes ends v → v ≡ Sound → sound bytes ends ≡ true
 said-sound {bytes} {ends} o e = verdict-sound (o .at) (sound bytes ends) (sym e ∙ o .is)
 
@@ -63,16 +64,19 @@ somewhere : (bytes ends : List ℕ) → Broken bytes ends
 somewhere bytes ends = ⊎-elim (λ h. without-strings bytes ends (sym h)) (λ p. with-strings bytes ends p _ refl) (eq-or-lt-of-le {n = 0} {m = length ends} (omega arith))
 
 module _ {A : Type 0} {bytes ends : List ℕ} {sized : Bool} {t u : Told A} where
+  -- a size is passed: the entry keeps its promise with number 5
   pub answers-size : sized ≡ false → t ≡ stops 5 0 → Answers sized bytes ends t u
   unfolding entryOf unless
   answers-size s e = let b = somewhere bytes ends in record { at = b .place; place = b .breaks; is = rw s e }
 
+  -- the table breaks its rule at p: with number 1 and this place
   pub answers-breaks : sized ≡ true → {v : Verdict} → Said bytes ends v → {p : ℕ} → v ≡ Breaks p → t ≡ stops 1 p → Answers sized bytes ends t u
   unfolding entryOf unless
   answers-breaks s o {p} f e =
       let h = verdict-breaks (o .at) p (sound bytes ends) (sym f ∙ o .is) in
       record { at = o .at; place = o .place; is = rw (s, h .0, ← h .1) e }
 
+  -- neither is so: with what it tells behind the two checks
   pub answers-inner : sized ≡ true → sound bytes ends ≡ true → t ≡ u → Answers sized bytes ends t u
   unfolding entryOf unless
   answers-inner s o e = record { at = 0; place = λ f. absurd (false≢true (sym f ∙ o)); is = rw (s, o) e }

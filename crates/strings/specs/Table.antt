@@ -18,10 +18,12 @@ startOf ends (suc i) = getD ends i 0
 abbrev pub part : ℕ → ℕ → List ℕ → List ℕ
 part a e l = take (e - a) (drop a l)
 
+-- the bytes of string i
 unfoldable pub stringAt : List ℕ → List ℕ → ℕ → List ℕ
 unfolding startOf
 stringAt bytes ends i = part (startOf ends i) (getD ends i 0) bytes
 
+-- each byte is from 32 to 126
 unfoldable pub allPrintable : List ℕ → Bool
 allPrintable [] = true
 allPrintable (b ∷ bs) = between 32 126 b && allPrintable bs
@@ -74,6 +76,7 @@ unfolding isName stringAt
 marksBelow bytes ends zero = []
 marksBelow bytes ends (suc i) = marksBelow bytes ends i ++ (pick (isName (stringAt bytes ends i)) 1 0 ∷ [])
 
+-- the marks of all strings
 unfoldable pub namesOf : List ℕ → List ℕ → List ℕ
 unfolding marksBelow
 namesOf bytes ends = marksBelow bytes ends (length ends)

@@ -60,6 +60,7 @@ pub record Unused (ws : List ℕ) (at name n a i : ℕ) : Type 0 where
   all : n ≡ payOf (getD ws at 0)
   read : Read ws at name a i nothing
 
+-- before the first statement none was sought
 pub unused-start : (ws : List ℕ) (at name : ℕ) → Unused ws at name (payOf (getD ws at 0)) (at + 1) 0
 unused-start ws at name = record { all = refl; read = list-start (λ (r : Tree Expr (row (stmt & nil))). inRow name r) (λ (r : Tree Expr (row (stmt & nil))). inRow name r) ws at refl refl }
 
@@ -71,6 +72,7 @@ in-body {ws} name u f ns n v end s =
     f ns n (I .items) end (I .there) (I .counted) ∙ sym (in-rows name (I .items)) ∙ ap (λ (x : Tree Expr (one body)). subscriptCount usedIn name x) (sym (I .is))
 
 module _ {ws : List ℕ} {at name n a i : ℕ} (R : Unused ws at name n a i) where
+  -- the next statement stands at a
   pub unused-next : SomeTree (one body) ws at → i < n → SomeTree (one stmt) ws a
   unused-next A h = row-some (list-next A (R .read) (omega (arith, R .all)) .0)
 
@@ -78,11 +80,14 @@ module _ {ws : List ℕ} {at name n a i : ℕ} (R : Unused ws at name n a i) whe
   unfolding orElse
   one-more {s} h S = list-step (R .read) (omega (arith, R .all)) (useOf (s .first)) (useOf (s .first)) (λ ns k r end t. let g = in-row S ns k r end t in (g .0, g .0, g .1)) refl refl
 
+  -- it has no use: one more sought
   pub unused-step : {s : Sought} → i < n → SeeksStmt ws a name s → s .first .found ≡ false → Unused ws at name n (s .next) (i + 1)
   unused-step {s} h S q = let r = one-more h S in record { all = R .all; read = rw (not-found (s .first) q) at r }
 
+  -- it has one: that is the body's first
   pub unused-found : {s : Sought} → i < n → SeeksStmt ws a name s → s .first .found ≡ true → (ns : List ℕ) (k : ℕ) (v : Tree Expr (one body)) (end : ℕ) → Stands ws ns k at v end → useOf (s .first) ≡ subscriptCount usedIn name v
   unused-found {s} h S q = in-body name (s .first) (list-found (one-more h S) (is-found (s .first) q))
 
+  -- all were sought: the body has none
   pub unused-done : (u : Use) → n ≤ i → useOf u ≡ nothing → (ns : List ℕ) (k : ℕ) (v : Tree Expr (one body)) (end : ℕ) → Stands ws ns k at v end → useOf u ≡ subscriptCount usedIn name v
   unused-done u h q = in-body name u (λ ns k rs end s c. q ∙ list-done (R .read) (omega (arith, R .all)) ns k rs end s c .0)

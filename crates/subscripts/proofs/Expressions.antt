@@ -24,6 +24,7 @@ use Rattle.subscripts.specs.declared.Sought.{Sought}
 
 -- ---- one use or else another
 
+-- the code's answer where no use was found
 pub unused : useOf (record { found = false; count = 0 }) ≡ nothing
 unfolding useOf
 unused = refl
@@ -33,27 +34,33 @@ pub named-yes : (f name n : ℕ) → f ≡ name → useOf (record { found = true
 unfolding useOf
 named-yes f name n q = rw (eq-eqb f name q) refl
 
+-- no use, where it is another
 pub named-no : (f name n : ℕ) (u : Use) → (f ≡ name → ⊥) → useOf u ≡ nothing → useOf u ≡ pick (eqb f name) (some n) nothing
 named-no f name n u z q = rw (ne-eqb f name z) q
 
+-- the first use, where there is one
 pub first-of : (a b : Use) → a .found ≡ true → useOf a ≡ orElse (useOf a) (useOf b)
 unfolding useOf orElse
 first-of a b q = rw q refl
 
+-- the second, where there isn't
 pub second-of : (a b : Use) → a .found ≡ false → useOf b ≡ orElse (useOf a) (useOf b)
 unfolding useOf orElse
 second-of a b q = rw q refl
 
+-- the first of three, taken together either way
 pub orElse-assoc : (a b c : Option ℕ) → orElse (orElse a b) c ≡ orElse a (orElse b c)
 unfolding orElse
 orElse-assoc nothing b c = refl
 orElse-assoc (some n) b c = refl
 
+-- or else nothing
 pub orElse-none : (a : Option ℕ) → orElse a nothing ≡ a
 unfolding orElse
 orElse-none nothing = refl
 orElse-none (some n) = refl
 
+-- the first in two lists, one after the other
 pub firstOf-append : {A : Type 0} (f : A → Option ℕ) (xs ys : List A) → firstOf f (xs ++ ys) ≡ orElse (firstOf f xs) (firstOf f ys)
 unfolding firstOf orElse
 firstOf-append f [] ys = refl
@@ -61,6 +68,7 @@ firstOf-append f (x ∷ xs) ys = ap (orElse (f x)) (firstOf-append f xs ys) ∙ 
 
 -- ---- the use that an expression is
 
+-- the first use in an expression: itself, or else in what stands in it
 pub here-parts : (name : ℕ) (e : Expr) → inExpr name e ≡ orElse (hereOf name e) (inExprs name (children e))
 unfolding inExpr inExprs hereOf children orElse
 here-parts name (Lit l) = refl
@@ -113,6 +121,7 @@ subscripted-some true (suc m) z = refl
 subscripted-some false m z = refl
 
 module _ {ws : List ℕ} {at name : ℕ} {r : Use} where
+  -- an element or a call with an empty list is none
   pub here-empty : (kindOf (getD ws at 0) ≡ 18) ⊎ (kindOf (getD ws at 0) ≡ 21) → payOf (getD ws (at + 2) 0) ≡ 0 → useOf r ≡ nothing → HereIs ws at name r
   here-empty k z q = record {
     gives = λ n e end s.
@@ -120,9 +129,11 @@ module _ {ws : List ℕ} {at name : ℕ} {r : Use} where
         q ∙ sym (in-name name k s ∙ ap (subscripted b) z ∙ subscripted-none b);
   }
 
+  -- one with a list is, where its name is the one
   pub here-list : (kindOf (getD ws at 0) ≡ 18) ⊎ (kindOf (getD ws at 0) ≡ 21) → (payOf (getD ws (at + 2) 0) ≡ 0 → ⊥) → useOf r ≡ pick (eqb (payOf (getD ws (at + 1) 0)) name) (some (payOf (getD ws (at + 2) 0))) nothing → HereIs ws at name r
   here-list k z q = record { gives = λ n e end s. q ∙ sym (in-name name k s ∙ subscripted-some (eqb (payOf (getD ws (at + 1) 0)) name) (payOf (getD ws (at + 2) 0)) z) }
 
+  -- any other expression is none
   pub here-other : ((kindOf (getD ws at 0) ≡ 18) ⊎ (kindOf (getD ws at 0) ≡ 21) → ⊥) → useOf r ≡ nothing → HereIs ws at name r
   unfolding hereOf kindE
   here-other z q = record { gives = λ n e end s. q ∙ go e (kind-of s) }
@@ -139,6 +150,7 @@ module _ {ws : List ℕ} {at name : ℕ} {r : Use} where
 
 -- ---- an expression, from its parts
 
+-- as many expressions as its shape says stand after its first words
 pub children-there : {ws : List ℕ} {at : ℕ} {r : Shape} → SomeExpr ws at → ShapedAt ws at r → SomeExprs ws (at + r .front) (r .children)
 children-there {ws} {at} {r} A S =
     let s = A .stands in
@@ -147,6 +159,7 @@ children-there {ws} {at} {r} A S =
     let f = i .items in
     record { strings = A .strings; exprs = children (A .expr); end = i .mid; stands = rw (h .front-is) f; counted = sym (h .children-is) }
 
+-- itself, or else in its children; and it ends after their end
 pub expr-done : {ws : List ℕ} {at name : ℕ} {s : Shape} {h u : Use} {c : Sought} → ShapedAt ws at s → HereIs ws at name h → SeeksExprs ws (at + s .front) name (s .children) c → useOf u ≡ orElse (useOf h) (useOf (c .first)) → SeeksExpr ws at name (record { first = u; next = c .next + s .back })
 expr-done {ws} {at} {name} {s} {h} {u} {c} S H C q = record {
   gives = λ n e end t.
@@ -157,6 +170,7 @@ expr-done {ws} {at} {name} {s} {h} {u} {c} S H C q = record {
       (q ∙ ap₂ orElse (H .gives n e end t) (g .0) ∙ sym (here-parts name e), omega (arith, g .1, p .back-is, i .to));
 }
 
+-- its last words are within the words
 pub back-fits : {ws : List ℕ} {at name : ℕ} {s : Shape} {c : Sought} → SomeExpr ws at → ShapedAt ws at s → SeeksExprs ws (at + s .front) name (s .children) c → c .next + s .back ≤ length ws
 back-fits {ws} {at} {name} {s} {c} A S C =
     let t = A .stands in
@@ -179,6 +193,7 @@ record ExprsLeft (ws : List ℕ) (n : Strings) (name : ℕ) (es : Exprs) (at end
 pub record ExprsRead (ws : List ℕ) (at name k : ℕ) (s : Sought) (i : ℕ) : Type 0 where
   gives : (n : Strings) (es : Exprs) (end : ℕ) → StandsAll ws n at es end → many es ≡ k → ExprsLeft ws n name es at end (s .next) i (s .first)
 
+-- none is sought
 pub exprs-start : (ws : List ℕ) (at name k : ℕ) {u : Use} → useOf u ≡ nothing → ExprsRead ws at name k (record { first = u; next = at }) 0
 unfolding orElse
 exprs-start ws at name k q = record { gives = λ n es end s c. record { left = es; there = s; few = omega arith; from = omega arith; is = rw q refl } }
@@ -198,12 +213,14 @@ unfolding wordsAll Valids many inExprs
 exprs-split name {es = none} z s = absurd (omega arith)
 exprs-split name {es = more e es} z s = record { head = e; mid = _; tail = es; there = record { wrote = wrote-left (words e) (wordsAll es) (s .wrote); valid = s .valid .0 }; next = record { wrote = wrote-right (words e) (s .wrote); valid = s .valid .1 }; few = refl; is = refl }
 
+-- the next one stands where the last one ended
 pub next-expr : {ws : List ℕ} {at name k i : ℕ} {s : Sought} → SomeExprs ws at k → ExprsRead ws at name k s i → i < k → SomeExpr ws (s .next) × (at ≤ s .next)
 next-expr {name = name} A R h =
     let L = R .gives _ _ _ (A .stands) (A .counted) in
     let S = exprs-split name (omega (arith, L .few, A .counted)) (L .there) in
     (record { strings = A .strings; expr = S .head; end = S .mid; stands = S .there }, L .from)
 
+-- one more sought
 pub exprs-step : {ws : List ℕ} {at name k i : ℕ} {s e : Sought} {u : Use} → ExprsRead ws at name k s i → i < k → SeeksExpr ws (s .next) name e → useOf u ≡ orElse (useOf (s .first)) (useOf (e .first)) → ExprsRead ws at name k (record { first = u; next = e .next }) (i + 1)
 exprs-step {name = name} {s = s} {e} {u} R h E q = record {
   gives = λ n es end t c.
@@ -220,6 +237,7 @@ exprs-step {name = name} {s = s} {e} {u} R h E q = record {
       };
 }
 
+-- all are sought
 pub exprs-done : {ws : List ℕ} {at name k i : ℕ} {s : Sought} → ExprsRead ws at name k s i → k ≤ i → SeeksExprs ws at name k s
 unfolding wordsAll many inExprs
 exprs-done {ws} {at} {name} {k} {i} {s} R h = record { gives = λ n es end t c. let L = R .gives n es end t c in go n es end (L .left) (L .there) (omega (arith, L .few, c)) (L .is) }

@@ -26,25 +26,31 @@ use Rattle.subscripts.proofs.Expressions.{orElse-assoc, orElse-none, fi
 -- ---- the parts of a row
 
 module _ {ws ns : List ℕ} {n : ℕ} where
+  -- the first field stands where the row stands
   pub cons-left : {s : Sort} {ss : Sorts} {v : Tree Expr (one s)} {t : Tree Expr (row ss)} {a end : ℕ} → Stands ws ns n a (cons v t) end → Stands ws ns n a v (a + length (wordsT v))
   unfolding wordsT Right
   cons-left {v = v} {t} h = record { wrote = wrote-left (wordsT v) (wordsT t) (h .wrote); valid = h .valid .0 }
 
+  -- the other fields stand after its words
   pub cons-right : {s : Sort} {ss : Sorts} {v : Tree Expr (one s)} {t : Tree Expr (row ss)} {a end : ℕ} → Stands ws ns n a (cons v t) end → Stands ws ns n (a + length (wordsT v)) t end
   unfolding wordsT Right
   cons-right {v = v} h = record { wrote = wrote-right (wordsT v) (h .wrote); valid = h .valid .1 }
 
+  -- a row of one field is this field
   pub cons-last : {s : Sort} {v : Tree Expr (one s)} {a end : ℕ} → Stands ws ns n a (cons v done) end → Stands ws ns n a v end
   unfolding wordsT Right
   cons-last {v = v} h = let w = h .wrote in record { wrote = rw (append-nil (wordsT v)) at w; valid = h .valid .0 }
 
+  -- a group is its row
   pub part-row : {ss : Sorts} {r : Tree Expr (row ss)} {a end : ℕ} → Stands ws ns n a (part r) end → Stands ws ns n a r end
   unfolding wordsT Right
   part-row h = record { wrote = h .wrote; valid = h .valid }
 
+  -- the same place under another name
   pub moved : {i : Shape} {v : Tree Expr i} {a a′ end : ℕ} → a ≡ a′ → Stands ws ns n a v end → Stands ws ns n a′ v end
   moved q h = rw q at h
 
+  -- an expression in a statement, as an expression
   pub value-there : {e : Expr} {a end : ℕ} → Stands ws ns n a (value e) end → W.Stands ws (strings ns n) a e end
   unfolding wordsT Right
   value-there h = record { wrote = h .wrote; valid = h .valid }
@@ -78,6 +84,7 @@ module _ {ws : List ℕ} {at : ℕ} where
   in-option name {v = this done} z s = absurd (z (wrote-first (s .wrote) .is))
   in-option name {v = that (part (cons (value e) done))} z s = record { expression = e; there = value-there (cons-last (record { wrote = s .wrote; valid = s .valid })); own-is = own-one name e }
 
+  -- such an option begins within the words
   pub option-here : SomeTree (one (opt (expr & nil))) ws at → at < length ws
   unfolding wordsT Right
   option-here A = go (A .tree) (A .stands)
@@ -89,9 +96,11 @@ module _ {ws : List ℕ} {at : ℕ} where
           let w = within t in
           omega (arith, w .moves, w .inside)
 
+  -- where the word isn't 0, an expression stands there
   pub option-there : (getD ws at 0 ≡ 0 → ⊥) → SomeTree (one (opt (expr & nil))) ws at → SomeExpr ws at
   option-there z A = let o = in-option 0 z (A .stands) in record { strings = strings (A .names) (A .strings); expr = o .expression; end = A .end; stands = o .there }
 
+  -- where it was sought, the option is
   pub option-done : {name : ℕ} {r : Sought} → (getD ws at 0 ≡ 0 → ⊥) → SeeksExpr ws at name r → SeeksOwn (one (opt (expr & nil))) ws at name r
   option-done {name} z E = record {
     gives = λ ns n v end s.
@@ -100,6 +109,7 @@ module _ {ws : List ℕ} {at : ℕ} where
         (g .0 ∙ sym (o .own-is), g .1);
   }
 
+  -- where the word is 0, there is no use
   pub option-absent : {name : ℕ} {u : Use} → getD ws at 0 ≡ 0 → useOf u ≡ nothing → SeeksOwn (one (opt (expr & nil))) ws at name (record { first = u; next = at + 1 })
   unfolding wordsT Right own firstOf
   option-absent {name} {u} z q = record { gives = λ ns n v end s. go ns n v end s }
@@ -132,6 +142,7 @@ module _ {ws : List ℕ} {at : ℕ} where
   in-item name {v = cons (that (that (this done))) done} k s = absurd (omega (arith, k, alone {k = 34} (cons-last s .wrote)))
   in-item name {v = cons (that (that (that v))) done} k s = elim v [ ]
 
+  -- an item begins within the words
   pub item-here : SomeTree (row (PrintItem & nil)) ws at → at < length ws
   unfolding wordsT
   item-here A = go (A .tree) (A .stands)
@@ -142,9 +153,11 @@ module _ {ws : List ℕ} {at : ℕ} where
       go (cons (that (that (this done))) done) s = wrote-first (cons-last s .wrote) .inside
       go (cons (that (that (that v))) done) s = elim v [ ]
 
+  -- behind the head 32 an expression stands
   pub item-there : kindOf (getD ws at 0) ≡ 32 → SomeTree (row (PrintItem & nil)) ws at → SomeExpr ws (at + 1)
   item-there k A = let o = in-item 0 k (A .stands) in record { strings = strings (A .names) (A .strings); expr = o .expression; end = A .end; stands = o .there }
 
+  -- where it was sought, the item is
   pub item-done : {name : ℕ} {r : Sought} → kindOf (getD ws at 0) ≡ 32 → SeeksExpr ws (at + 1) name r → SeeksOwn (row (PrintItem & nil)) ws at name r
   item-done {name} k E = record {
     gives = λ ns n v end s.
@@ -153,6 +166,7 @@ module _ {ws : List ℕ} {at : ℕ} where
         (g .0 ∙ sym (o .own-is), g .1);
   }
 
+  -- behind another head there is no use
   pub item-alone : {name : ℕ} {u : Use} → (kindOf (getD ws at 0) ≡ 32 → ⊥) → useOf u ≡ nothing → SeeksOwn (row (PrintItem & nil)) ws at name (record { first = u; next = at + 1 })
   unfolding wordsT Right own firstOf
   item-alone {name} {u} z q = record { gives = λ ns n v end s. go ns n v end s }
@@ -165,13 +179,16 @@ module _ {ws : List ℕ} {at : ℕ} where
 
 -- ---- a list of rows, by two questions to each
 
+-- the first answer of the rows
 unfoldable pub foldRows : {ss : Sorts} → (Tree Expr (row ss) → Option ℕ) → Tree Expr (rows ss) → Option ℕ
 foldRows f none = nothing
 foldRows f (more r rs) = orElse (f r) (foldRows f rs)
 
+-- the first use in a row's own expressions
 abbrev pub ownOf : ℕ → {ss : Sorts} → Tree Expr (row ss) → Option ℕ
 ownOf name r = firstOf (inExpr name) (own r)
 
+-- the first use in a list's own expressions is the first that its rows have
 pub own-rows : (name : ℕ) {ss : Sorts} (rs : Tree Expr (rows ss)) → firstOf (inExpr name) (own rs) ≡ foldRows (λ (r : Tree Expr (row ss)). ownOf name r) rs
 unfolding own foldRows firstOf
 own-rows name none = refl
@@ -189,13 +206,16 @@ record RowsLeft {ss : Sorts} (f g : Tree Expr (row ss) → Option ℕ) (ws ns : 
 pub record ListRead {ss : Sorts} (f g : Tree Expr (row ss) → Option ℕ) (ws : List ℕ) (at a i : ℕ) (u w : Option ℕ) : Type 0 where
   gives : (ns : List ℕ) (n : ℕ) (rs : Tree Expr (rows ss)) (end : ℕ) → Stands ws ns n (at + 1) rs end → count rs ≡ payOf (getD ws at 0) → RowsLeft f g ws ns n rs (at + 1) end a i u w
 
+-- a list begins within the words
 pub list-here : {ss : Sorts} {ws : List ℕ} {at : ℕ} → SomeTree (one (many ss)) ws at → at < length ws
 list-here {ws = ws} A = let t = in-list ws (A .names) (A .strings) (A .stands) .there .wrote in omega (arith, t .span, t .inside)
 
+-- no row is asked
 pub list-start : {ss : Sorts} (f g : Tree Expr (row ss) → Option ℕ) (ws : List ℕ) (at : ℕ) {u w : Option ℕ} → u ≡ nothing → w ≡ nothing → ListRead f g ws at (at + 1) 0 u w
 unfolding orElse
 list-start f g ws at p q = record { gives = λ ns n rs end s c. record { left = rs; there = s; few = omega arith; from = omega arith; first-is = rw p refl; second-is = rw q refl } }
 
+-- the next row stands at a, behind the list's head
 pub list-next : {ss : Sorts} {f g : Tree Expr (row ss) → Option ℕ} {ws : List ℕ} {at a i : ℕ} {u w : Option ℕ} → SomeTree (one (many ss)) ws at → ListRead f g ws at a i u w → i < payOf (getD ws at 0) → SomeTree (row ss) ws a × (at < a)
 list-next {ws = ws} A R h =
     let I = in-list ws (A .names) (A .strings) (A .stands) in
@@ -207,6 +227,7 @@ fold-more : {ss : Sorts} (f : Tree Expr (row ss) → Option ℕ) {rs : Tree Expr
 unfolding foldRows
 fold-more f r t e u p q d = p ∙ ap (λ (z : Tree Expr (rows _)). orElse u (foldRows f z)) e ∙ sym (orElse-assoc u (f r) (foldRows f t)) ∙ ap (λ (o : Option ℕ). orElse o (foldRows f t)) (sym (d ∙ ap (orElse u) q))
 
+-- one more asked
 pub list-step : {ss : Sorts} {f g : Tree Expr (row ss) → Option ℕ} {ws : List ℕ} {at a i : ℕ} {u w : Option ℕ} {a′ : ℕ} {u′ w′ : Option ℕ} → ListRead f g ws at a i u w → i < payOf (getD ws at 0) → (x y : Option ℕ) → ((ns : List ℕ) (n : ℕ) (r : Tree Expr (row ss)) (end : ℕ) → Stands ws ns n a r end → (x ≡ f r) × (y ≡ g r) × (a′ ≡ end)) → u′ ≡ orElse u x → w′ ≡ orElse w y → ListRead f g ws at a′ (i + 1) u′ w′
 list-step {f = f} {g} {ws} {u = u} {w} R h x y d p q = record {
   gives = λ ns n rs end s c.
@@ -244,16 +265,20 @@ pub record ItemsRead (ws : List ℕ) (at name n : ℕ) (s : Sought) (i : ℕ) : 
   all : n ≡ payOf (getD ws at 0)
   read : ListRead (λ (r : Tree Expr (row (PrintItem & nil))). ownOf name r) (λ (r : Tree Expr (row (PrintItem & nil))). ownOf name r) ws at (s .next) i (useOf (s .first)) (useOf (s .first))
 
+-- none is sought
 pub items-start : (ws : List ℕ) (at name : ℕ) {u : Use} → useOf u ≡ nothing → ItemsRead ws at name (payOf (getD ws at 0)) (record { first = u; next = at + 1 }) 0
 items-start ws at name q = record { all = refl; read = list-start (λ (r : Tree Expr (row (PrintItem & nil))). ownOf name r) (λ (r : Tree Expr (row (PrintItem & nil))). ownOf name r) ws at q q }
 
 module _ {ws : List ℕ} {at name n : ℕ} {s : Sought} {i : ℕ} (R : ItemsRead ws at name n s i) where
+  -- the next item stands where the last one ended
   pub items-next : SomeTree (one (many (PrintItem & nil))) ws at → i < n → SomeTree (row (PrintItem & nil)) ws (s .next)
   items-next A h = list-next A (R .read) (omega (arith, R .all)) .0
 
+  -- one more sought
   pub items-step : {e : Sought} {u : Use} → i < n → SeeksOwn (row (PrintItem & nil)) ws (s .next) name e → useOf u ≡ orElse (useOf (s .first)) (useOf (e .first)) → ItemsRead ws at name n (record { first = u; next = e .next }) (i + 1)
   items-step {e} h E q = record { all = R .all; read = list-step (R .read) (omega (arith, R .all)) (useOf (e .first)) (useOf (e .first)) (λ ns k r end t. let g = E .gives ns k r end t in (g .0, g .0, g .1)) q q }
 
+  -- all are sought
   pub items-done : n ≤ i → SeeksOwn (one (many (PrintItem & nil))) ws at name s
   unfolding own
   items-done h = record { gives = λ ns k v end t. go ns k v end (in-list ws ns k t) }

@@ -111,15 +111,18 @@ unfolding kindAt kinds
 in-let name {ws} {at} {ns} {n} {end} q s = of-kind 2 (λ v. InLet name ws at ns n end v) (λ line r t. let-fields name line r t) q s
 
 module _ {ws : List ℕ} {at : ℕ} where
+  -- its name and indices stand after the head
   pub let-there : KindAt 2 ws at → IndexedAt ws (at + 1)
   let-there A = let i = in-let 0 (A .kind) (A .some .stands) in record { some = record { names = A .some .names; strings = A .some .strings; tree = i .is; end = i .mid; stands = i .indices } }
 
+  -- its value after them
   pub let-value : {name : ℕ} {t : Target} → KindAt 2 ws at → SeeksIndexed ws (at + 1) name t → SomeExpr ws (t .next)
   let-value {name} {t} A T =
       let i = in-let name (A .kind) (A .some .stands) in
       let q : t .next ≡ i .mid = T .gives (A .some .names) (A .some .strings) (i .is) (i .mid) (i .indices) .2 in
       record { strings = strings (A .some .names) (A .some .strings); expr = i .value-is; end = A .some .end; stands = rw q (i .there) }
 
+  -- the target, then the indices, then the value
   pub let-done : {name : ℕ} {t : Target} {e : Sought} {o : Option ℕ} {w : Use} → KindAt 2 ws at → SeeksIndexed ws (at + 1) name t → SeeksExpr ws (t .next) name e → o ≡ orElse (useOf (t .own)) (useOf (e .first)) → useOf w ≡ orElse (useOf (t .target)) o → SeeksStmt ws at name (record { first = w; next = e .next })
   let-done {name} {t} {e} A T E p q = record {
     gives = λ ns n v end s.
@@ -171,10 +174,12 @@ unfolding kindAt kinds
 in-print name {ws} {at} {ns} {n} {end} q s = of-kind 3 (λ v. InPrint name ws at ns n end v) (λ line r t. print-fields name line r t) q s
 
 module _ {ws : List ℕ} {at : ℕ} where
+  -- its file number stands after the head
   pub print-file : KindAt 3 ws at → SomeTree (one (opt (expr & nil))) ws (at + 1)
   print-file A = let i = in-print 0 (A .kind) (A .some .stands) in record { names = A .some .names; strings = A .some .strings; tree = i .file; end = i .a; stands = i .file-there }
 
   module _ {name : ℕ} {f : Sought} (A : KindAt 3 ws at) (F : SeeksOwn (one (opt (expr & nil))) ws (at + 1) name f) where
+    -- its items after that
     pub print-items : SomeTree (one (many (PrintItem & nil))) ws (f .next)
     print-items =
         let i = in-print name (A .kind) (A .some .stands) in
@@ -182,6 +187,7 @@ module _ {ws : List ℕ} {at : ℕ} where
         record { names = A .some .names; strings = A .some .strings; tree = i .its; end = i .b; stands = rw q (i .items-there) }
 
     module _ {l : Sought} (L : SeeksOwn (one (many (PrintItem & nil))) ws (f .next) name l) where
+      -- its USING after the items and a flag
       pub print-pattern : SomeTree (one (opt (expr & nil))) ws (l .next + 1)
       print-pattern =
           let i = in-print name (A .kind) (A .some .stands) in
@@ -189,10 +195,12 @@ module _ {ws : List ℕ} {at : ℕ} where
           let p : l .next ≡ i .b = L .gives (A .some .names) (A .some .strings) (i .its) (i .b) (rw q (i .items-there)) .1 in
           record { names = A .some .names; strings = A .some .strings; tree = i .pattern; end = i .c; stands = rw p (i .pattern-there) }
 
+      -- this flag is within the words
       pub print-fits : l .next + 1 ≤ length ws
       print-fits = let s = print-pattern .stands .wrote in omega (arith, s .span, s .inside)
 
       module _ {p : Sought} (P : SeeksOwn (one (opt (expr & nil))) ws (l .next + 1) name p) where
+        -- so is the last one
         pub print-ends : p .next + 1 ≤ length ws
         print-ends =
             let i = in-print name (A .kind) (A .some .stands) in
@@ -202,6 +210,7 @@ module _ {ws : List ℕ} {at : ℕ} where
             let w = A .some .stands .wrote in
             omega (arith, e, i .to, w .inside)
 
+        -- the file number, then USING, then the items
         pub print-done : {o : Option ℕ} {w : Use} → o ≡ orElse (useOf (p .first)) (useOf (l .first)) → useOf w ≡ orElse (useOf (f .first)) o → SeeksStmt ws at name (record { first = w; next = p .next + 1 })
         print-done x y = record {
           gives = λ ns n v end s.
@@ -249,15 +258,18 @@ unfolding kindAt kinds
 in-input name {ws} {at} {ns} {n} {end} q s = of-kind 4 (λ v. InInput name ws at ns n end v) (λ line r t. input-fields name line r t) q s
 
 module _ {ws : List ℕ} {at : ℕ} where
+  -- its targets stand after the head, the prompt and a flag
   pub input-there : KindAt 4 ws at → SomeTree (one (many LValueRow)) ws (at + 3)
   input-there A = let i = in-input 0 (A .kind) (A .some .stands) in record { names = A .some .names; strings = A .some .strings; tree = i .vars; end = i .a; stands = i .vars-there }
 
+  -- its file number after them
   pub input-file : {name : ℕ} {t : Target} → KindAt 4 ws at → SeeksTargets ws (at + 3) name t → SomeTree (one (opt (expr & nil))) ws (t .next)
   input-file {name} {t} A T =
       let i = in-input name (A .kind) (A .some .stands) in
       let q : t .next ≡ i .a = T .gives (A .some .names) (A .some .strings) (i .vars) (i .a) (i .vars-there) .2 in
       record { names = A .some .names; strings = A .some .strings; tree = i .file; end = A .some .end; stands = rw q (i .file-there) }
 
+  -- the targets, then the file number, then the indices
   pub input-done : {name : ℕ} {t : Target} {f : Sought} {o : Option ℕ} {w : Use} → KindAt 4 ws at → SeeksTargets ws (at + 3) name t → SeeksOwn (one (opt (expr & nil))) ws (t .next) name f → o ≡ orElse (useOf (f .first)) (useOf (t .own)) → useOf w ≡ orElse (useOf (t .target)) o → SeeksStmt ws at name (record { first = w; next = f .next })
   input-done {name} A T F p q = record {
     gives = λ ns n v end s.
@@ -296,15 +308,18 @@ unfolding kindAt kinds
 in-line name {ws} {at} {ns} {n} {end} q s = of-kind 5 (λ v. InLine name ws at ns n end v) (λ line r t. line-fields name line r t) q s
 
 module _ {ws : List ℕ} {at : ℕ} where
+  -- its target stands after the head and the prompt
   pub line-there : KindAt 5 ws at → SomeTree (row LValueRow) ws (at + 2)
   line-there A = let i = in-line 0 (A .kind) (A .some .stands) in record { names = A .some .names; strings = A .some .strings; tree = i .var; end = i .a; stands = i .var-there }
 
+  -- its file number after it
   pub line-file : {name : ℕ} {t : Target} → KindAt 5 ws at → SeeksTarget ws (at + 2) name t → SomeTree (one (opt (expr & nil))) ws (t .next)
   line-file {name} {t} A T =
       let i = in-line name (A .kind) (A .some .stands) in
       let q : t .next ≡ i .a = T .gives (A .some .names) (A .some .strings) (i .var) (i .a) (i .var-there) .2 in
       record { names = A .some .names; strings = A .some .strings; tree = i .file; end = A .some .end; stands = rw q (i .file-there) }
 
+  -- the target, then the file number, then the indices
   pub line-done : {name : ℕ} {t : Target} {f : Sought} {o : Option ℕ} {w : Use} → KindAt 5 ws at → SeeksTarget ws (at + 2) name t → SeeksOwn (one (opt (expr & nil))) ws (t .next) name f → o ≡ orElse (useOf (f .first)) (useOf (t .own)) → useOf w ≡ orElse (useOf (t .target)) o → SeeksStmt ws at name (record { first = w; next = f .next })
   line-done {name} A T F p q = record {
     gives = λ ns n v end s.
@@ -340,15 +355,18 @@ unfolding kindAt kinds
 in-swap name {ws} {at} {ns} {n} {end} q s = of-kind 24 (λ v. InSwap name ws at ns n end v) (λ line r t. swap-fields name line r t) q s
 
 module _ {ws : List ℕ} {at : ℕ} where
+  -- its first target stands after the head
   pub swap-there : KindAt 24 ws at → SomeTree (row LValueRow) ws (at + 1)
   swap-there A = let i = in-swap 0 (A .kind) (A .some .stands) in record { names = A .some .names; strings = A .some .strings; tree = i .left; end = i .a; stands = i .left-there }
 
+  -- its second after the first
   pub swap-next : {name : ℕ} {t : Target} → KindAt 24 ws at → SeeksTarget ws (at + 1) name t → SomeTree (row LValueRow) ws (t .next)
   swap-next {name} {t} A T =
       let i = in-swap name (A .kind) (A .some .stands) in
       let q : t .next ≡ i .a = T .gives (A .some .names) (A .some .strings) (i .left) (i .a) (i .left-there) .2 in
       record { names = A .some .names; strings = A .some .strings; tree = i .right; end = A .some .end; stands = rw q (i .right-there) }
 
+  -- both targets, then the indices of both
   pub swap-done : {name : ℕ} {t t′ : Target} {z o : Option ℕ} {w : Use} → KindAt 24 ws at → SeeksTarget ws (at + 1) name t → SeeksTarget ws (t .next) name t′ → z ≡ orElse (useOf (t .target)) (useOf (t′ .target)) → o ≡ orElse (useOf (t .own)) (useOf (t′ .own)) → useOf w ≡ orElse z o → SeeksStmt ws at name (record { first = w; next = t′ .next })
   swap-done {name} A T T′ o p q = record {
     gives = λ ns n v end s.
@@ -374,9 +392,11 @@ unfolding kindAt kinds
 in-read name {ws} {at} {ns} {n} {end} q s = of-kind 32 (λ v. InRead name ws at ns n end v) (λ line r t. read-fields name line r t) q s
 
 module _ {ws : List ℕ} {at : ℕ} where
+  -- its targets stand after the head
   pub read-there : KindAt 32 ws at → SomeTree (one (many LValueRow)) ws (at + 1)
   read-there A = let i = in-read 0 (A .kind) (A .some .stands) in record { names = A .some .names; strings = A .some .strings; tree = i .vars; end = A .some .end; stands = i .there }
 
+  -- the targets, then the indices
   pub read-done : {name : ℕ} {t : Target} {u : Use} → KindAt 32 ws at → SeeksTargets ws (at + 1) name t → useOf u ≡ orElse (useOf (t .target)) (useOf (t .own)) → SeeksStmt ws at name (record { first = u; next = t .next })
   read-done {name} A T q = record {
     gives = λ ns n v end s.
@@ -387,16 +407,19 @@ module _ {ws : List ℕ} {at : ℕ} where
 
 -- ---- which kinds they are
 
+-- LET, PRINT, INPUT and LINE INPUT are
 pub targeted-range : (k : ℕ) → 66 ≤ k → k < 70 → true ≡ targeted k
 unfolding targeted
 targeted-range k a b =
     let h : k ≤ 69 = omega arith in
     rw (le-leb 66 k a, le-leb k 69 h) refl
 
+-- of the kinds below them none is
 pub targeted-below : (k : ℕ) → k < 66 → (k ≡ 88 → ⊥) → (k ≡ 96 → ⊥) → false ≡ targeted k
 unfolding targeted
 targeted-below k a y z = rw (lt-leb 66 k a, ne-eqb k 88 y, ne-eqb k 96 z) refl
 
+-- nor is any above them but SWAP and READ
 pub targeted-above : (k : ℕ) → 70 ≤ k → (k ≡ 88 → ⊥) → (k ≡ 96 → ⊥) → false ≡ targeted k
 unfolding targeted
 targeted-above k a y z =
@@ -418,6 +441,7 @@ read-kind k t a b c d e = go (eqb k 96) refl
 
 -- ---- all other kinds
 
+-- they have no such targets, and their expressions stand in the words' order
 pub plain-uses : (k : Kind) (r : Tree Expr (row (sorts k))) → targeted (64 + numberOf k) ≡ false → uses k r ≡ plain r
 unfolding targeted numberOf uses
 plain-uses label r z = refl

@@ -63,6 +63,7 @@ module _ {ws : List ℕ} {at : ℕ} where
         indices = ap some (length-members rs ∙ c);
       }
 
+  -- the word after the name is within the words
   pub indexed-here : IndexedAt ws at → at + 1 < length ws
   unfolding wordsT
   indexed-here A = go (A .some .tree) (A .some .stands)
@@ -71,9 +72,11 @@ module _ {ws : List ℕ} {at : ℕ} where
       go (this done) s = wrote-first (s .wrote) .inside
       go (that (part (cons (list rs) done))) s = wrote-first (s .wrote) .inside
 
+  -- where it isn't 0, it is a list's head, and as many expressions follow
   pub indexed-there : (getD ws (at + 1) 0 ≡ 0 → ⊥) → IndexedAt ws at → SomeExprs ws (at + 2) (payOf (getD ws (at + 1) 0))
   indexed-there z A = let i = in-indices 0 z (A .some .stands) in record { strings = strings (A .some .names) (A .some .strings); exprs = i .es; end = A .some .end; stands = i .there; counted = i .counted }
 
+  -- where it is 0, there is no use
   pub indexed-absent : {name : ℕ} {u w : Use} → getD ws (at + 1) 0 ≡ 0 → useOf u ≡ nothing → useOf w ≡ nothing → SeeksIndexed ws at name (record { target = u; own = w; next = at + 2 })
   unfolding wordsT own firstOf inLvalue indexed optional
   indexed-absent {name} {u} {w} z p q = record { gives = λ ns n is end s. go ns n is end s }
@@ -86,6 +89,7 @@ module _ {ws : List ℕ} {at : ℕ} where
       go ns n (this done) end s = (p ∙ unused (eqb (payOf (getD ws at 0)) name), q, omega (arith, s .wrote .span))
       go ns n (that (part (cons (list rs) done))) end s = let f = wrote-first (s .wrote) in absurd (omega (arith, f .is, z))
 
+  -- the target's own count, and what the indices have
   pub indexed-done : {name : ℕ} {u : Use} {s : Sought} → (getD ws (at + 1) 0 ≡ 0 → ⊥) → useOf u ≡ pick (eqb (payOf (getD ws at 0)) name) (some (payOf (getD ws (at + 1) 0))) nothing → SeeksExprs ws (at + 2) name (payOf (getD ws (at + 1) 0)) s → SeeksIndexed ws at name (record { target = u; own = s .first; next = s .next })
   unfolding inLvalue
   indexed-done {name} {u} {s} z q E = record {
@@ -136,6 +140,7 @@ in-target {ws} {at} {ns} {n} {v = cons (word x) (cons is (cons (list fs) done))}
     }
 
 module _ {ws : List ℕ} {at : ℕ} where
+  -- its name and indices come first
   pub target-there : SomeTree (row LValueRow) ws at → IndexedAt ws at
   target-there A = let i = in-target (A .stands) in record { some = record { names = A .names; strings = A .strings; tree = i .is; end = i .mid; stands = i .there } }
 
@@ -148,6 +153,7 @@ module _ {ws : List ℕ} {at : ℕ} where
       let e : t .next + 1 + payOf (getD ws (t .next) 0) ≡ A .end = rw q (i .to) in
       (omega (arith, q, i .fits), omega (arith, e, w .inside))
 
+  -- it ends after the list of its field names, in which there is no use
   pub target-done : {name : ℕ} {t : Target} → SeeksIndexed ws at name t → SeeksTarget ws at name (record { target = t .target; own = t .own; next = t .next + 1 + payOf (getD ws (t .next) 0) })
   target-done {name} {t} T = record {
     gives = λ ns n v end s.
@@ -168,16 +174,20 @@ pub record TargetsRead (ws : List ℕ) (at name n : ℕ) (t : Target) (i : ℕ) 
   all : n ≡ payOf (getD ws at 0)
   read : ListRead (λ (r : Tree Expr (row LValueRow)). inLvalue name (lvalue r)) (λ (r : Tree Expr (row LValueRow)). ownOf name r) ws at (t .next) i (useOf (t .target)) (useOf (t .own))
 
+-- none is sought
 pub targets-start : (ws : List ℕ) (at name : ℕ) {u w : Use} → useOf u ≡ nothing → useOf w ≡ nothing → TargetsRead ws at name (payOf (getD ws at 0)) (record { target = u; own = w; next = at + 1 }) 0
 targets-start ws at name p q = record { all = refl; read = list-start (λ (r : Tree Expr (row LValueRow)). inLvalue name (lvalue r)) (λ (r : Tree Expr (row LValueRow)). ownOf name r) ws at p q }
 
 module _ {ws : List ℕ} {at name n : ℕ} {t : Target} {i : ℕ} (R : TargetsRead ws at name n t i) where
+  -- the next one stands where the last one ended
   pub targets-next : SomeTree (one (manySort LValueRow)) ws at → i < n → SomeTree (row LValueRow) ws (t .next)
   targets-next A h = list-next A (R .read) (omega (arith, R .all)) .0
 
+  -- one more sought
   pub targets-step : {v : Target} {u w : Use} → i < n → SeeksTarget ws (t .next) name v → useOf u ≡ orElse (useOf (t .target)) (useOf (v .target)) → useOf w ≡ orElse (useOf (t .own)) (useOf (v .own)) → TargetsRead ws at name n (record { target = u; own = w; next = v .next }) (i + 1)
   targets-step {v} h T p q = record { all = R .all; read = list-step (R .read) (omega (arith, R .all)) (useOf (v .target)) (useOf (v .own)) (λ ns k r end s. T .gives ns k r end s) p q }
 
+  -- all are sought
   pub targets-done : n ≤ i → SeeksTargets ws at name t
   unfolding own items
   targets-done h = record { gives = λ ns k v end s. go ns k v end (in-list ws ns k s) }

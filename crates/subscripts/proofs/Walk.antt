@@ -68,6 +68,7 @@ nested-pieces name (more r rs) = nested-append name (pieces r) (pieces rs) ∙ a
 
 -- ---- parts, one after another
 
+-- before the first part no use was found
 pub counted-none : {name : ℕ} {o m : Use} → useOf o ≡ nothing → useOf m ≡ nothing → (ns : List ℕ) (n : ℕ) → Counted name o m ns n []
 unfolding ownUse nestedUse
 counted-none p q ns n = record { own-is = p; nested-is = q }
@@ -78,17 +79,21 @@ counted-join {name} J ns n xs ys p q = record {
   nested-is = J .nested-is ∙ ap₂ orElse (p .nested-is) (q .nested-is) ∙ sym (nested-append name xs ys);
 }
 
+-- one row more: its uses after those before
 pub each-step : {ss : Sorts} {k : ℕ} {ws : List ℕ} {at i name : ℕ} {w m r : Walked} → WalkedRows ss k ws at (w .next) i (Counted name (w .own) (w .nested)) → i < k → Walks (row ss) ws (w .next) (m .next) (Counted name (m .own) (m .nested)) → Joins w m r → WalkedRows ss k ws at (r .next) (i + 1) (Counted name (r .own) (r .nested))
 each-step {name = name} {w} {m} {r} W h M J = rw (J .next-is) (rows-step {P′ = Counted name (r .own) (r .nested)} W h M (λ ns n xs ys p q. counted-join J ns n xs ys p q))
 
+-- one field more: its uses after those before
 pub field-step : {f : ℕ} {ws : List ℕ} {at i k name : ℕ} {w m r : Walked} → WalkedRow f ws at (w .next) i (Counted name (w .own) (w .nested)) → k ≡ getD (codes f) i 0 → (k ≡ 0 → ⊥) → Walks (one (sortAt k)) ws (w .next) (m .next) (Counted name (m .own) (m .nested)) → Joins w m r → WalkedRow f ws at (r .next) (i + 1) (Counted name (r .own) (r .nested))
 field-step {name = name} {w} {m} {r} W e z M J = rw (J .next-is) (row-step {P′ = Counted name (r .own) (r .nested)} W e z M (λ ns n xs ys p q. counted-join J ns n xs ys p q))
 
 -- ---- an expression, a statement
 
+-- an expression stands there
 pub value-some : {ws : List ℕ} {at : ℕ} → SomeTree (one expr) ws at → SomeExpr ws at
 value-some A = let x = in-value (A .stands) in record { strings = strings (A .names) (A .strings); expr = x .expression; end = A .end; stands = x .there }
 
+-- an expression: its first use is an own one
 pub value-walked : {ws : List ℕ} {at name : ℕ} {e : Sought} {m : Use} → SeeksExpr ws at name e → useOf m ≡ nothing → Walks (one expr) ws at (e .next) (Counted name (e .first) m)
 unfolding ownUse nestedUse
 value-walked {name = name} {e} {m} E q = value-done {P = Counted name (e .first) m} (λ ns n x end s. let g = E .gives (strings ns n) x end s in (g .1, record { own-is = g .0 ∙ sym (orElse-none (inExpr name x)); nested-is = q }))
@@ -97,6 +102,7 @@ own-stmt : (name : ℕ) (v : Tree Expr (one stmt)) → nothing ≡ firstOf (inEx
 unfolding own firstOf
 own-stmt name (Stmt k line r) = refl
 
+-- a statement: its first use is a nested one
 pub stmt-walked : {ws : List ℕ} {at name : ℕ} {s : Sought} {o : Use} → SeeksStmt ws at name s → useOf o ≡ nothing → Walks (one stmt) ws at (s .next) (Counted name o (s .first))
 stmt-walked {name = name} S q = record {
   gives = λ ns n v end t.

@@ -6,6 +6,7 @@ use Rattle.expr.specs.Expr.{Expr, Exprs, Lit, Var, Elem, Unary, Binary, Call, F
 use Rattle.views.specs.Strip.{stripE, stripL}
 use Rattle.subscripts.specs.Subscripts.{orElse, subscripted, inExpr, inExprs}
 
+-- a list keeps its length
 pub many-strip : (es : Exprs) → many (stripL es) ≡ many es
 unfolding many stripL
 many-strip none = refl
@@ -14,6 +15,7 @@ many-strip (more e es) = ap (λ n. n + 1) (many-strip es)
 mutual
   unfolding inExpr inExprs stripE stripL
 
+  -- the first use of a name in an expression stays
   pub inExpr-strip : (n : ℕ) (e : Expr) → inExpr n (stripE e) ≡ inExpr n e
   inExpr-strip n (Lit l) = refl
   inExpr-strip n (Var x) = refl

@@ -21,6 +21,7 @@ use Rattle.subscripts.specs.declared.Sought.{Sought}
 use Rattle.subscripts.specs.declared.Target.{Target}
 use Rattle.subscripts.specs.declared.Walked.{Walked}
 
+-- the code's answer as the definition's: the count, where a use was found
 unfoldable pub useOf : Use → Option ℕ
 useOf u = pick (u .found) (some (u .count)) nothing
 
@@ -37,9 +38,11 @@ hereOf name (Call n es) = subscripted (eqb n name) (many es)
 hereOf name (Field e f) = nothing
 hereOf name (Paren e) = nothing
 
+-- what the code says of the expression there, without what stands in it
 pub record HereIs (ws : List ℕ) (at name : ℕ) (r : Use) : Type 0 where
   pub gives : (n : Strings) (e : Expr) (end : ℕ) → W.Stands ws n at e end → useOf r ≡ hereOf name e
 
+-- the first use in whatever expression stands there, and its end
 pub record SeeksExpr (ws : List ℕ) (at name : ℕ) (r : Sought) : Type 0 where
   pub gives : (n : Strings) (e : Expr) (end : ℕ) → W.Stands ws n at e end → (useOf (r .first) ≡ inExpr name e) × (r .next ≡ end)
 
@@ -51,11 +54,13 @@ pub record SomeExprs (ws : List ℕ) (at k : ℕ) : Type 0 where
   pub stands : W.StandsAll ws strings at exprs end
   pub counted : many exprs ≡ k
 
+-- in whatever k expressions stand there
 pub record SeeksExprs (ws : List ℕ) (at name k : ℕ) (r : Sought) : Type 0 where
   pub gives : (n : Strings) (es : Exprs) (end : ℕ) → W.StandsAll ws n at es end → many es ≡ k → (useOf (r .first) ≡ inExprs name es) × (r .next ≡ end)
 
 -- ---- parts of a statement without statements in them
 
+-- in the own expressions of whatever part stands there
 pub record SeeksOwn (i : Shape) (ws : List ℕ) (at name : ℕ) (r : Sought) : Type 0 where
   pub gives : (ns : List ℕ) (n : ℕ) (v : Tree Expr i) (end : ℕ) → Stands ws ns n at v end → (useOf (r .first) ≡ firstOf (inExpr name) (own v)) × (r .next ≡ end)
 
@@ -63,14 +68,17 @@ pub record SeeksOwn (i : Shape) (ws : List ℕ) (at name : ℕ) (r : Sought) : T
 pub record IndexedAt (ws : List ℕ) (at : ℕ) : Type 0 where
   pub some : SomeTree (one (opt (exprs & nil))) ws (at + 1)
 
+-- of the name itself, and in the indices
 pub record SeeksIndexed (ws : List ℕ) (at name : ℕ) (r : Target) : Type 0 where
   pub gives : (ns : List ℕ) (n : ℕ) (is : Tree Expr (one (opt (exprs & nil)))) (end : ℕ) → Stands ws ns n (at + 1) is end
       → (useOf (r .target) ≡ inLvalue name (record { name = payOf (getD ws at 0); indices = optional expressions is })) × (useOf (r .own) ≡ firstOf (inExpr name) (own is)) × (r .next ≡ end)
 
+-- of the target itself, and in its indices
 pub record SeeksTarget (ws : List ℕ) (at name : ℕ) (r : Target) : Type 0 where
   pub gives : (ns : List ℕ) (n : ℕ) (v : Tree Expr (row LValueRow)) (end : ℕ) → Stands ws ns n at v end
       → (useOf (r .target) ≡ inLvalue name (lvalue v)) × (useOf (r .own) ≡ firstOf (inExpr name) (own v)) × (r .next ≡ end)
 
+-- of the targets themselves, and in the indices of all
 pub record SeeksTargets (ws : List ℕ) (at name : ℕ) (r : Target) : Type 0 where
   pub gives : (ns : List ℕ) (n : ℕ) (v : Tree Expr (one (manySort LValueRow))) (end : ℕ) → Stands ws ns n at v end
       → (useOf (r .target) ≡ firstOf (inLvalue name) (items lvalue v)) × (useOf (r .own) ≡ firstOf (inExpr name) (own v)) × (r .next ≡ end)
@@ -82,6 +90,7 @@ pub record KindAt (j : ℕ) (ws : List ℕ) (at : ℕ) : Type 0 where
   pub some : SomeTree (one stmt) ws at
   pub kind : kindOf (getD ws at 0) ≡ 64 + j
 
+-- in whatever statement stands there, with its bodies
 pub record SeeksStmt (ws : List ℕ) (at name : ℕ) (r : Sought) : Type 0 where
   pub gives : (ns : List ℕ) (n : ℕ) (v : Tree Expr (one stmt)) (end : ℕ) → Stands ws ns n at v end → (useOf (r .first) ≡ subscriptCount (λ name (e : Expr). inExpr name e) name v) × (r .next ≡ end)
 
@@ -103,10 +112,12 @@ nestedUse name [] = nothing
 nestedUse name (exprPiece e ∷ ps) = nestedUse name ps
 nestedUse name (stmtPiece k line r ∷ ps) = orElse (subscriptCount (λ name (e : Expr). inExpr name e) name (Stmt k line r)) (nestedUse name ps)
 
+-- the first own and the first nested use in some pieces
 pub record Counted (name : ℕ) (o m : Use) (ns : List ℕ) (n : ℕ) (ps : List (Piece Expr)) : Type 0 where
   pub own-is : useOf o ≡ ownUse name ps
   pub nested-is : useOf m ≡ nestedUse name ps
 
+-- the uses of one part, or else of the next
 pub record Joins (a b r : Walked) : Type 0 where
   pub own-is : useOf (r .own) ≡ orElse (useOf (a .own)) (useOf (b .own))
   pub nested-is : useOf (r .nested) ≡ orElse (useOf (a .nested)) (useOf (b .nested))

@@ -42,6 +42,7 @@ module _ {E F : Type 0} (g : E → F) (of-E : ℕ → E → Option ℕ) (of-F : 
   unfolding inStmt overUses
   stmt-over k r = ap (λ (u : Uses F). inStmt of-F name u) (uses-over g k r) ∙ ap₂ orElse (targets-over g name (uses k r .targets)) (exprs-over (uses k r .exprs))
 
+  -- where g keeps the name's use in each expression, the count of the tree under g is the tree's
   pub subscriptCount-over : {i : Shape} (t : Tree E i) → subscriptCount of-F name (over g t) ≡ subscriptCount of-E name t
   unfolding subscriptCount over
   subscriptCount-over (word x) = refl

@@ -29,6 +29,7 @@ subscripted false n = nothing
 
 -- `in_expr`: an element and a call alike, and before what stands in their lists; left before right
 unfoldable mutual
+  -- the first use in an expression
   pub inExpr : ℕ → Expr → Option ℕ
   inExpr name (Lit l) = nothing
   inExpr name (Var n) = nothing
@@ -39,6 +40,7 @@ unfoldable mutual
   inExpr name (Field e f) = inExpr name e
   inExpr name (Paren e) = inExpr name e
 
+  -- the first use in several
   pub inExprs : ℕ → Exprs → Option ℕ
   inExprs name none = nothing
   inExprs name (more e es) = orElse (inExpr name e) (inExprs name es)

@@ -31,6 +31,7 @@ up-step l i to w h k =
     ∙ set-at (take (i + w) l) (getD l (i + w) 0) rest (getD l i 0) (i + w) (length-take-le (i + w) l (omega arith))
     ∙ ap (λ (x : List ℕ). take (i + w) l ++ (x ++ drop (to + w) l)) (sym (slice-cons i to l 0 h (omega arith)))
 
+-- a turn
 pub up-turn : (l b : List ℕ) (i to w : ℕ) → 0 < i → i ≤ to → to + w ≤ length l → b ≡ take (i + w) l ++ (slice i to l ++ drop (to + w) l)
     → set b (i - 1 + w) (getD b (i - 1) 0) ≡ take (i - 1 + w) l ++ (slice (i - 1) to l ++ drop (to + w) l)
 up-turn l b zero to w z h k e = absurd (not-suc-le-zero z)
@@ -103,7 +104,7 @@ down-part l ys from to w h k e =
     let e₄ : drop n d ≡ drop (to - w) l = drop-drop n from l ∙ ap (λ (m : ℕ). drop m l) r in
     rw (none, append-nil ys, e₁, e₃, e₄) refl
 
--- zeros, from `from` on: a turn
+-- zeros, from `from` on: where the loop begins
 pub clear-start : (l : List ℕ) (from : ℕ) → l ≡ take from l ++ (zeros (from - from) ++ drop from l)
 clear-start l from =
     let e : from - from ≡ 0 = omega arith in
@@ -113,6 +114,7 @@ zeros-snoc : (n : ℕ) (x : List ℕ) → zeros n ++ (0 ∷ x) ≡ 0 ∷ (zeros 
 zeros-snoc zero x = refl
 zeros-snoc (suc n) x = ap (λ (y : List ℕ). 0 ∷ y) (zeros-snoc n x)
 
+-- one more zero
 pub clear-turn : (l b : List ℕ) (from i : ℕ) → from ≤ i → i < length l → b ≡ take from l ++ (zeros (i - from) ++ drop i l)
     → set b i 0 ≡ take from l ++ (zeros (i + 1 - from) ++ drop (i + 1) l)
 clear-turn l b from i h k e =

@@ -21,6 +21,7 @@ pub record Turn (src : List ℕ) (n : ℕ) (first : List Row) (b : List ℕ) (m 
   pub holds : Holds cur m b
   pub left : insertAll (rowsOf n src) first ≡ insertAll (rowsOf (n - i) (drop (i * width) src)) cur
 
+-- none is in
 pub turn-start : (src : List ℕ) (n : ℕ) (first : List Row) (b : List ℕ) (m : ℕ) → Holds first m b → Turn src n first b m 0
 turn-start src n first b m H =
     let e : n - 0 ≡ n = omega arith in
@@ -39,6 +40,7 @@ module _ (src : List ℕ) (n i : ℕ) (h : i < n) where
     unfolding insertAll
     next-is = T .left ∙ ap (λ (l : List Row). insertAll l (T .cur)) rows-next
 
+    -- one more is in
     pub turn-next : (k : ℕ) → length (take width (drop (i * width) src)) ≡ width → Inserted (take width (drop (i * width) src)) (T .cur) (length b) (Done k) after
         → Turn src n first after k (i + 1)
     turn-next k w I = record {
@@ -47,6 +49,7 @@ module _ (src : List ℕ) (n i : ℕ) (h : i < n) where
       left = next-is;
     }
 
+    -- the next one has no room: Full
     pub turn-full : Inserted (take width (drop (i * width) src)) (T .cur) (length b) Full after
         → (last : List ℕ) → Entered (insertAll (rowsOf n src) first) (length b) Full last
     turn-full I last =

@@ -47,6 +47,7 @@ module _ (rows : List Row) (n : ℕ) (buf : List ℕ) (H : Holds rows n buf) (ro
         after = a ∙ ap (image width (length buf)) (sym i ∙ sym (pick-true (insert row rows) rows room));
       }
 
+  -- the row at the place has the row's key: its words are written over
   pub replaced : p < n → key (getD rows (rank (key row) rows) []) ≡ key row
       → Inserted row rows (length buf) (Done n) (take (p * width) buf ++ (row ++ drop (p * width + width) buf))
   replaced h q =
@@ -69,6 +70,7 @@ module _ (rows : List Row) (n : ℕ) (buf : List ℕ) (H : Holds rows n buf) (ro
     unfolding new
     new-len = length-append (take p rows) (row ∷ drop p rows) ∙ omega (arith, len-take, len-drop p, place-le)
 
+    -- the key is new and the last words are too few: Full, and the buffer is as it was
     pub full : length buf - n * width < width → Inserted row rows (length buf) Full buf
     full h =
         let len : length (insert row rows) ≡ n + 1 = ap length new-is ∙ new-len in
@@ -78,6 +80,7 @@ module _ (rows : List Row) (n : ℕ) (buf : List ℕ) (H : Holds rows n buf) (ro
           after = H .filled .words ∙ ap (image width (length buf)) (sym (pick-false (insert row rows) rows no-room));
         }
 
+    -- the key is new and there is room: the rows from the place on moved up by one, and the row written there
     pub added : n * width + width ≤ length buf → (up after : List ℕ)
         → up ≡ take (p * width + width) buf ++ (slice (p * width) (n * width) buf ++ drop (n * width + width) buf)
         → after ≡ take (p * width) up ++ (row ++ drop (p * width + width) up)
@@ -116,12 +119,14 @@ module _ (rows : List Row) (n : ℕ) (buf : List ℕ) (H : Holds rows n buf) (lo
   left-len : length (take p rows) + length (drop q rows) ≡ n - (q - p)
   left-len = omega (arith, len-front, length-drop q rows, H .filled .count, p-le, q-le)
 
+  -- no key lies between lo and hi: the buffer is as it was
   pub removed-none : q ≤ p → Removed lo hi rows (length buf) n buf
   removed-none k =
       let same : q ≡ p = omega (arith, p-le) in
       let all : remove lo hi rows ≡ rows = left-is ∙ ap (λ (m : ℕ). take p rows ++ drop m rows) same ∙ take-append-drop p rows in
       record { answer = sym (ap length all ∙ H .filled .count); after = H .filled .words ∙ ap (image width (length buf)) (sym all) }
 
+  -- the rows from hi's place on moved down to lo's, and zeros written where they ended: the rows between are taken out
   pub removed : (down after : List ℕ)
       → down ≡ take (p * width) buf ++ (slice (p * width + (q - p) * width) (n * width) buf ++ drop (n * width - (q - p) * width) buf)
       → after ≡ take (n * width - (q - p) * width) down ++ (zeros (n * width - (n * width - (q - p) * width)) ++ drop (n * width) down)
@@ -203,6 +208,7 @@ module _ (rows : List Row) (n : ℕ) (buf : List ℕ) (H : Holds rows n buf) (k 
           let i-is : i ≡ rank k rows = cc in
           q ∙ ap some (find-some 0 k rows (H .table) r q .1 ∙ ap (λ (m : ℕ). getD rows m []) (sym i-is))
 
+  -- it found nothing: nor does the definition
   pub found-none : Nothing ≡ foundAt (rank k rows) (find k rows) → find k rows ≡ none
   found-none e = go (find k rows) refl
     where
@@ -216,6 +222,7 @@ module _ (rows : List Row) (n : ℕ) (buf : List ℕ) (H : Holds rows n buf) (k 
 -- ---- a diagnostic put after the last
 
 module _ (notes : List Row) (n : ℕ) (buf : List ℕ) (F : Filled noteWidth notes n buf) (note : Row) where
+  -- the last words are too few: Full, and the buffer is as it was
   pub push-full : length buf - n * noteWidth < noteWidth → Pushed note notes (length buf) Full buf
   push-full h =
       let no-room : More (length buf) notes ≡ false = lt-leb ((length notes + 1) * noteWidth) (length buf) (omega (arith, F .count, holds-fits F)) in
@@ -224,6 +231,7 @@ module _ (notes : List Row) (n : ℕ) (buf : List ℕ) (F : Filled noteWidth not
         after = F .words ∙ ap (image noteWidth (length buf)) (sym (pick-false (notes ++ (note ∷ [])) notes no-room));
       }
 
+  -- there is room: the diagnostic written after the last
   pub pushed : n * noteWidth + noteWidth ≤ length buf → Pushed note notes (length buf) (Done (n + 1)) (take (n * noteWidth) buf ++ (note ++ drop (n * noteWidth + noteWidth) buf))
   unfolding flatten
   pushed h =
@@ -238,6 +246,7 @@ module _ (notes : List Row) (n : ℕ) (buf : List ℕ) (F : Filled noteWidth not
         after = rw (front, tail) (image-splice noteWidth (length buf) (n + 1) notes note [] (omega (arith, F .count)) ∙ ap (image noteWidth (length buf)) (sym (pick-true (notes ++ (note ∷ [])) notes room)));
       }
 
+-- after Done the buffer holds the diagnostics with the new one last
 pub pushed-filled : (notes : List Row) (n : ℕ) (buf : List ℕ) → Filled noteWidth notes n buf → (note : Row) → length note ≡ noteWidth → (m : ℕ) (after : List ℕ)
     → Pushed note notes (length buf) (Done m) after → Filled noteWidth (notes ++ (note ∷ [])) m after
 pushed-filled notes n buf F note w m after P = go (More (length buf) notes) refl
@@ -267,24 +276,30 @@ pub picked-done : (t : Bool) (m k : ℕ) → Done m ≡ pick t (Done k) Full →
 picked-done true m k e = (refl, cc)
 picked-done false m k e = done≢full m e
 
+-- Full is answered only where the test failed
 pub picked-full : (t : Bool) (k : ℕ) → Full ≡ pick t (Done k) Full → t ≡ false
 picked-full true k e = done≢full k (sym e)
 picked-full false k e = refl
 
+-- Full: the row had no room
 pub room-full : (n : ℕ) (row : Row) (rows : List Row) (after : List ℕ) → Inserted row rows n Full after → Room n rows row ≡ false
 room-full n row rows after I = picked-full (Room n rows row) (length (insert row rows)) (I .answer)
 
+-- Done: the diagnostic had room
 pub more-done : (n : ℕ) (row : Row) (rows : List Row) (m : ℕ) (after : List ℕ) → Pushed row rows n (Done m) after → More n rows ≡ true
 more-done n row rows m after P = picked-done (More n rows) m (length rows + 1) (P .answer) .0
 
+-- Full: the diagnostic had no room
 pub more-full : (n : ℕ) (row : Row) (rows : List Row) (after : List ℕ) → Pushed row rows n Full after → More n rows ≡ false
 more-full n row rows after P = picked-full (More n rows) (length rows + 1) (P .answer)
 
 -- ---- no rows
 
+-- a buffer of zeros holds the table without rows
 pub holds-none : (n : ℕ) → Holds [] 0 (image width n [])
 holds-none n = holds-image n [] tt (omega arith)
 
+-- the same of rows of any width
 pub filled-none : (w n : ℕ) → Filled w [] 0 (image w n [])
 filled-none w n = filled-image w n [] tt (omega (arith, zero-mul w))
 

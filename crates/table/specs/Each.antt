@@ -14,16 +14,19 @@ use Rattle.words.specs.Word.{pick}
 use Rattle.table.specs.Rows.{Row, key, find, insert, remove, Wide}
 use Rattle.table.specs.Laws.{order₃, zone, insert-lt, insert-eq, insert-gt, remove-low, remove-in, remove-high}
 
+-- P holds of each element
 unfoldable pub Each : {A : Type 0} → (A → Type 0) → List A → Type 0
 Each P [] = Unit {0}
 Each P (x ∷ xs) = P x × Each P xs
 
+-- it holds of the element at a place within the list
 pub each-at : {A : Type 0} (P : A → Type 0) (d : A) (xs : List A) → Each P xs → (i : ℕ) → i < length xs → P (getD xs i d)
 unfolding Each
 each-at P d [] a i h = absurd (not-suc-le-zero h)
 each-at P d (x ∷ xs) a zero h = a .0
 each-at P d (x ∷ xs) a (suc i) h = each-at P d xs (a .1) i (le-of-suc-le-suc h)
 
+-- rows of w words, as a fact of each
 pub wide-each : (w : ℕ) (rows : List Row) → Wide w rows → Each (λ r. length r ≡ w) rows
 unfolding Each
 wide-each w [] t = tt
@@ -32,6 +35,7 @@ wide-each w (r ∷ rs) t = (t .0, wide-each w rs (t .1))
 -- ---- rows that go in and out
 
 module _ (P : Row → Type 0) where
+  -- P holds of each row after one went in of which it holds
   pub each-insert : (r : Row) (rows : List Row) → P r → Each P rows → Each P (insert r rows)
   unfolding Each insert
   each-insert r [] o a = (o, tt)
@@ -42,6 +46,7 @@ module _ (P : Row → Type 0) where
       go (inr (inl q)) ih = rw (insert-eq r x xs q) (o, a .1)
       go (inr (inr q)) ih = rw (insert-gt r x xs q) (o, a)
 
+  -- it holds of those left after some were taken out
   pub each-remove : (lo hi : ℕ) (rows : List Row) → lo ≤ hi → Each P rows → Each P (remove lo hi rows)
   unfolding Each remove
   each-remove lo hi [] h a = tt
@@ -54,6 +59,7 @@ module _ (P : Row → Type 0) where
 
   -- ---- the row that a key finds
 
+  -- it holds of the row that a key finds
   pub each-find : (k : ℕ) (rows : List Row) (r : Row) → Each P rows → find k rows ≡ some r → P r
   unfolding Each find
   each-find k [] r a e = let z : _≡_ {A = ℕ} 0 1 = cc in absurd (omega arith)
@@ -63,6 +69,7 @@ module _ (P : Row → Type 0) where
       go true f ih = let p : x ≡ r = cc in subst P p (a .0)
       go false f ih = ih f
 
+-- the row that is found has the key
 pub find-key : (k : ℕ) (rows : List Row) (r : Row) → find k rows ≡ some r → key r ≡ k
 unfolding find
 find-key k [] r e = let z : _≡_ {A = ℕ} 0 1 = cc in absurd (omega arith)

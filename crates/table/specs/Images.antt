@@ -11,18 +11,22 @@ use Rattle.table.specs.Rows.{width, Row, keyOf, key, Table, zeros, image
 
 -- ---- the words of rows
 
+-- the words of two runs of rows: those of the first, then those of the second
 pub flatten-append : (a b : List Row) → flatten (a ++ b) ≡ flatten a ++ flatten b
 unfolding flatten
 flatten-append [] b = refl
 flatten-append (r ∷ rs) b = ap (λ (l : List ℕ). r ++ l) (flatten-append rs b) ∙ sym (append-assoc r (flatten rs) (flatten b))
 
+-- the words of rows: those of the first p, then those of the others
 pub flatten-split : (p : ℕ) (rows : List Row) → flatten rows ≡ flatten (take p rows) ++ flatten (drop p rows)
 flatten-split p rows = ap flatten (sym (take-append-drop p rows)) ∙ flatten-append (take p rows) (drop p rows)
 
+-- each row of a table has `width` words
 pub table-wide : (b : ℕ) (rows : List Row) → Table b rows → Wide width rows
 table-wide b [] t = tt
 table-wide b (r ∷ rs) t = (t .0, table-wide (suc (key r)) rs (t .2))
 
+-- zeros without the first m are zeros
 pub drop-zeros : (m n : ℕ) → drop m (zeros n) ≡ zeros (n - m)
 drop-zeros zero n =
     let e : n - 0 ≡ n = omega arith in
@@ -35,16 +39,19 @@ drop-zeros (suc m) (suc n) =
     rw e (drop-zeros m n)
 
 module _ (w : ℕ) where
+  -- rows of w words have w times as many words as there are rows
   pub length-flatten : (rows : List Row) → Wide w rows → length (flatten rows) ≡ length rows * w
   unfolding flatten
   length-flatten [] t = sym (zero-mul w)
   length-flatten (r ∷ rs) t = length-append r (flatten rs) ∙ omega (arith, t .0, length-flatten rs (t .1), suc-mul (length rs) w)
 
+  -- the first p of rows of w words are rows of w words
   pub wide-take : (p : ℕ) (rows : List Row) → Wide w rows → Wide w (take p rows)
   wide-take zero rows t = tt
   wide-take (suc p) [] t = tt
   wide-take (suc p) (r ∷ rs) t = (t .0, wide-take p rs (t .1))
 
+  -- one more row of w words after the last keeps them so
   pub wide-snoc : (rows : List Row) (row : Row) → Wide w rows → length row ≡ w → Wide w (rows ++ (row ∷ []))
   wide-snoc [] row t h = (h, tt)
   wide-snoc (r ∷ rs) row t h = (t .0, wide-snoc rs row (t .1) h)
@@ -66,12 +73,14 @@ module _ (w : ℕ) where
 
   -- ---- images
 
+  -- the image of rows that fit n words has n words
   pub length-image : (n : ℕ) (rows : List Row) → Wide w rows → length rows * w ≤ n → length (image w n rows) ≡ n
   unfolding image
   length-image n rows t h =
       length-append (flatten rows) (zeros (n - length rows * w))
       ∙ omega (arith, length-flatten rows t, length-replicate {A = ℕ} (n - length rows * w) 0)
 
+  -- it is a buffer that holds these rows
   pub filled-image : (n : ℕ) (rows : List Row) → Wide w rows → length rows * w ≤ n → Filled w rows (length rows) (image w n rows)
   filled-image n rows t h = record { words = ap (λ (m : ℕ). image w m rows) (sym (length-image n rows t h)); count = refl; wide = t }
 
@@ -114,6 +123,7 @@ module _ {w : ℕ} {rows : List Row} {n : ℕ} {buf : List ℕ} (F : Filled w ro
   unfolding image
   holds-words = F .words ∙ ap (λ (m : ℕ). flatten rows ++ zeros (length buf - m * w)) (F .count)
 
+  -- its words: those of the first p rows, those of the others, and zeros
   pub holds-split : (p : ℕ) → buf ≡ flatten (take p rows) ++ (flatten (drop p rows) ++ zeros (length buf - n * w))
   holds-split p =
       holds-words ∙ ap (λ (l : List ℕ). l ++ zeros (length buf - n * w)) (flatten-split p rows)
@@ -122,11 +132,13 @@ module _ {w : ℕ} {rows : List Row} {n : ℕ} {buf : List ℕ} (F : Filled w ro
   front-length : (p : ℕ) → p ≤ n → length (flatten (take p rows)) ≡ p * w
   front-length p h = length-flatten-take w p rows (F .wide) (omega (arith, F .count))
 
+  -- the words before row p are those of the first p rows
   pub take-rows : (p : ℕ) → p ≤ n → take (p * w) buf ≡ flatten (take p rows)
   take-rows p h =
       ap (take (p * w)) (holds-split p)
       ∙ take-at (flatten (take p rows)) (flatten (drop p rows) ++ zeros (length buf - n * w)) (p * w) (front-length p h)
 
+  -- those from row p on are the other rows' words, and zeros
   pub drop-rows : (p : ℕ) → p ≤ n → drop (p * w) buf ≡ flatten (drop p rows) ++ zeros (length buf - n * w)
   drop-rows p h =
       ap (drop (p * w)) (holds-split p)
@@ -167,6 +179,7 @@ key-of-row {rows} {n} {buf} F i h =
     let e₁ : getD buf (i * width + 1) 0 ≡ getD (getD rows i []) 1 0 = word-at F i 1 h (omega arith) in
     omega (arith, e₀, e₁)
 
+-- the image of a table that fits n words is a buffer that holds it
 pub holds-image : (n : ℕ) (rows : List Row) → Table 0 rows → length rows * width ≤ n → Holds rows (length rows) (image width n rows)
 holds-image n rows t h = record { filled = filled-image width n rows (table-wide 0 rows t) h; table = t }
 

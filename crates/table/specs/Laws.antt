@@ -15,9 +15,11 @@ use Rattle.table.specs.Rows.{width, Row, keyOf, key, Table, rank, find, 
 
 -- ---- tests
 
+-- a test that holds picks the first
 pub pick-true : {A : Type 0} {t : Bool} (a b : A) → t ≡ true → pick t a b ≡ a
 pick-true a b e = ap (λ (t : Bool). pick t a b) e
 
+-- one that fails picks the second
 pub pick-false : {A : Type 0} {t : Bool} (a b : A) → t ≡ false → pick t a b ≡ b
 pick-false a b e = ap (λ (t : Bool). pick t a b) e
 
@@ -38,6 +40,7 @@ order₃ a b = go (order a b) (order b a)
     go (inr h) (inl k) = inr (inr k)
     go (inr h) (inr k) = inr (inl (omega arith))
 
+-- of two numbers that differ, the one that isn't more is less
 pub ne-lt : (a b : ℕ) → a ≤ b → (b ≡ a → ⊥) → a < b
 ne-lt a b h n = go (order a b)
   where
@@ -47,14 +50,17 @@ ne-lt a b h n = go (order a b)
 
 -- ---- the place of a key
 
+-- a first row below k counts among those before it
 pub rank-lt : (k : ℕ) (r : Row) (rs : List Row) → key r < k → rank k (r ∷ rs) ≡ suc (rank k rs)
 unfolding rank
 rank-lt k r rs h = pick-true (suc (rank k rs)) zero (lt-ltb (key r) k h)
 
+-- a first row not below k ends the count
 pub rank-ge : (k : ℕ) (r : Row) (rs : List Row) → k ≤ key r → rank k (r ∷ rs) ≡ zero
 unfolding rank
 rank-ge k r rs h = pick-false (suc (rank k rs)) zero (le-ltb (key r) k h)
 
+-- a key's place is within the rows or right after the last
 pub rank-le : (k : ℕ) (rows : List Row) → rank k rows ≤ length rows
 unfolding rank
 rank-le k [] = zero-le
@@ -75,6 +81,7 @@ pub table-down : (a b : ℕ) (rows : List Row) → a ≤ b → Table b rows → 
 table-down a b [] h t = tt
 table-down a b (r ∷ rs) h t = (t .0, omega (arith, t .1), t .2)
 
+-- row m has the key k or a larger one: k's place is not after m
 pub rank-low : (k : ℕ) (rows : List Row) (m : ℕ) → m < length rows → k ≤ key (getD rows m []) → rank k rows ≤ m
 rank-low k [] m h q = absurd (not-suc-le-zero h)
 rank-low k (r ∷ rs) zero h q = rw (rank-ge k r rs q) (omega arith)
@@ -94,6 +101,7 @@ rank-mono j k (r ∷ rs) h = go (rank-mono j k rs h) (order (key r) j)
     go ih (inl q) = rw (rank-lt j r rs q, rank-lt k r rs (omega arith)) (omega arith)
     go ih (inr q) = rw (rank-ge j r rs q) zero-le
 
+-- row m of a table has a smaller key than k: k's place is after m
 pub rank-high : (b k : ℕ) (rows : List Row) → Table b rows → (m : ℕ) → m < length rows → key (getD rows m []) < k → m < rank k rows
 rank-high b k [] t m h q = absurd (not-suc-le-zero h)
 rank-high b k (r ∷ rs) t zero h q = rw (rank-lt k r rs q) (omega arith)
@@ -104,14 +112,17 @@ rank-high b k (r ∷ rs) t (suc m) h q =
 
 -- ---- finding
 
+-- the first row has the key: it is found
 pub find-eq : (k : ℕ) (r : Row) (rs : List Row) → key r ≡ k → find k (r ∷ rs) ≡ some r
 unfolding find
 find-eq k r rs h = pick-true (some r) (find k rs) (eq-eqb (key r) k h)
 
+-- it has another: the others are searched
 pub find-ne : (k : ℕ) (r : Row) (rs : List Row) → (key r ≡ k → ⊥) → find k (r ∷ rs) ≡ find k rs
 unfolding find
 find-ne k r rs h = pick-false (some r) (find k rs) (ne-eqb (key r) k h)
 
+-- a key below a table's bound finds nothing
 pub find-above : {b : ℕ} (k : ℕ) (rows : List Row) → Table b rows → k < b → find k rows ≡ none
 unfolding find
 find-above k [] t h = refl
@@ -144,16 +155,19 @@ find-miss b k (r ∷ rs) t n = go (find-miss (suc (key r)) k rs (t .2)) (order (
 
 -- ---- inserting
 
+-- past a first row with a smaller key
 pub insert-lt : (r x : Row) (xs : List Row) → key x < key r → insert r (x ∷ xs) ≡ x ∷ insert r xs
 unfolding insert
 insert-lt r x xs h = pick-true (x ∷ insert r xs) (pick (eqb (key x) (key r)) (r ∷ xs) (r ∷ x ∷ xs)) (lt-ltb (key x) (key r) h)
 
+-- in the place of a first row with the same key
 pub insert-eq : (r x : Row) (xs : List Row) → key x ≡ key r → insert r (x ∷ xs) ≡ r ∷ xs
 unfolding insert
 insert-eq r x xs h =
     pick-false (x ∷ insert r xs) (pick (eqb (key x) (key r)) (r ∷ xs) (r ∷ x ∷ xs)) (le-ltb (key x) (key r) (omega arith))
     ∙ pick-true (r ∷ xs) (r ∷ x ∷ xs) (eq-eqb (key x) (key r) h)
 
+-- before a first row with a larger key
 pub insert-gt : (r x : Row) (xs : List Row) → key r < key x → insert r (x ∷ xs) ≡ r ∷ x ∷ xs
 unfolding insert
 insert-gt r x xs h =
@@ -234,22 +248,26 @@ unfolding rank
 rank-above b k [] t h = refl
 rank-above b k (r ∷ rs) t h = rank-ge k r rs (omega (arith, t .1))
 
+-- a first row below lo stays
 pub remove-low : (lo hi : ℕ) (x : Row) (xs : List Row) → key x < lo → remove lo hi (x ∷ xs) ≡ x ∷ remove lo hi xs
 unfolding remove
 remove-low lo hi x xs h = pick-false (pick (ltb (key x) hi) (remove lo hi xs) (x ∷ remove lo hi xs)) (x ∷ remove lo hi xs) (lt-leb lo (key x) h)
 
+-- a first row from lo to below hi goes
 pub remove-in : (lo hi : ℕ) (x : Row) (xs : List Row) → lo ≤ key x → key x < hi → remove lo hi (x ∷ xs) ≡ remove lo hi xs
 unfolding remove
 remove-in lo hi x xs h k =
     pick-true (pick (ltb (key x) hi) (remove lo hi xs) (x ∷ remove lo hi xs)) (x ∷ remove lo hi xs) (le-leb lo (key x) h)
     ∙ pick-true (remove lo hi xs) (x ∷ remove lo hi xs) (lt-ltb (key x) hi k)
 
+-- a first row from hi on stays
 pub remove-high : (lo hi : ℕ) (x : Row) (xs : List Row) → lo ≤ hi → hi ≤ key x → remove lo hi (x ∷ xs) ≡ x ∷ remove lo hi xs
 unfolding remove
 remove-high lo hi x xs h k =
     pick-true (pick (ltb (key x) hi) (remove lo hi xs) (x ∷ remove lo hi xs)) (x ∷ remove lo hi xs) (le-leb lo (key x) (omega arith))
     ∙ pick-false (remove lo hi xs) (x ∷ remove lo hi xs) (le-ltb (key x) hi k)
 
+-- where all keys are from hi on, nothing goes
 pub remove-above : (b lo hi : ℕ) (rows : List Row) → Table b rows → lo ≤ hi → hi ≤ b → remove lo hi rows ≡ rows
 unfolding remove
 remove-above b lo hi [] t h k = refl
@@ -279,6 +297,7 @@ remove-splice b lo hi (x ∷ xs) t h = go (remove-splice (suc (key x)) lo hi xs 
     go ih (inr (inr q)) =
         rw (remove-high lo hi x xs h q, rank-ge lo x xs (omega arith), rank-ge hi x xs q) (ap (λ (l : List Row). x ∷ l) (remove-above (suc (key x)) lo hi xs (t .2) h (omega arith)))
 
+-- taking out makes no table longer
 pub remove-len : (lo hi : ℕ) (rows : List Row) → length (remove lo hi rows) ≤ length rows
 unfolding remove
 remove-len lo hi [] = zero-le
@@ -289,6 +308,7 @@ remove-len lo hi (x ∷ xs) = go (remove-len lo hi xs) (leb lo (key x)) (ltb (ke
     go ih true false = omega arith
     go ih false t = omega arith
 
+-- it stays a table, with the same bound
 pub remove-table : (b lo hi : ℕ) (rows : List Row) → lo ≤ hi → Table b rows → Table b (remove lo hi rows)
 unfolding remove
 remove-table b lo hi [] h t = tt
@@ -335,6 +355,7 @@ key-lex a b c d hb hd h = go (order₃ a c)
     go (inr (inl q)) = inr (q, omega arith)
     go (inr (inr q)) = absurd (omega arith)
 
+-- and the other way: words in lexicographic order have their keys in order
 pub lex-key : (a b c d : ℕ) → b < 4294967296 → d < 4294967296 → (a < c) ⊎ ((a ≡ c) × (b < d)) → keyOf a b < keyOf c d
 lex-key a b c d hb hd (inl h) = omega arith
 lex-key a b c d hb hd (inr h) = omega arith
@@ -352,6 +373,7 @@ insert-len r (x ∷ xs) = go (insert-len r xs) (ltb (key x) (key r)) (eqb (key x
     go ih false true = omega arith
     go ih false false = omega arith
 
+-- nor do several rows
 pub insert-all-len : (new rows : List Row) → length rows ≤ length (insertAll new rows)
 unfolding insertAll
 insert-all-len [] rows = omega arith

@@ -16,6 +16,7 @@ width = 6
 abbrev pub noteWidth : ℕ
 noteWidth = 6
 
+-- a row is its words
 abbrev pub Row : Type 0
 Row = List ℕ
 

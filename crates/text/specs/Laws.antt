@@ -39,6 +39,7 @@ apart i j k s t n e f = f ∙ onward i j s t n e
     onward : (i j s t n : ℕ) → min j n ≡ min (i + s) n → min (j + t) n ≡ min (i + (s + t)) n
     onward i j s t n e = omega arith
 
+-- the empty text leaves all as it is
 pub nothing : {b : List ℕ} {at : ℕ} → Wrote [] b b at at
 nothing {b} {at} = record { now = refl; end = omega arith }
 
@@ -53,9 +54,11 @@ then {s} {t} {b} {c} {d} {i} {j} {k} p q =
       end = simp length-append (apart i j k (length s) (length t) (length b + 1) (p .end) q-end);
     }
 
+-- the same text, its end under another name
 pub moved : {s b c : List ℕ} {at i j : ℕ} → i ≡ j → Wrote s b c at i → Wrote s b c at j
 moved e p = rw e at p
 
+-- the same place, the text under another name
 pub same : {s t b c : List ℕ} {i j : ℕ} → s ≡ t → Wrote s b c i j → Wrote t b c i j
 same e p = rw e at p
 
@@ -91,10 +94,12 @@ room (suc f) (suc g) n h k = go (ltb n 10) refl (room f g (n / 10) (tenth f n h)
     go true q r = rw q
     go false q r = rw (q, r)
 
+-- a number below 10 is one digit
 pub decimal-one : (n : ℕ) → n < 10 → decimal n ≡ digit n ∷ []
 unfolding decimal digits
 decimal-one n h = rw (lt-ltb n 10 h)
 
+-- a word from 10 on: its tenth's digits, and then its last
 pub decimal-more : (n : ℕ) → 10 ≤ n → n < 2 ^ 32 → decimal n ≡ decimal (n / 10) ++ (digit (n % 10) ∷ [])
 unfolding decimal digits
 decimal-more n h k = rw (le-ltb n 10 h, room 8 9 (n / 10) (omega arith) (omega arith))
@@ -148,16 +153,19 @@ part {b} {c} {at} {next} s from to end n e h k w m =
 pub past : {b : List ℕ} {at : ℕ} (s : List ℕ) → length b < at → Wrote s b b at at
 past {b} {at} s h = record { now = sym (sets-out s b at (omega arith)); end = omega arith }
 
+-- a part that begins past the end is empty
 pub no-part : {b : List ℕ} {at : ℕ} (s : List ℕ) (from to n : ℕ) → n < from → n ≡ min to (length s) → Wrote (take (to - from) (drop from s)) b b at at
 no-part s from to n h e =
     let z : 0 ≡ n - from = omega arith in
     same (ap (λ k. take k (drop from s)) z ∙ cut s from to n e) nothing
 
+-- the part from 0 to the end is the whole
 pub whole : (s : List ℕ) → take (length s - 0) (drop 0 s) ≡ s
 whole s = take-all (length s - 0) s (omega arith)
 
 -- ---- a word
 
+-- n bytes have twice as many digits
 pub pairs-long : (n : ℕ) → length (hexPairs n) ≡ n + n
 unfolding hexPairs
 pairs-long zero = refl
@@ -188,9 +196,11 @@ pair-at (suc n) b k h e = go (ltb b n) refl (λ l. pair-at n b k l e)
         let s : b ≡ n = omega arith in
         (pair-last n 0 k (omega arith) ∙ ap (λ y. digit (y / 16)) (sym s), pair-last n 1 (k + 1) (omega arith) ∙ ap (λ y. digit (y % 16)) (sym s))
 
+-- the table has 512 bytes
 pub pairs-size : {t : List ℕ} → t ≡ hexPairs 256 → length t ≡ 512
 pairs-size e = ap length e ∙ pairs-long 256
 
+-- a byte's two digits, copied from the table, are the pair written
 pub pair-laid : (l t : List ℕ) (at b : ℕ) → b < 256 → t ≡ hexPairs 256 → set (set l at (getD t (2 * b) 0)) (at + 1) (getD t (2 * b + 1) 0) ≡ sets l at (pair b)
 pair-laid l t at b h e = rw (e, pair-at 256 b (2 * b) h refl .0, pair-at 256 b (2 * b) h refl .1, add-one at)
 
@@ -243,6 +253,7 @@ done {text} {b} {c} {last} {n} {r} w f = go (leb n (length b)) refl
         let k : leb (length text) (length b) ≡ false = lt-leb (length text) (length b) (omega (arith, w .end)) in
         (rw k (f₀ ∙ rw q), rw k (f₁ ∙ rw q))
 
+-- the size of a text in a buffer is within it
 pub size-le : (text b : List ℕ) → size text b ≤ length b
 unfolding size
 size-le text b = go (leb (length text) (length b)) refl

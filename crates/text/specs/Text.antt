@@ -23,6 +23,7 @@ hex8 w = map (λ k. digit (w / 16 ^ k % 16)) (7 ∷ 6 ∷ 5 ∷ 4 ∷ 3 ∷ 2 �
 abbrev pub pair : ℕ → List ℕ
 pair b = digit (b / 16) ∷ digit (b % 16) ∷ []
 
+-- those of each byte below n
 unfoldable pub hexPairs : ℕ → List ℕ
 hexPairs zero = []
 hexPairs (suc n) = hexPairs n ++ pair n

@@ -18,5 +18,6 @@ pub record Wrote (text before after : List ℕ) (at next : ℕ) : Type 0 where
 unfoldable pub size : List ℕ → List ℕ → ℕ
 size text buffer = pick (leb (length text) (length buffer)) (length text) 0
 
+-- the bytes of the buffer afterwards
 unfoldable pub laid : List ℕ → List ℕ → List ℕ
 laid text buffer = pick (leb (length text) (length buffer)) (text ++ drop (length text) buffer) (replicate (length buffer) 0)

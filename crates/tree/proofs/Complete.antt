@@ -28,6 +28,7 @@ use Rattle.tree.proofs.Sound.{is-got}
 
 -- a value of the sort may begin with a word of the kind
 unfoldable mutual
+  -- of a field
   pub may : Sort → ℕ → Bool
   may (leaf l) k = eqb k (kindL l)
   may expr k = between 16 24 k
@@ -37,6 +38,7 @@ unfoldable mutual
   may (either j ss s) k = eqb k j || may s k
   may never k = false
 
+  -- of a row: its first field's; any word where it has none
   pub mayR : Sorts → ℕ → Bool
   mayR nil k = true
   mayR (s & ss) k = may s k
@@ -44,6 +46,7 @@ unfoldable mutual
 unfoldable mutual
   unfolding may
 
+  -- in a field of the sort no choice begins like a later one
   pub clear : Sort → Bool
   clear (leaf l) = true
   clear expr = true
@@ -53,6 +56,7 @@ unfoldable mutual
   clear (either k ss s) = not (may s k) && (clearR ss && clear s)
   clear never = true
 
+  -- in each field of a row
   pub clearR : Sorts → Bool
   clearR nil = true
   clearR (s & ss) = clear s && clearR ss
@@ -186,6 +190,7 @@ number-small setField = lit< tt
 number-small getPut = lit< tt
 number-small lock = lit< tt
 
+-- the kind at a kind's number is that kind
 pub kind-number : (k : Kind) → kindAt (numberOf k) ≡ k
 unfolding numberOf kindAt kinds
 kind-number label = refl
@@ -281,6 +286,7 @@ module _ (ws ns : List ℕ) (n : ℕ) where
   begins none at end h r w = tt
   begins (more t ts) at end h r w = tt
 
+  -- a value that can't begin with a word of kind k doesn't: its first word isn't the head of that kind
   pub not-first : (k : ℕ) {s : Sort} (v : Tree Expr (one s)) (at end : ℕ) → not (may s k) ≡ true → Right ns n v → Wrote ws at (wordsT v) end → isAt ws (wordOf k 0) at ≡ false
   not-first k {s} v at end c r w = is-false (isAt ws (wordOf k 0) at) (λ e.
       let z = is-got ws (wordOf k 0) at e in
@@ -314,11 +320,13 @@ module _ (ws ns : List ℕ) (n : ℕ) where
       ap (λ (x : ℕ). bind (rowAt ws ns n g subS (sorts (kindAt (kindOf w - 64))) m) (λ r m′. got (Stmt (kindAt (kindOf w - 64)) x r) m′)) p
       ∙ ap (λ (x : Kind). bind (rowAt ws ns n g subS (sorts x) m) (λ r m′. got (Stmt x line r) m′)) q
 
+  -- the definition of reading gives the tree at a place, up to its end
   abbrev pub ReadAt : ℕ → (i : Shape) → ℕ → Tree Expr i → ℕ → Type 0
   ReadAt d (one s) at v end = fieldAt ws ns n (exprAt ws (strings ns n) d) (stmtAt ws ns n d) s at ≡ got v end
   ReadAt d (row ss) at v end = rowAt ws ns n (exprAt ws (strings ns n) d) (stmtAt ws ns n d) ss at ≡ got v end
   ReadAt d (rows ss) at v end = rowsAt ws ns n (λ x. rowAt ws ns n (exprAt ws (strings ns n) d) (stmtAt ws ns n d) ss x) (count v) at ≡ got v end
 
+  -- a right tree of a clear shape that stands there and is no deeper than the levels left is read
   pub completes : {i : Shape} (v : Tree Expr i) (d at end : ℕ) → Clear i ≡ true → depthT v ≤ d → Right ns n v → Wrote ws at (wordsT v) end → ReadAt d i at v end
   unfolding fieldAt rowAt rowsAt wordsT Right depthT count clear clearR bind
   completes (word {l} x) d at end c z r w =

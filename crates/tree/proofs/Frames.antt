@@ -35,27 +35,32 @@ unpack-any (suc j) zero (suc x) a b = absurd (omega arith)
 unpack-any (suc j) (suc k) zero a b = refl
 unpack-any (suc j) (suc k) (suc x) a b = ap (λ (ss : Sorts). sortAt (suc x % 256) & ss) (unpack-any j k (suc x / 256) (omega arith) (omega arith))
 
+-- the first field is the lowest byte's, the others are the rest's
 pub sorts-next : (x : ℕ) → (x ≡ 0 → ⊥) → sortsOf x ≡ sortAt (x % 256) & sortsOf (x / 256)
 unfolding unpack
 sorts-next zero h = absurd (h refl)
 sorts-next (suc x) h = ap (λ (ss : Sorts). sortAt (suc x % 256) & ss) (unpack-any x (suc x / 256) (suc x / 256) (omega arith) (omega arith))
 
+-- 0 is no field
 pub sorts-none : {x : ℕ} → x ≡ 0 → sortsOf x ≡ nil
 unfolding unpack
 sorts-none e = ap (λ (x : ℕ). unpack x x) e
 
+-- a row's numbers, joined, are its fields
 pub sorts-packed : (r : ℕ) → sortsOf (pack (codes r)) ≡ rowOf r
 unfolding rowOf codes unpack
 sorts-packed r = sym (List·getD-map (λ (l : List ℕ). sortsOf (pack l)) (partCodes ++ stmtCodes) r []) ∙ ap (λ (l : List Sorts). getD l r nil) unpacked
 
 -- ---- one answer after another
 
+-- three answers in turn, taken together either way
 pub then-then : (s : Step) (f g : ℕ → Step) → then (then s f) g ≡ then s (λ m. then (f m) g)
 unfolding then
 then-then (Read c) f g = refl
 then-then (Wrong p) f g = refl
 then-then (Deep p) f g = refl
 
+-- what follows may be replaced where it answers the same
 pub then-same : (s : Step) (f g : ℕ → Step) → ((m : ℕ) → f m ≡ g m) → then s f ≡ then s g
 unfolding then
 then-same (Read c) f g h = h (c .at)
@@ -85,9 +90,11 @@ module _ (ws ns : List ℕ) (n : ℕ) where
   unfolding frameAt rowAt stepOf then
   frame-rows f at z = ap (λ (ss : Sorts). then (rowStep (f .left) ss at) (λ m. rowsStep (f .left) (f .row) (f .times) m)) (sorts-none z)
 
+  -- no field and no row is left: nothing is read
   pub frame-end : (f : Frame) (at : ℕ) → f .fields ≡ 0 → f .times ≡ 0 → frameAt ws ns n f at ≡ Read (record { at = at })
   frame-end f at z e = frame-rows f at z ∙ rows-none ws ns n _ (f .times) (record { at = at }) (omega arith)
 
+  -- no field is left but a row is: its fields are next
   pub frame-again : (f : Frame) (at : ℕ) → f .fields ≡ 0 → 0 < f .times → frameAt ws ns n f at ≡ frameAt ws ns n (againOf f) at
   unfolding frameAt
   frame-again f at z h =
@@ -119,6 +126,7 @@ module _ (ws ns : List ℕ) (n : ℕ) where
       ∙ then-none _ _ (λ m. frame-end _ m z refl)
       ∙ ap (λ (x : ℕ). fieldStep ws ns n left (sortAt x) at) e
 
+  -- two fields
   pub frame-two : (k j left at : ℕ) → k < 256 → 0 < j → j < 256 → frameAt ws ns n (record { fields = k + 256 * j; row = 0; times = 0; left = left }) at ≡ then (fieldStep ws ns n left (sortAt k) at) (λ m. fieldStep ws ns n left (sortAt j) m)
   frame-two k j left at a b d =
       let z : (k + 256 * j) / 256 ≡ j = omega arith in
@@ -135,15 +143,18 @@ module _ (ws ns : List ℕ) (n : ℕ) where
   unfolding wordAt nameAt
   field-1 left at = sym (leaf-arm ws ns n _ _ 1 _ at (is-1 refl) refl)
 
+  -- the field 9 is an expression
   pub frame-9 : (left at : ℕ) → frameAt ws ns n (record { fields = 9; row = 0; times = 0; left = left }) at ≡ stepOf (exprAt ws (strings ns n) left at)
   frame-9 left at = frame-one 9 left at (omega arith) (omega arith) ∙ field-9 left at
 
+  -- 9 and 9 are two expressions
   pub frame-99 : (left at : ℕ) → frameAt ws ns n (record { fields = 2313; row = 0; times = 0; left = left }) at ≡ then (stepOf (exprAt ws (strings ns n) left at)) (λ m. stepOf (exprAt ws (strings ns n) left m))
   frame-99 left at =
       frame-two 9 9 left at (omega arith) (omega arith) (omega arith)
       ∙ then-same _ _ _ (λ m. field-9 left m)
       ∙ ap (λ (s : Step). then s (λ m. stepOf (exprAt ws (strings ns n) left m))) (field-9 left at)
 
+  -- 9 and 1 are an expression, then a name
   pub frame-91 : (left at : ℕ) → frameAt ws ns n (record { fields = 265; row = 0; times = 0; left = left }) at ≡ then (stepOf (exprAt ws (strings ns n) left at)) (λ m. stepOf (nameAt ws ns m))
   frame-91 left at =
       frame-two 9 1 left at (omega arith) (omega arith) (omega arith)
@@ -165,12 +176,14 @@ module _ (ws ns : List ℕ) (n : ℕ) where
       ∙ then-same _ _ _ (λ m. ap (λ (x : ℕ). stepOf (exprsAt ws (strings ns n) (exprAt ws (strings ns n) left) x m)) e ∙ exprs-rows left k m ∙ ap (λ (x : ℕ). rowsStep left 0 x m) (sym e))
       ∙ sym (rows-more ws ns n _ (suc k) at h)
 
+  -- a list of expressions is the field of a list of row 0
   pub list-is : (left at : ℕ) → stepOf (listAt ws (strings ns n) (exprAt ws (strings ns n) left) at) ≡ fieldStep ws ns n left (many (rowOf 0)) at
   unfolding listAt fieldAt
   list-is left at = bind-same _ _ _ (λ c m. exprs-rows left c m ∙ sym (step-map _ _))
 
   -- ---- turns
 
+  -- the turn that an answer is tells this answer
   pub told-goes : {at : ℕ} (s : Step) {S : Step} {t : Turn} → s ≡ S → t ≡ toldOf s → Goes ws ns n at S t
   unfolding toldOf
   told-goes {at} (Read c) {S} e q = subst (λ (x : Turn). Goes ws ns n at S x) (sym q) (past (sym e))
@@ -222,18 +235,23 @@ module _ (ws ns : List ℕ) (n : ℕ) where
   -- ---- what follows an expression's head of the kind k
 
   module _ (left k m : ℕ) {t : Turn} where
+    -- an element or a call: a name and a list
     pub call-body : (k ≡ 18) ⊎ (k ≡ 21) → Goes ws ns n m (then (stepOf (nameAt ws ns m)) (λ m′. stepOf (listAt ws (strings ns n) (exprAt ws (strings ns n) left) m′))) t → Goes ws ns n m (stepOf (bodyAt ws (strings ns n) (exprAt ws (strings ns n) left) k m)) t
     call-body e h = goes-same (sym (body-18 ws (strings ns n) _ k m e refl)) h
 
+    -- a unary operator, then the field 9
     pub unary-body : k ≡ 19 → Goes ws ns n m (then (stepOf (leafAt ws 9 2 m)) (λ m′. frameAt ws ns n (record { fields = 9; row = 0; times = 0; left = left }) m′)) t → Goes ws ns n m (stepOf (bodyAt ws (strings ns n) (exprAt ws (strings ns n) left) k m)) t
     unary-body e h = goes-same (sym (body-19 ws (strings ns n) _ k m e refl) ∙ then-same _ _ _ (λ m′. sym (frame-9 left m′))) h
 
+    -- a binary operator, then the fields 9 and 9
     pub binary-body : k ≡ 20 → Goes ws ns n m (then (stepOf (leafAt ws 9 18 m)) (λ m′. frameAt ws ns n (record { fields = 2313; row = 0; times = 0; left = left }) m′)) t → Goes ws ns n m (stepOf (bodyAt ws (strings ns n) (exprAt ws (strings ns n) left) k m)) t
     binary-body e h = goes-same (sym (body-20 ws (strings ns n) _ k m e refl) ∙ then-same _ _ _ (λ m′. sym (frame-99 left m′))) h
 
+  -- a field: the fields 9 and 1
   pub field-body : (left k m : ℕ) {at : ℕ} → k ≡ 22 → at < m → m ≤ length ws → Goes ws ns n at (stepOf (bodyAt ws (strings ns n) (exprAt ws (strings ns n) left) k m)) (Into m (record { fields = 265; row = 0; times = 0; left = left }))
   field-body left k m e a b = into (sym (body-22 ws (strings ns n) _ k m e refl) ∙ sym (frame-91 left m)) a b (omega arith) (omega arith)
 
+  -- parentheses: the field 9
   pub paren-body : (left k m : ℕ) {at : ℕ} → k ≡ 23 → at < m → m ≤ length ws → Goes ws ns n at (stepOf (bodyAt ws (strings ns n) (exprAt ws (strings ns n) left) k m)) (Into m (record { fields = 9; row = 0; times = 0; left = left }))
   paren-body left k m e a b = into (sym (body-23 ws (strings ns n) _ k m e refl) ∙ sym (frame-9 left m)) a b (omega arith) (omega arith)
 
@@ -243,6 +261,7 @@ module _ (ws ns : List ℕ) (n : ℕ) where
 one-field : (ws ns : List ℕ) (n k left at : ℕ) {f : Frame} {s : Step} → 0 < k → k < 256 → s ≡ frameAt ws ns n f at → f ≡ record { fields = k; row = 0; times = 0; left = left } → s ≡ fieldStep ws ns n left (sortAt k) at
 one-field ws ns n k left at a b e q = e ∙ ap (λ (x : Frame). frameAt ws ns n x at) q ∙ frame-one ws ns n k left at a b
 
+-- a statement is the frame of the one field 10
 pub stmt-is : (ws ns : List ℕ) (n left at : ℕ) {f : Frame} {s : Step} → s ≡ frameAt ws ns n f at → f ≡ record { fields = 10; row = 0; times = 0; left = left } → s ≡ stepOf (stmtAt ws ns n left at)
 stmt-is ws ns n left at e q =
     one-field ws ns n 10 left at (omega arith) (omega arith) e q
@@ -254,6 +273,7 @@ body-sort : sortAt 68 ≡ many (stmt & nil)
 unfolding sortAt rowOf allRows parts
 body-sort = refl
 
+-- a list of statements is the frame of the one field 68
 pub body-is : (ws ns : List ℕ) (n left at : ℕ) {f : Frame} {s : Step} → s ≡ frameAt ws ns n f at → f ≡ record { fields = 68; row = 0; times = 0; left = left } → s ≡ fieldStep ws ns n left (many (stmt & nil)) at
 body-is ws ns n left at e q = one-field ws ns n 68 left at (omega arith) (omega arith) e q ∙ ap (λ (x : Sort). fieldStep ws ns n left x at) body-sort
 

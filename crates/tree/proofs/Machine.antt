@@ -32,6 +32,7 @@ unfoldable pub rowsSize : ℕ → ℕ → ℕ
 rowsSize zero r = 0
 rowsSize (suc k) r = r + 1 + rowsSize k r
 
+-- of what is left in a frame
 unfoldable pub sizeF : Frame → ℕ
 sizeF f = sizeR (sortsOf (f .fields)) + rowsSize (f .times) (sizeR (rowOf (f .row)))
 
@@ -103,6 +104,7 @@ size-same s r left (inr e) = omega (arith, ap sizeR (sorts-none {x = 0} refl) �
 
 -- ---- the stack: below a height, what stands at each place
 
+-- the sizes of the frames below a height
 unfoldable pub total : (ℕ → Frame) → ℕ → ℕ
 total g zero = 0
 total g (suc i) = sizeF (g i) + total g i
@@ -114,6 +116,7 @@ total-same g h (suc i) e = let q : sizeF (g i) ≡ sizeF (h i) = ap sizeF (e i (
 
 -- ---- what a turn says, by its kind
 
+-- 0: the field is read, up to the turn's place
 pub past-is : {ws ns : List ℕ} {n left at : ℕ} {s : Sort} {t : Turn} → t .kind ≡ 0 → Turned ws ns n left at s t → fieldStep ws ns n left s at ≡ Read (record { at = t .at })
 past-is k (goes (past e)) = e
 past-is k (goes (into e a b c d)) = absurd (omega arith)
@@ -121,6 +124,7 @@ past-is k (goes (refused e)) = absurd (omega arith)
 past-is k (goes (low e)) = absurd (omega arith)
 past-is k (same r e) = absurd (omega arith)
 
+-- 1: what the field answers is what its frame answers from the turn's place on
 pub into-is : {ws ns : List ℕ} {n left at : ℕ} {s : Sort} {t : Turn} → t .kind ≡ 1 → Turned ws ns n left at s t → fieldStep ws ns n left s at ≡ frameAt ws ns n (t .frame) (t .at)
 into-is k (goes (past e)) = absurd (omega arith)
 into-is k (goes (into e a b c d)) = e
@@ -128,6 +132,7 @@ into-is k (goes (refused e)) = absurd (omega arith)
 into-is k (goes (low e)) = absurd (omega arith)
 into-is k (same r e) = e
 
+-- 1: that frame with the words after it weighs no more than the field did
 pub into-less : {ws ns : List ℕ} {n left at : ℕ} {s : Sort} {t : Turn} → t .kind ≡ 1 → Turned ws ns n left at s t → (length ws - t .at) * 1099511627776 + sizeF (t .frame) ≤ (length ws - at) * 1099511627776 + sizeS s
 into-less k (goes (past e)) = absurd (omega arith)
 into-less k (goes (into {m} {f} e a b c d)) = omega (arith, frame-small f c d)
@@ -135,6 +140,7 @@ into-less k (goes (refused e)) = absurd (omega arith)
 into-less k (goes (low e)) = absurd (omega arith)
 into-less {left = left} {at = at} {s = s} k (same {r} q e) = omega (arith, size-same s r left q)
 
+-- any other: the field fails as the turn says
 pub failed-is : {ws ns : List ℕ} {n left at : ℕ} {s : Sort} {t : Turn} → (t .kind ≡ 0 → ⊥) → (t .kind ≡ 1 → ⊥) → Turned ws ns n left at s t → fieldStep ws ns n left s at ≡ failedOf t
 unfolding failedOf
 failed-is j k (goes (past e)) = absurd (j refl)
@@ -150,16 +156,19 @@ told-past (Read c) e k = ap (λ (u : Turn). Read (record { at = u .at })) (sym e
 told-past (Wrong p) e k = absurd (omega (arith, ap (λ (u : Turn). u .kind) e))
 told-past (Deep p) e k = absurd (omega (arith, ap (λ (u : Turn). u .kind) e))
 
+-- it isn't past: the answer is a failure
 pub told-failed : (s : Step) {t : Turn} → t ≡ toldOf s → (t .kind ≡ 0 → ⊥) → s ≡ failedOf t
 unfolding toldOf failedOf
 told-failed (Read c) e k = absurd (k (ap (λ (u : Turn). u .kind) e))
 told-failed (Wrong p) e k = ap failedOf (sym e)
 told-failed (Deep p) e k = ap failedOf (sym e)
 
+-- 2 is a wrong word
 pub failed-2 : (t : Turn) → t .kind ≡ 2 → Wrong (t .at) ≡ failedOf t
 unfolding failedOf
 failed-2 t k = simp (eq-eqb (t .kind) 2 k) refl
 
+-- any other is one too deep
 pub failed-3 : (t : Turn) → (t .kind ≡ 2 → ⊥) → Deep (t .at) ≡ failedOf t
 unfolding failedOf
 failed-3 t k = simp (ne-eqb (t .kind) 2 k) refl
@@ -194,6 +203,7 @@ abbrev pub onStack : List Frame → ℕ → Frame
 onStack st i = getD st i (record { fields = 0; row = 0; times = 0; left = 0 })
 
 module _ (ws ns : List ℕ) (n : ℕ) where
+  -- what the frames below a height answer, the top one first
   unfoldable pub after : (ℕ → Frame) → ℕ → ℕ → Step
   after g zero m = Read (record { at = m })
   after g (suc i) m = then (frameAt ws ns n (g i) m) (λ m′. after g i m′)
@@ -209,6 +219,7 @@ module _ (ws ns : List ℕ) (n : ℕ) where
   abbrev pub whole : (ℕ → Frame) → ℕ → Frame → ℕ → Step
   whole g sp f at = then (frameAt ws ns n f at) (λ m. after g sp m)
 
+  -- the words that are left, and then the sizes of the frames
   abbrev pub weight : (ℕ → Frame) → ℕ → Frame → ℕ → ℕ
   weight g sp f at = (length ws - at) * 1099511627776 + (sizeF f + total g sp)
 
@@ -237,13 +248,16 @@ module _ (ws ns : List ℕ) (n : ℕ) where
       ∙ ap (λ (x : ℕ). after g′ x m) (sym q)
 
   module _ (g : ℕ → Frame) (sp : ℕ) (f : Frame) (at : ℕ) where
+    -- nothing is left, here and on the stack: all is read
     pub ends : f .fields ≡ 0 → f .times ≡ 0 → sp ≡ 0 → whole g sp f at ≡ Read (record { at = at })
     unfolding then after
     ends z e q = ap (λ (s : Step). then s (λ m. after g sp m)) (frame-end ws ns n f at z e) ∙ ap (λ (x : ℕ). after g x at) q
 
+    -- the next row of the frame in hand
     pub goes-again : f .fields ≡ 0 → 0 < f .times → Next g sp f at g sp (againOf f) at
     goes-again z h = record { is = ap (λ (s : Step). then s (λ m. after g sp m)) (frame-again ws ns n f at z h); less = omega (arith, size-again f z h) }
 
+    -- the frame in hand is done: the top one is taken from the stack
     pub goes-up : f .fields ≡ 0 → f .times ≡ 0 → 0 < sp → Next g sp f at g (sp - 1) (g (sp - 1)) at
     unfolding then
     goes-up z e h =
@@ -256,6 +270,7 @@ module _ (ws ns : List ℕ) (n : ℕ) where
     next-field : (f .fields ≡ 0 → ⊥) → whole g sp f at ≡ then (fieldStep ws ns n (f .left) (sortAt (f .fields % 256)) at) (λ m. whole g sp (restOf f) m)
     next-field z = ap (λ (s : Step). then s (λ m. after g sp m)) (frame-next ws ns n f at z) ∙ then-then _ _ _
 
+    -- a field is read: the frame past it
     pub goes-past : {m : ℕ} → (f .fields ≡ 0 → ⊥) → fieldStep ws ns n (f .left) (sortAt (f .fields % 256)) at ≡ Read (record { at = m }) → Next g sp f at g sp (restOf f) m
     unfolding then
     goes-past {m} z e =
@@ -264,6 +279,7 @@ module _ (ws ns : List ℕ) (n : ℕ) where
           less = omega (arith, size-next f z, field-after ws ns n (f .left) (sortAt (f .fields % 256)) at e);
         }
 
+    -- a field fails: so does the whole
     pub stops : (t : Turn) → (f .fields ≡ 0 → ⊥) → fieldStep ws ns n (f .left) (sortAt (f .fields % 256)) at ≡ failedOf t → failedOf t ≡ whole g sp f at
     stops t z e = sym (next-field z ∙ ap (λ (s : Step). then s (λ m. whole g sp (restOf f) m)) e ∙ then-failed t _)
 
@@ -281,19 +297,23 @@ module _ (ws ns : List ℕ) (n : ℕ) where
 
   -- ---- the loop's invariant, over the list that is the stack
 
+  -- what was asked is still to be answered, no heavier than at first, and the stack has room
   pub record Held (f₀ : Frame) (at₀ : ℕ) (st : List Frame) (sp at : ℕ) (f : Frame) : Type 0 where
     pub is : frameAt ws ns n f₀ at₀ ≡ whole (onStack st) sp f at
     pub light : weight (onStack st) sp f at ≤ (length ws - at₀) * 1099511627776 + sizeF f₀
     pub room : sp ≤ height
     pub long : length st ≡ height
 
+  -- it holds before the first turn
   pub held-first : (f : Frame) (at : ℕ) (st : List Frame) → length st ≡ height → Held f at st 0 at f
   unfolding after total
   held-first f at st h = record { is = sym (then-read _); light = omega arith; room = omega arith; long = h }
 
+  -- and after each
   pub held-next : {f₀ f f′ : Frame} {at₀ sp at sp′ at′ : ℕ} {st st′ : List Frame} → Held f₀ at₀ st sp at f → Next (onStack st) sp f at (onStack st′) sp′ f′ at′ → sp′ ≤ height → length st′ ≡ height → Held f₀ at₀ st′ sp′ at′ f′
   held-next h x a b = record { is = h .is ∙ x .is; light = omega (arith, h .light, x .less); room = a; long = b }
 
+  -- each turn makes the weight less
   pub lighter : {f₀ f f′ : Frame} {at₀ sp at sp′ at′ : ℕ} {st : List Frame} {g′ : ℕ → Frame} → Held f₀ at₀ st sp at f → Next (onStack st) sp f at g′ sp′ f′ at′ → weight g′ sp′ f′ at′ < weight (onStack st) sp f at
   lighter h x = x .less
 
@@ -312,6 +332,7 @@ module _ (ws ns : List ℕ) (n : ℕ) where
   pub inner-less : {f₀ f : Frame} {at₀ sp at : ℕ} {st : List Frame} {t : Turn} → Held f₀ at₀ st sp at f → (f .fields ≡ 0 → ⊥) → t .kind ≡ 1 → Turned ws ns n (f .left) at (sortAt (f .fields % 256)) t → (length ws - t .at) * 1099511627776 + sizeF (t .frame) < (length ws - at₀) * 1099511627776 + sizeF f₀
   inner-less {f₀} {f} h z k x = omega (arith, h .light, into-less k x, size-next f z)
 
+-- at most one frame goes onto the stack
 pub opens-small : {f : Frame} {o : ℕ} → Opens f o → o ≤ 1
 opens-small (over z e) = omega arith
 opens-small more = omega arith

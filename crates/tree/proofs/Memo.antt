@@ -26,13 +26,16 @@ use Rattle.tree.proofs.Sound.{stmt-sound}
 use Rattle.tree.proofs.Machine.{past-is, into-is, failed-is, told-past, told-failed, copied}
 use Rattle.tree.proofs.Complete.{clear, completes, one-tree}
 
+-- 0 promises nothing
 pub recalled-none : {memo : List ℕ} {at : ℕ} → Recalled memo at 0
 recalled-none = record { gives = λ ws ns n R z. absurd (z refl) }
 
+-- the end that stands in a slot of that place
 pub recalled-slot : (memo : List ℕ) (at i r : ℕ) → ((r ≡ 0 → ⊥) → (getD memo (2 * i) 0 ≡ at + 1) × (r ≡ getD memo (2 * i + 1) 0)) → Recalled memo at r
 unfolding EndsAt
 recalled-slot memo at i r h = record { gives = λ ws ns n R z v e S. R .right i at (h z .0) v e S ∙ sym (h z .1) }
 
+-- a memo that is left as it was is right
 pub remembered-none : {memo : List ℕ} {at end : ℕ} → Remembered memo at end memo
 remembered-none = record { gives = λ ws ns n R E. R }
 
@@ -61,6 +64,7 @@ module _ (memo : List ℕ) (at end i : ℕ) (h : 2 * i + 1 < length memo) where
   other-slot R j p x q v e S =
       R .right j p (sym (other-word (2 * j) (λ y. x (omega arith)) (λ y. omega arith)) ∙ q) v e S ∙ sym (other-word (2 * j + 1) (λ y. omega arith) (λ y. x (omega arith)))
 
+  -- so is one with the end written into the slot
   pub remembered-slot : Remembered memo at end (set (set memo (2 * i) (at + 1)) (2 * i + 1) end)
   remembered-slot = record {
     gives = λ ws ns n R E. record {
@@ -70,9 +74,11 @@ module _ (memo : List ℕ) (at end i : ℕ) (h : 2 * i + 1 < length memo) where
 
 -- ---- what a reading notes
 
+-- nothing noted
 pub noted-none : {sort at end : ℕ} {memo : List ℕ} → Noted sort memo at end memo
 noted-none = record { gives = λ ws ns n R E. R }
 
+-- a statement's end remembered
 pub noted-one : {sort at end : ℕ} {memo after : List ℕ} → sort ≡ 10 → Remembered memo at end after → Noted sort memo at end after
 noted-one q m = record { gives = λ ws ns n R E. m .gives ws ns n R (E q) }
 
@@ -85,9 +91,11 @@ field-ends ws ns n left at sort {c} e q v end S =
     let F = stmt-sound ws ns n left at (g .0) (c .at) (g .1) in
     one-tree ws ns n v (g .0) at end (c .at) refl (S .valid) (F .valid) (S .wrote) (F .wrote) .1
 
+-- nothing was read
 pub keeps-none : {ws ns : List ℕ} {n : ℕ} {memo : List ℕ} → Keeps ws ns n memo memo
 keeps-none = record { gives = λ R. R }
 
+-- a reading, and then one end noted that is right
 pub keeps-noted : {ws ns : List ℕ} {n sort at end : ℕ} {first before inner after : List ℕ} → Keeps ws ns n first before → Keeps ws ns n before inner → Noted sort inner at end after → (sort ≡ 10 → EndsAt ws ns n at end) → Keeps ws ns n first after
 keeps-noted {ws} {ns} {n} p q m E = record { gives = λ R. m .gives ws ns n (q .gives (p .gives R)) E }
 
@@ -101,23 +109,28 @@ pub record Memo (ws ns : List ℕ) (n : ℕ) (first memo : List ℕ) : Type 0 wh
   pub same : length memo ≡ length first
   pub keeps : Keeps ws ns n first memo
 
+-- at first
 pub memo-first : {ws ns : List ℕ} {n : ℕ} {memo : List ℕ} → Memo ws ns n memo memo
 memo-first = record { same = refl; keeps = keeps-none }
 
 -- ---- a field that was read, by its own words or by a call: what its turn says, and the memo
 
+-- the field's answer is the turn's, and the memo is right
 pub record Settled (ws ns : List ℕ) (n left at sort : ℕ) (first memo : List ℕ) (t : Turn) : Type 0 where
   pub reads : t .kind ≡ 0 → fieldStep ws ns n left (sortAt sort) at ≡ Read (record { at = t .at })
   pub stops : (t .kind ≡ 0 → ⊥) → fieldStep ws ns n left (sortAt sort) at ≡ failedOf t
   pub kept : Memo ws ns n first memo
 
+-- the same under other names
 pub settled-same : {ws ns : List ℕ} {n left at sort : ℕ} {first memo memo′ : List ℕ} {t t′ : Turn} → memo′ ≡ memo → t′ ≡ t → Settled ws ns n left at sort first memo t → Settled ws ns n left at sort first memo′ t′
 settled-same {ws} {ns} {n} {left} {at} {sort} {first} {memo} {memo′} {t} {t′} p q h =
     subst (λ (m : List ℕ). Settled ws ns n left at sort first m t′) (sym p) (subst (λ (u : Turn). Settled ws ns n left at sort first memo u) (sym q) h)
 
+-- by its own words: the memo is as it was
 pub settled-look : {ws ns : List ℕ} {n left at sort : ℕ} {first memo : List ℕ} {t : Turn} → (t .kind ≡ 1 → ⊥) → Turned ws ns n left at (sortAt sort) t → Memo ws ns n first memo → Settled ws ns n left at sort first memo t
 settled-look k x m = record { reads = λ h. past-is h x; stops = λ h. failed-is h k x; kept = m }
 
+-- by a call that read the field's frame, its end noted where it was read
 pub settled-call : {ws ns : List ℕ} {n left at sort : ℕ} {first before inner after : List ℕ} {f : Frame} {s : Step} {u t : Turn} → u .kind ≡ 1 → Turned ws ns n left at (sortAt sort) u → s ≡ frameAt ws ns n f (u .at) → f ≡ u .frame → t ≡ toldOf s → Memo ws ns n first before → Keeps ws ns n before inner → length inner ≡ length before → (t .kind ≡ 0 → Noted sort inner at (t .at) after) × ((t .kind ≡ 0 → ⊥) → after ≡ inner) → length after ≡ length inner → Settled ws ns n left at sort first after t
 settled-call {ws} {ns} {n} {left} {at} {sort} {s = s} {u = u} {t = t} k x e q g m p l d r =
     let z : fieldStep ws ns n left (sortAt sort) at ≡ s = into-is k x ∙ sym (copied ws ns n (u .at) e q) in
@@ -140,14 +153,17 @@ module _ {ws ns : List ℕ} {n at : ℕ} (s : Step) (e : s ≡ stepOf (stmtAt ws
   unfolding stepOf clear fieldAt
   stmt-read {v} {end} S d = e ∙ ap stepOf (completes ws ns n v 100 at end refl d (S .valid) (S .wrote))
 
+  -- the statement was read: its end is the answer's place
   pub past-read : {memo : List ℕ} (c : Cursor) → s ≡ Read c → Past ws ns n memo at (c .at)
   past-read c q = record { gives = λ R v end S d. ap Cursor.at (the-cursor (sym q ∙ stmt-read S d)) }
     where
       the-cursor : {c c′ : Cursor} → Read c ≡ Read c′ → c ≡ c′
       the-cursor q = cc
 
+  -- a wrong word: no statement of at most 100 levels stands there
   pub past-wrong : {memo : List ℕ} (p : ℕ) → s ≡ Wrong p → Past ws ns n memo at p
   past-wrong p q = record { gives = λ R v end S d. let r = stmt-read S d in let z : _≡_ {A = ℕ} 0 1 = cc in absurd (omega arith) }
 
+  -- a head too deep: here too none of at most 100 levels stands
   pub past-deep : {memo : List ℕ} (p : ℕ) → s ≡ Deep p → Past ws ns n memo at p
   past-deep p q = record { gives = λ R v end S d. let r = stmt-read S d in let z : _≡_ {A = ℕ} 0 1 = cc in absurd (omega arith) }

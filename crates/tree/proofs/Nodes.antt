@@ -19,6 +19,7 @@ use Rattle.tree.proofs.Sound.{is-got}
 use Rattle.tree.proofs.Complete.{may, mayR, clear, clearR, not-first, kind-number}
 
 module _ (ws ns : List ℕ) (n : ℕ) where
+  -- a statement: its kind, its line and its fields
   pub record InStmt (at : ℕ) (v : Tree Expr (one stmt)) (end : ℕ) : Type 0 where
     pub kind : Kind
     pub fields : Tree Expr (row (sorts kind))
@@ -26,6 +27,7 @@ module _ (ws ns : List ℕ) (n : ℕ) where
     pub there : Stands ws ns n (at + 1) fields end
     pub is : v ≡ Stmt kind (payOf (getD ws at 0)) fields
 
+  -- a statement: its kind and line in the head, its fields after it
   pub in-stmt : {at end : ℕ} {v : Tree Expr (one stmt)} → Stands ws ns n at v end → InStmt at v end
   unfolding wordsT Right
   in-stmt {at} {end} {v = Stmt k line r} s =
@@ -33,6 +35,7 @@ module _ (ws ns : List ℕ) (n : ℕ) where
       let b = s .valid .0 in
       record { kind = k; fields = r; number = omega (arith, ap kindOf (f .is), kind-is (64 + numberOf k) line b); there = record { wrote = f .rest; valid = s .valid .1 }; is = ap (λ x. Stmt k x r) (sym (ap payOf (f .is) ∙ pay-is (64 + numberOf k) line b)) }
 
+  -- a row that isn't empty: its first field and the others
   pub record InRow {s : Sort} {ss : Sorts} (at : ℕ) (r : Tree Expr (row (s & ss))) (end : ℕ) : Type 0 where
     pub head : Tree Expr (one s)
     pub mid : ℕ
@@ -41,22 +44,26 @@ module _ (ws ns : List ℕ) (n : ℕ) where
     pub next : Stands ws ns n mid tail end
     pub is : r ≡ cons head tail
 
+  -- a row: its first field, and then the others
   pub in-row : {s : Sort} {ss : Sorts} {at end : ℕ} {r : Tree Expr (row (s & ss))} → Stands ws ns n at r end → InRow at r end
   unfolding wordsT Right
   in-row {r = cons v t} h = record { head = v; mid = _; tail = t; there = record { wrote = wrote-left (wordsT v) (wordsT t) (h .wrote); valid = h .valid .0 }; next = record { wrote = wrote-right (wordsT v) (h .wrote); valid = h .valid .1 }; is = refl }
 
+  -- a list: its rows, as many as its head says
   pub record InList {ss : Sorts} (at : ℕ) (v : Tree Expr (one (many ss))) (end : ℕ) : Type 0 where
     pub items : Tree Expr (rows ss)
     pub counted : count items ≡ payOf (getD ws at 0)
     pub there : Stands ws ns n (at + 1) items end
     pub is : v ≡ list items
 
+  -- a list: its count in the head, its rows after it
   pub in-list : {ss : Sorts} {at end : ℕ} {v : Tree Expr (one (many ss))} → Stands ws ns n at v end → InList at v end
   unfolding wordsT Right
   in-list {v = list rs} h =
       let f = wrote-first (h .wrote) in
       record { items = rs; counted = sym (ap payOf (f .is) ∙ pay-is 1 (count rs) (h .valid .0)); there = record { wrote = f .rest; valid = h .valid .1 }; is = refl }
 
+  -- rows that are left: the first and the others
   pub record InMore {ss : Sorts} (at : ℕ) (rs : Tree Expr (rows ss)) (end : ℕ) : Type 0 where
     pub head : Tree Expr (row ss)
     pub mid : ℕ
@@ -66,6 +73,7 @@ module _ (ws ns : List ℕ) (n : ℕ) where
     pub counted : count rs ≡ count tail + 1
     pub is : rs ≡ more head tail
 
+  -- rows: the first, and then the others
   pub in-more : {ss : Sorts} {at end : ℕ} {rs : Tree Expr (rows ss)} → 0 < count rs → Stands ws ns n at rs end → InMore at rs end
   unfolding wordsT Right count
   in-more {rs = none} z h = absurd (omega arith)
@@ -77,6 +85,7 @@ module _ (ws ns : List ℕ) (n : ℕ) where
     pub there : Stands ws ns n at inner end
     pub is : v ≡ that (part inner)
 
+  -- an option whose word is not 0 is there
   pub in-opt : {ss : Sorts} {at end : ℕ} {v : Tree Expr (one (opt ss))} → (getD ws at 0 ≡ 0 → ⊥) → Stands ws ns n at v end → InOpt at v end
   unfolding wordsT Right
   in-opt {v = this r} z h = absurd (z (wrote-first (h .wrote) .is))
@@ -87,6 +96,7 @@ module _ (ws ns : List ℕ) (n : ℕ) where
     pub expression : Expr
     pub there : W.Stands ws (strings ns n) (at + 1) expression end
 
+  -- the expression of a CONST stands after its name
   pub in-const : {at end : ℕ} (r : Tree Expr (row (sorts const))) → Stands ws ns n at r end → InConst at r end
   unfolding sorts wordsT Right
   in-const {at} {end} (cons (word x) (cons (value e) done)) h =

@@ -26,6 +26,7 @@ use Rattle.tree.specs.Sorts.{Leaf, Sort, leaf, expr, stmt, many, group, 
 use Rattle.tree.specs.Tree.{strings, Shape, one, row, rows, Tree, word, value, Stmt, list, part, this, that, done, cons, none, more, count, kindL, okL, wordsT, depthT, Right}
 use Rattle.tree.specs.Reader.{wordAt, neverAt, isAt, stmtHead, rowsAt, fieldAt, rowAt, restAt, stmtAt, programAt}
 
+-- a word of kind k whose payload is right
 pub record IsWord (ws : List ℕ) (k : ℕ) (ok : ℕ → Bool) (at x m : ℕ) : Type 0 where
   pub inside : at < length ws
   pub kind : kindOf (getD ws at 0) ≡ k
@@ -48,6 +49,7 @@ pick-cases : {A : Type 0} (t : Bool) {x y z : A} → pick t x y ≡ z → ((t �
 pick-cases true e = inl (refl, e)
 pick-cases false e = inr (refl, e)
 
+-- the test of a word at a place: it is within the words, and it is this one
 pub is-got : (ws : List ℕ) (w at : ℕ) → isAt ws w at ≡ true → (at < length ws) × (getD ws at 0 ≡ w)
 unfolding isAt
 is-got ws w at e =
@@ -82,6 +84,7 @@ module _ (ws ns : List ℕ) (n d : ℕ) (subS : ℕ → Got (Tree Expr (one stmt
   mutual
     unfolding fieldAt rowAt wordsT Right depthT
 
+    -- a field that was read stands there
     pub field-sound : (s : Sort) (at : ℕ) (v : Tree Expr (one s)) (end : ℕ) → at ≤ length ws → fieldAt ws ns n (exprAt ws (strings ns n) d) subS s at ≡ got v end → Fine ws ns n d at v end
     field-sound (leaf l) at v end i h =
         let a = map-got word (wordAt ws (kindL l) (okL ns n l) at) h in
@@ -116,6 +119,7 @@ module _ (ws ns : List ℕ) (n d : ℕ) (subS : ℕ → Got (Tree Expr (one stmt
         (pick-cases (isAt ws (wordOf k 0) at) h)
     field-sound never at v end i h = absurd (never-got ws at h)
 
+    -- and a row
     pub row-sound : (ss : Sorts) (at : ℕ) (r : Tree Expr (row ss)) (end : ℕ) → at ≤ length ws → rowAt ws ns n (exprAt ws (strings ns n) d) subS ss at ≡ got r end → Fine ws ns n d at r end
     row-sound nil at r end i h =
         let e : r ≡ done = cc in
@@ -143,10 +147,12 @@ all-at p (suc n) h i z =
 number-test : ℕ → Bool
 number-test r = eqb (numberOf (kindAt r)) r
 
+-- the number of the kind at r is r
 pub number-of : (r : ℕ) → r < 54 → numberOf (kindAt r) ≡ r
 unfolding number-test allB kindAt kinds numberOf
 number-of r h = eqb-true (numberOf (kindAt r)) r (all-at number-test 54 refl r h)
 
+-- a statement's head
 pub record IsHead (ws : List ℕ) (at w m : ℕ) : Type 0 where
   pub inside : at < length ws
   pub is : w ≡ getD ws at 0
@@ -154,6 +160,7 @@ pub record IsHead (ws : List ℕ) (at w m : ℕ) : Type 0 where
   pub upto : kindOf w < 118
   pub to : m ≡ at + 1
 
+-- a statement's head that was read is a word of a kind from 64 to 117
 pub head-got : (ws : List ℕ) (at w m : ℕ) → stmtHead ws at ≡ got w m → IsHead ws at w m
 unfolding stmtHead
 head-got ws at w m e =
@@ -175,6 +182,7 @@ rest-sound ws ns n d subS S at w m s end H h =
     let q : w ≡ wordOf (64 + numberOf k) (payOf w) = word-is w (64 + numberOf k) (payOf w) (omega (arith, r, H .from)) refl in
     rw (a .2) (record { wrote = wrote-cons (H .inside) (sym (H .is) ∙ q) (H .to) (R .wrote); valid = (omega arith, R .valid); deep = omega (arith, R .deep) })
 
+-- a statement that was read stands there
 pub stmt-sound : (ws ns : List ℕ) (n d at : ℕ) (s : Tree Expr (one stmt)) (end : ℕ) → stmtAt ws ns n d at ≡ got s end → Fine ws ns n d at s end
 unfolding stmtAt
 stmt-sound ws ns n zero at s end h = absurd (deep-got (bind-got (stmtHead ws at) h .3))
@@ -236,6 +244,7 @@ module _ (ws ns : List ℕ) (n d : ℕ) (subS : ℕ → Got (Tree Expr (one stmt
         let b = map-got _ (rowAt ws ns n (exprAt ws (strings ns n) d) subS ss (a .1)) (a .3) in
         le-trans (field-on s at (a .0) (a .1) (a .2)) (row-on ss (a .1) (b .0) end (b .1))
 
+-- a field ends at its place or after it
 pub field-after : (ws ns : List ℕ) (n d : ℕ) (s : Sort) (at : ℕ) {c : Cursor} → stepOf (fieldAt ws ns n (exprAt ws (strings ns n) d) (stmtAt ws ns n d) s at) ≡ Read c → at ≤ c .at
 field-after ws ns n d s at {c} e =
     let v = read (fieldAt ws ns n (exprAt ws (strings ns n) d) (stmtAt ws ns n d) s at) refl e in

@@ -51,6 +51,7 @@ decode-suc (zero ∷ cs) zero h = absurd (h refl)
 decode-suc (suc c ∷ cs) zero h = refl
 decode-suc (x ∷ cs) (suc i) h = decode-suc cs i h
 
+-- any other number is a field's
 pub decode-go : (cs : List ℕ) (i : ℕ) → (getD cs i 0 ≡ 0 → ⊥) → decode (drop i cs) ≡ sortAt (getD cs i 0) & decode (drop (i + 1) cs)
 decode-go cs i h = rw (add-one i) (decode-suc cs i h)
 
@@ -65,6 +66,7 @@ six-at [] r e = omega arith
 six-at (l ∷ ls) zero e = leb-true (length l) 6 (and-elim-left _ _ e)
 six-at (l ∷ ls) (suc r) e = six-at ls r (and-elim-right (leb (length l) 6) _ e)
 
+-- past the sixth number no field is left
 pub decode-over : (r i : ℕ) → 6 ≤ i → decode (drop i (codes r)) ≡ nil
 unfolding decode codes partCodes stmtCodes sixes
 decode-over r i h =
@@ -76,6 +78,7 @@ pub decode-row : (r : ℕ) → decode (codes r) ≡ rowOf r
 unfolding rowOf codes decode
 decode-row r = sym (List·getD-map decode (partCodes ++ stmtCodes) r []) ∙ ap (λ (l : List Sorts). getD l r nil) decoded
 
+-- row r + i is the i-th of those that follow one another from r on
 pub row-chain : (r count i : ℕ) → i < count → rowOf (r + i) ≡ getD (take count (drop r allRows)) i nil
 unfolding rowOf
 row-chain r count i h = sym (lib.Seq.getD-take count (drop r allRows) i nil h ∙ lib.Seq.getD-drop r allRows i nil)
@@ -84,12 +87,14 @@ rows-93 : length allRows ≡ 93
 unfolding allRows parts kinds
 rows-93 = refl
 
+-- as many of these as are asked for, within the 93 rows
 pub length-chain : (r count : ℕ) → r + count ≤ 93 → length (take count (drop r allRows)) ≡ count
 length-chain r count h = lib.Seq.length-take-le count (drop r allRows) (omega (arith, lib.ListN.length-drop r allRows, rows-93))
 
 -- ---- sizes, by which the calls end
 
 unfoldable mutual
+  -- of a field's sort
   pub sizeS : Sort → ℕ
   sizeS (leaf l) = 1
   sizeS expr = 1
@@ -99,31 +104,38 @@ unfoldable mutual
   sizeS (either k ss s) = sizeR ss + sizeS s + 2
   sizeS never = 1
 
+  -- of a row's sorts
   pub sizeR : Sorts → ℕ
   sizeR nil = 1
   sizeR (s & ss) = sizeS s + sizeR ss + 2
 
+-- of a list
 pub size-many : (ss : Sorts) → sizeS (many ss) ≡ sizeR ss + 2
 unfolding sizeS
 size-many ss = refl
 
+-- of a group
 pub size-group : (ss : Sorts) → sizeS (group ss) ≡ sizeR ss + 2
 unfolding sizeS
 size-group ss = refl
 
+-- of an option
 pub size-opt : (ss : Sorts) → sizeS (opt ss) ≡ 1 + (sizeR ss + 2) + 2
 unfolding sizeS sizeR
 size-opt ss = refl
 
+-- of a row without fields
 pub size-none : sizeR nil ≡ 1
 unfolding sizeR
 size-none = refl
 
+-- a row's size is not 0
 pub size-pos : (ss : Sorts) → 0 < sizeR ss
 unfolding sizeR
 size-pos nil = lib.Dec.lit< tt
 size-pos (s & ss) = omega arith
 
+-- of a row, by its first field
 pub size-cons : (s : Sort) (ss : Sorts) → sizeR (s & ss) ≡ sizeS s + sizeR ss + 2
 unfolding sizeR
 size-cons s ss = refl
@@ -138,101 +150,126 @@ small-at [] r e = lib.Dec.lit< tt
 small-at (ss ∷ l) zero e = ltb-true (sizeR ss) 1000 (and-elim-left _ _ e)
 small-at (ss ∷ l) (suc r) e = small-at l r (and-elim-right (ltb (sizeR ss) 1000) _ e)
 
+-- every row's size is below 1000
 pub small-row : (r : ℕ) → sizeR (rowOf r) < 1000
 unfolding rowOf smalls sizeR sizeS allRows parts sorts kinds
 small-row r = small-at allRows r refl
 
+-- the row in numbers is no larger than the row
 pub size-start : (r : ℕ) → sizeR (decode (drop 0 (codes r))) ≤ sizeR (rowOf r)
 size-start r = le-of-eq (ap sizeR (decode-row r))
 
+-- the size from field i on, by this field
 pub size-step : (r i k : ℕ) → k ≡ getD (codes r) i 0 → (k ≡ 0 → ⊥) → sizeR (decode (drop i (codes r))) ≡ sizeS (sortAt k) + sizeR (decode (drop (i + 1) (codes r))) + 2
 size-step r i k e z = ap sizeR (decode-go (codes r) i (λ y. z (e ∙ y)) ∙ ap (λ (x : ℕ). sortAt x & decode (drop (i + 1) (codes r))) (sym e)) ∙ size-cons _ _
 
 -- ---- fields
 
+-- the sort of number 0 has no values
 pub is-0 : {k : ℕ} → k ≡ 0 → sortAt k ≡ never
 unfolding sortAt singles
 is-0 e = ap sortAt e
 
+-- 1 is a name
 pub is-1 : {k : ℕ} → k ≡ 1 → sortAt k ≡ named
 unfolding sortAt singles
 is-1 e = ap sortAt e
 
+-- 2 is any string
 pub is-2 : {k : ℕ} → k ≡ 2 → sortAt k ≡ quoted
 unfolding sortAt singles
 is-2 e = ap sortAt e
 
+-- 3 is a flag
 pub is-3 : {k : ℕ} → k ≡ 3 → sortAt k ≡ flag
 unfolding sortAt singles
 is-3 e = ap sortAt e
 
+-- 4 is a whole number
 pub is-4 : {k : ℕ} → k ≡ 4 → sortAt k ≡ whole
 unfolding sortAt singles
 is-4 e = ap sortAt e
 
+-- 5 is a letter
 pub is-5 : {k : ℕ} → k ≡ 5 → sortAt k ≡ letter
 unfolding sortAt singles
 is-5 e = ap sortAt e
 
+-- 6 is a file mode
 pub is-6 : {k : ℕ} → k ≡ 6 → sortAt k ≡ oneOf 4
 unfolding sortAt singles
 is-6 e = ap sortAt e
 
+-- 7 is a data type
 pub is-7 : {k : ℕ} → k ≡ 7 → sortAt k ≡ oneOf 5
 unfolding sortAt singles
 is-7 e = ap sortAt e
 
+-- 8 is a binary operator
 pub is-8 : {k : ℕ} → k ≡ 8 → sortAt k ≡ oneOf 18
 unfolding sortAt singles
 is-8 e = ap sortAt e
 
+-- 9 is an expression
 pub is-9 : {k : ℕ} → k ≡ 9 → sortAt k ≡ expr
 unfolding sortAt singles
 is-9 e = ap sortAt e
 
+-- 10 is a statement
 pub is-10 : {k : ℕ} → k ≡ 10 → sortAt k ≡ stmt
 unfolding sortAt singles
 is-10 e = ap sortAt e
 
+-- 11 is a `GotoTarget`: the heads 48 and 49, with the rows from 22 on
 pub is-11 : {k : ℕ} → k ≡ 11 → sortAt k ≡ chain 48 (take 2 (drop 22 allRows))
 unfolding sortAt singles chain allRows parts
 is-11 e = ap sortAt e
 
+-- 12 is a `TypeRef`
 pub is-12 : {k : ℕ} → k ≡ 12 → sortAt k ≡ TypeRef
 unfolding sortAt singles chain allRows parts
 is-12 e = ap sortAt e
 
+-- 13 is a `PrintItem`: the heads 32 to 34, with the rows from 30 on
 pub is-13 : {k : ℕ} → k ≡ 13 → sortAt k ≡ chain 32 (take 3 (drop 30 allRows))
 unfolding sortAt singles chain allRows parts
 is-13 e = ap sortAt e
 
+-- 14 is a `CaseClause`: the heads 36 to 38, with the rows from 33 on
 pub is-14 : {k : ℕ} → k ≡ 14 → sortAt k ≡ chain 36 (take 3 (drop 33 allRows))
 unfolding sortAt singles chain allRows parts
 is-14 e = ap sortAt e
 
+-- 15 is a `ResumeTarget`: the heads 52 to 54, with the rows from 36 on
 pub is-15 : {k : ℕ} → k ≡ 15 → sortAt k ≡ chain 52 (take 3 (drop 36 allRows))
 unfolding sortAt singles chain allRows parts
 is-15 e = ap sortAt e
 
+-- 16 to 63 are options of a row
 pub sort-opt : (s : ℕ) → 16 ≤ s → s < 64 → sortAt s ≡ opt (rowOf (s - 16))
 unfolding sortAt
 sort-opt s a b = simp (le-ltb s 16 a, lt-ltb s 64 b)
 
+-- 64 to 111 are lists of a row
 pub sort-many : (s : ℕ) → 64 ≤ s → s < 112 → sortAt s ≡ many (rowOf (s - 64))
 unfolding sortAt
 sort-many s a b = let z : 16 ≤ s = omega arith in simp (le-ltb s 16 z, le-ltb s 64 a, lt-ltb s 112 b)
 
+-- the numbers from 112 on are groups of a row
 pub sort-group : (s : ℕ) → 112 ≤ s → sortAt s ≡ group (rowOf (s - 112))
 unfolding sortAt
 sort-group s a = let z : 16 ≤ s = omega arith in let y : 64 ≤ s = omega arith in simp (le-ltb s 16 z, le-ltb s 64 y, le-ltb s 112 a)
 
+-- a number that is not 0 is above 0
 pub pos : {k : ℕ} → (k ≡ 0 → ⊥) → 0 < k
 pos {k} f = omega arith
 
+-- past the words there is no 0
 pub zero-end : (ws : List ℕ) (at : ℕ) → length ws ≤ at → isAt ws 0 at ≡ false
 unfolding isAt
 zero-end ws at h = simp (le-ltb at (length ws) h)
 
+-- a word that is not 0 isn't taken for one
 pub zero-not : (ws : List ℕ) (at : ℕ) → at < length ws → (getD ws at 0 ≡ 0 → ⊥) → isAt ws 0 at ≡ false
 unfolding isAt
 zero-not ws at h f = simp (lt-ltb at (length ws) h, ne-eqb (getD ws at 0) 0 f)
@@ -250,6 +287,7 @@ unfolding rowsAt stepOf
 rows-none ws ns n f zero c z = refl
 rows-none ws ns n f (suc k) c z = absurd (omega arith)
 
+-- one row, and then the others
 pub rows-more : (ws ns : List ℕ) (n : ℕ) {ss : Sorts} (f : ℕ → Got (Tree Expr (row ss))) (count m : ℕ) → 0 < count → stepOf (rowsAt ws ns n f count m) ≡ then (stepOf (f m)) (λ m′. stepOf (rowsAt ws ns n f (count - 1) m′))
 unfolding rowsAt
 rows-more ws ns n f zero m z = absurd (omega arith)
@@ -260,18 +298,22 @@ module _ (ws ns : List ℕ) (n : ℕ) (sub : ℕ → Got Expr) (subS : ℕ → G
   pub arm : (k : ℕ) (s : Sort) (m : ℕ) {r : Step} → sortAt k ≡ s → r ≡ stepOf (fieldAt ws ns n sub subS s m) → r ≡ stepOf (fieldAt ws ns n sub subS (sortAt k) m)
   arm k s m {r} q h = subst (λ (x : Sort). r ≡ stepOf (fieldAt ws ns n sub subS x m)) (sym q) h
 
+  -- a field of one word
   pub leaf-arm : (k : ℕ) (l : Leaf) (m : ℕ) {r : Step} → sortAt k ≡ leaf l → r ≡ stepOf (wordAt ws (kindL l) (okL ns n l) m) → r ≡ stepOf (fieldAt ws ns n sub subS (sortAt k) m)
   unfolding fieldAt
   leaf-arm k l m q h = arm k (leaf l) m q (last word _ h)
 
+  -- an expression
   pub expr-arm : (m : ℕ) {r : Step} → r ≡ stepOf (sub m) → r ≡ stepOf (fieldAt ws ns n sub subS expr m)
   unfolding fieldAt
   expr-arm m h = last value _ h
 
+  -- a statement
   pub stmt-arm : (m : ℕ) {r : Step} → r ≡ stepOf (subS m) → r ≡ stepOf (fieldAt ws ns n sub subS stmt m)
   unfolding fieldAt
   stmt-arm m h = h
 
+  -- no value
   pub never-arm : (m : ℕ) {r : Step} → r ≡ stepOf (neverAt ws {A = ℕ} m) → r ≡ stepOf (fieldAt ws ns n sub subS never m)
   unfolding fieldAt neverAt stepOf
   never-arm m {r} h = go (ltb m (length ws)) h
@@ -280,6 +322,7 @@ module _ (ws ns : List ℕ) (n : ℕ) (sub : ℕ → Got Expr) (subS : ℕ → G
       go true e = e
       go false e = e
 
+  -- a group: its row
   pub group-arm : (ss : Sorts) (m : ℕ) {r : Step} → r ≡ stepOf (rowAt ws ns n sub subS ss m) → r ≡ stepOf (fieldAt ws ns n sub subS (group ss) m)
   unfolding fieldAt
   group-arm ss m h = last part _ h
@@ -289,6 +332,7 @@ module _ (ws ns : List ℕ) (n : ℕ) (sub : ℕ → Got Expr) (subS : ℕ → G
   unfolding fieldAt rowAt isAt bind stepOf
   opt-none ss at h e = simp (lt-ltb at (length ws) h, eq-eqb (getD ws at 0) 0 e)
 
+  -- where the word isn't 0, the row
   pub opt-some : (ss : Sorts) (at : ℕ) {r : Step} → isAt ws 0 at ≡ false → r ≡ stepOf (rowAt ws ns n sub subS ss at) → r ≡ stepOf (fieldAt ws ns n sub subS (opt ss) at)
   unfolding fieldAt
   opt-some ss at f h = rw f (last that _ (group-arm ss at h))
@@ -299,6 +343,7 @@ module _ (ws ns : List ℕ) (n : ℕ) (sub : ℕ → Got Expr) (subS : ℕ → G
   chain-end k [] at h = simp (le-ltb at (length ws) h)
   chain-end k (ss ∷ rs) at h = simp (le-ltb at (length ws) h) (last that _ (chain-end (suc k) rs at h))
 
+  -- the word is none of the heads: it is wrong
   pub chain-no : (k : ℕ) (rs : List Sorts) (at : ℕ) → at < length ws → ((j : ℕ) → j < length rs → getD ws at 0 ≡ wordOf (k + j) 0 → ⊥) → Wrong at ≡ stepOf (fieldAt ws ns n sub subS (chain k rs) at)
   unfolding chain fieldAt neverAt isAt stepOf
   chain-no k [] at h f = simp (lt-ltb at (length ws) h)
@@ -306,6 +351,7 @@ module _ (ws ns : List ℕ) (n : ℕ) (sub : ℕ → Got Expr) (subS : ℕ → G
       let z : getD ws at 0 ≡ wordOf k 0 → ⊥ = λ e. f 0 (omega arith) (omega arith) in
       simp (lt-ltb at (length ws) h, ne-eqb (getD ws at 0) (wordOf k 0) z) (last that _ (chain-no (suc k) rs at h (λ j i e. f (suc j) (omega arith) (omega arith))))
 
+  -- it is the j-th head: its row follows
   pub chain-yes : (k : ℕ) (rs : List Sorts) (j at : ℕ) {r : Step} → at < length ws → j < length rs → getD ws at 0 ≡ wordOf (k + j) 0 → r ≡ stepOf (rowAt ws ns n sub subS (getD rs j nil) (at + 1)) → r ≡ stepOf (fieldAt ws ns n sub subS (chain k rs) at)
   unfolding chain fieldAt isAt
   chain-yes k [] j at h i e q = absurd (omega arith)
@@ -321,14 +367,17 @@ module _ (ws ns : List ℕ) (n : ℕ) (sub : ℕ → Got Expr) (subS : ℕ → G
   unfolding rowAt
   row-more s ss m = step-bind _ _ _ (λ v m′. step-map _ _)
 
+  -- without fields nothing is read
   pub row-none : (c : Cursor) → stepOf (rowAt ws ns n sub subS nil (c .at)) ≡ Read c
   unfolding rowAt stepOf
   row-none c = refl
 
+  -- a list without its head fails as the head does
   pub many-stop : (ss : Sorts) (at : ℕ) {s : Step} → s ≡ stepOf (leafAt ws 1 16777216 at) → OneOf (1 ∷ 2 ∷ []) (tagOf the-type s) → s ≡ stepOf (fieldAt ws ns n sub subS (many ss) at)
   unfolding fieldAt
   many-stop ss at e t = stop _ _ e t
 
+  -- behind its head, as many rows as it says
   pub many-go : (ss : Sorts) (at : ℕ) {s r : Step} {c : Cursor} → s ≡ stepOf (leafAt ws 1 16777216 at) → s ≡ Read c → r ≡ stepOf (rowsAt ws ns n (λ x. rowAt ws ns n sub subS ss x) (payOf (getD ws at 0)) (c .at)) → r ≡ stepOf (fieldAt ws ns n sub subS (many ss) at)
   unfolding fieldAt
   many-go ss at e q h = next-leaf _ _ _ _ _ e q (last list _ h)
@@ -353,10 +402,12 @@ module _ (ws ns : List ℕ) (n : ℕ) (sub : ℕ → Got Expr) (subS : ℕ → G
   unfolding chain
   type-yes j at h i p k e = chain-yes 40 typeRows j at h i (omega (arith, p, k)) e
 
+  -- past the words no type is
   pub type-end : (at : ℕ) → length ws ≤ at → Wrong (length ws) ≡ stepOf (fieldAt ws ns n sub subS TypeRef at)
   unfolding chain
   type-end at h = chain-end 40 typeRows at h
 
+  -- a word that is none of the heads 40 to 45 is wrong
   pub type-no : (at : ℕ) → at < length ws → (payOf (getD ws at 0) ≡ 0 → 40 ≤ kindOf (getD ws at 0) → kindOf (getD ws at 0) ≤ 45 → ⊥) → Wrong at ≡ stepOf (fieldAt ws ns n sub subS TypeRef at)
   unfolding chain
   type-no at h f =
@@ -364,20 +415,24 @@ module _ (ws ns : List ℕ) (n : ℕ) (sub : ℕ → Got Expr) (subS : ℕ → G
       let k : kindOf (getD ws at 0) ≡ 40 + j = omega (arith, e) in
       f (omega (arith, e)) (omega (arith, k)) (omega (arith, k, i)))
 
+  -- 40 to 43: nothing follows
   pub type-plain : (at : ℕ) → at < length ws → payOf (getD ws at 0) ≡ 0 → 40 ≤ kindOf (getD ws at 0) → kindOf (getD ws at 0) ≤ 43 → Read (record { at = at + 1 }) ≡ stepOf (fieldAt ws ns n sub subS TypeRef at)
   unfolding rowAt stepOf
   type-plain at h p a b =
       type-yes (kindOf (getD ws at 0) - 40) at h (omega arith) p (omega arith)
       (rw (plain-row (kindOf (getD ws at 0) - 40) (omega arith)) refl)
 
+  -- 44: a length follows
   pub type-length : (at : ℕ) {r : Step} → at < length ws → payOf (getD ws at 0) ≡ 0 → kindOf (getD ws at 0) ≡ 44 → r ≡ stepOf (wordAt ws 4 (between 0 16777216) (at + 1)) → r ≡ stepOf (fieldAt ws ns n sub subS TypeRef at)
   unfolding fieldAt
   type-length at h p k e = type-yes 4 at h (omega arith) p k (row-one whole (at + 1) (last word _ e))
 
+  -- 45: a name follows
   pub type-name : (at : ℕ) {r : Step} → at < length ws → payOf (getD ws at 0) ≡ 0 → kindOf (getD ws at 0) ≡ 45 → r ≡ stepOf (wordAt ws 2 (λ (x : ℕ). eqb (getD ns x 0) 1) (at + 1)) → r ≡ stepOf (fieldAt ws ns n sub subS TypeRef at)
   unfolding fieldAt
   type-name at h p k e = type-yes 5 at h (omega arith) p k (row-one named (at + 1) (last word _ e))
 
+  -- the word is none of the heads from `first` on: it is wrong
   pub choice-no : (first count r at : ℕ) → r + count ≤ 93 → at < length ws → (payOf (getD ws at 0) ≡ 0 → first ≤ kindOf (getD ws at 0) → kindOf (getD ws at 0) - first < count → ⊥) → Wrong at ≡ stepOf (fieldAt ws ns n sub subS (chain first (take count (drop r allRows))) at)
   choice-no first count r at b h f =
       chain-no first (take count (drop r allRows)) at h (λ j i e.
@@ -385,6 +440,7 @@ module _ (ws ns : List ℕ) (n : ℕ) (sub : ℕ → Got Expr) (subS : ℕ → G
       let k : kindOf (getD ws at 0) ≡ first + j = omega (arith, e) in
       f (omega (arith, e)) (omega (arith, k)) (omega (arith, k, z)))
 
+  -- it is one of them: the row of its number follows
   pub choice-go : (first count r at : ℕ) {a : Step} → r + count ≤ 93 → at < length ws → payOf (getD ws at 0) ≡ 0 → first ≤ kindOf (getD ws at 0) → kindOf (getD ws at 0) - first < count → a ≡ stepOf (rowAt ws ns n sub subS (rowOf (r + (kindOf (getD ws at 0) - first))) (at + 1)) → a ≡ stepOf (fieldAt ws ns n sub subS (chain first (take count (drop r allRows))) at)
   choice-go first count r at {a} b h p f i q =
       let j : ℕ = kindOf (getD ws at 0) - first in
@@ -394,31 +450,38 @@ module _ (ws ns : List ℕ) (n : ℕ) (sub : ℕ → Got Expr) (subS : ℕ → G
 
 -- a statement: its head, then its row
 module _ (ws : List ℕ) (at : ℕ) where
+  -- past the words no head is
   pub head-end : length ws ≤ at → stmtHead ws at ≡ wrong (length ws)
   unfolding stmtHead
   head-end h = simp (le-ltb at (length ws) h)
 
+  -- a kind below 64 is none
   pub head-low : at < length ws → kindOf (getD ws at 0) < 64 → stmtHead ws at ≡ wrong at
   unfolding stmtHead
   head-low h k = simp (lt-ltb at (length ws) h, lt-leb 64 (kindOf (getD ws at 0)) k)
 
+  -- nor is one from 118 on
   pub head-high : at < length ws → 64 ≤ kindOf (getD ws at 0) → 118 ≤ kindOf (getD ws at 0) → stmtHead ws at ≡ wrong at
   unfolding stmtHead
   head-high h k z = simp (lt-ltb at (length ws) h, le-leb 64 (kindOf (getD ws at 0)) k, le-ltb (kindOf (getD ws at 0)) 118 z)
 
+  -- one from 64 to 117 is
   pub head-ok : at < length ws → 64 ≤ kindOf (getD ws at 0) → kindOf (getD ws at 0) < 118 → stmtHead ws at ≡ got (getD ws at 0) (at + 1)
   unfolding stmtHead
   head-ok h k z = simp (lt-ltb at (length ws) h, le-leb 64 (kindOf (getD ws at 0)) k, lt-ltb (kindOf (getD ws at 0)) 118 z)
 
+-- without a head there is no statement
 pub stmt-bad : (ws ns : List ℕ) (n left at p : ℕ) → stmtHead ws at ≡ wrong p → Wrong p ≡ stepOf (stmtAt ws ns n left at)
 unfolding stmtAt bind stepOf
 stmt-bad ws ns n zero at p h = rw h refl
 stmt-bad ws ns n (suc d) at p h = rw h refl
 
+-- a head where no level is left is too deep
 pub stmt-deep : (ws ns : List ℕ) (n left at w m : ℕ) → left ≡ 0 → stmtHead ws at ≡ got w m → Deep at ≡ stepOf (stmtAt ws ns n left at)
 unfolding stmtAt bind stepOf
 stmt-deep ws ns n left at w m z h = rw (z, h) refl
 
+-- row 39 + j is that of the j-th kind
 pub row-kind : (j : ℕ) → j < 54 → rowOf (j + 39) ≡ sorts (kindAt j)
 unfolding rowOf allRows kindAt kinds parts
 row-kind j h =
@@ -427,6 +490,7 @@ row-kind j h =
     ∙ getD-any (map sorts kinds) j nil (sorts lock) h
     ∙ List·getD-map sorts kinds j lock
 
+-- behind the head, with one level less, the row of its kind
 pub stmt-go : (ws ns : List ℕ) (n left at : ℕ) {r : Step} → (left ≡ 0 → ⊥) → at < length ws → 64 ≤ kindOf (getD ws at 0) → kindOf (getD ws at 0) < 118 → r ≡ stepOf (rowAt ws ns n (exprAt ws (strings ns n) (left - 1)) (stmtAt ws ns n (left - 1)) (rowOf (kindOf (getD ws at 0) - 64 + 39)) (at + 1)) → r ≡ stepOf (stmtAt ws ns n left at)
 unfolding stmtAt restAt bind
 stmt-go ws ns n zero at z a b c h = absurd (z refl)

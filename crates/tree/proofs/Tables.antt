@@ -21,6 +21,7 @@ unfoldable pub Past : ℕ → ℕ → Type 0
 Past zero k = Unit
 Past (suc n) k = Past n k × (OneOf (n ∷ []) k → ⊥)
 
+-- past arms 0 to n - 1: it is at least n
 pub beyond : (n k : ℕ) → Past n k → n ≤ k
 unfolding Past
 beyond zero k p = omega arith
@@ -36,6 +37,7 @@ unfolding PastFrom
 beyond-from a zero k h p = omega arith
 beyond-from a (suc n) k h p = omega (arith, past (a + n) k (beyond-from a n k h (p .0)) (p .1))
 
+-- past the last row the answer is 0
 pub no-row : (ls : List (List ℕ)) (a n r : ℕ) → length ls ≡ a + n → a ≤ r → PastFrom a n r → 0 ≡ pack (getD ls r [])
 no-row ls a n r e h p = sym (ap pack (List·getD-eq-default ls [] (omega (arith, e, beyond-from a n r h p))))
 
@@ -45,10 +47,12 @@ arm ls n e q = q ∙ ap (λ (k : ℕ). pack (getD ls k [])) (sym e)
 
 -- ---- the parts' rows, then the statements'
 
+-- the first 39 rows are the parts'
 pub codes-part : (r : ℕ) → r < 39 → getD partCodes r [] ≡ codes r
 unfolding codes partCodes
 codes-part r h = sym (List·getD-append partCodes stmtCodes [] r h)
 
+-- those after them are the statements'
 pub codes-stmt : (r : ℕ) → 39 ≤ r → getD stmtCodes (r - 39) [] ≡ codes r
 unfolding codes partCodes
 codes-stmt r h =
@@ -117,5 +121,6 @@ module _ (g : ℕ → ℕ) (h : (j : ℕ) → g j < 256) where
   digit (suc (suc (suc (suc (suc zero))))) k = ap (λ (x : ℕ). x % 256) (step (g 0) from-1 4294967296 (h 0) ∙ step (g 1) from-2 16777216 (h 1) ∙ step (g 2) from-3 65536 (h 2) ∙ step (g 3) from-4 256 (h 3) ∙ step (g 4) (g 5) 1 (h 4)) ∙ last (g 5) (h 5)
   digit (suc (suc (suc (suc (suc (suc i)))))) k = absurd (omega arith)
 
+-- byte i of a row's number is the row's i-th
 pub codes-at : (r i : ℕ) → i < 6 → pack (codes r) / 2 ^ (8 * i) % 256 ≡ getD (codes r) i 0
 codes-at r i k = digit (λ (j : ℕ). getD (codes r) j 0) (λ (j : ℕ). codes-byte r j) i k

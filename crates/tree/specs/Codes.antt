@@ -51,9 +51,11 @@ parts =
     (GotoTarget & nil) ∷  -- 38
     []
 
+-- every row that has a number
 unfoldable pub allRows : List Sorts
 allRows = parts ++ map sorts kinds
 
+-- the row of this number
 unfoldable pub rowOf : ℕ → Sorts
 rowOf r = getD allRows r nil
 
@@ -61,6 +63,7 @@ rowOf r = getD allRows r nil
 unfoldable pub singles : List Sort
 singles = never ∷ named ∷ quoted ∷ flag ∷ whole ∷ letter ∷ oneOf 4 ∷ oneOf 5 ∷ oneOf 18 ∷ expr ∷ stmt ∷ GotoTarget ∷ TypeRef ∷ PrintItem ∷ CaseClause ∷ ResumeTarget ∷ []
 
+-- the sort of a number: one of its own below 16, then options, lists and groups of a row
 unfoldable pub sortAt : ℕ → Sort
 sortAt s = pick (ltb s 16) (getD singles s never) (pick (ltb s 64) (opt (rowOf (s - 16))) (pick (ltb s 112) (many (rowOf (s - 64))) (group (rowOf (s - 112)))))
 
@@ -75,6 +78,7 @@ unfoldable pub chain : ℕ → List Sorts → Sort
 chain k [] = never
 chain k (ss ∷ rows) = either k ss (chain (suc k) rows)
 
+-- the rows in statements, in numbers
 unfoldable pub partCodes : List (List ℕ)
 partCodes =
     (9 ∷ 0 ∷ 0 ∷ 0 ∷ 0 ∷ 0 ∷ []) ∷
@@ -118,6 +122,7 @@ partCodes =
     (11 ∷ 0 ∷ 0 ∷ 0 ∷ 0 ∷ 0 ∷ []) ∷
     []
 
+-- the statements' own rows, in numbers
 unfoldable pub stmtCodes : List (List ℕ)
 stmtCodes =
     (4 ∷ 0 ∷ 0 ∷ 0 ∷ 0 ∷ 0 ∷ []) ∷  -- label
@@ -176,6 +181,7 @@ stmtCodes =
     (9 ∷ 35 ∷ 3 ∷ 0 ∷ 0 ∷ 0 ∷ []) ∷  -- lock
     []
 
+-- a row's numbers, six with zeros at the end
 unfoldable pub codes : ℕ → List ℕ
 codes r = getD (partCodes ++ stmtCodes) r []
 
@@ -193,6 +199,7 @@ unpack zero x = nil
 unpack (suc k) zero = nil
 unpack (suc k) (suc x) = sortAt (suc x % 256) & unpack k (suc x / 256)
 
+-- the fields of a row that is one number
 abbrev pub sortsOf : ℕ → Sorts
 sortsOf x = unpack x x
 

@@ -26,12 +26,15 @@ bareOf kind at = record { kind = kind; at = at; frame = record { fields = 0; row
 abbrev pub Past : ℕ → Turn
 Past m = bareOf 0 m
 
+-- from m on the frame is left
 abbrev pub Into : ℕ → Frame → Turn
 Into m f = record { kind = 1; at = m; frame = f }
 
+-- the first wrong word is at p
 abbrev pub Refused : ℕ → Turn
 Refused p = bareOf 2 p
 
+-- a head at p stands too deep
 abbrev pub TooDeep : ℕ → Turn
 TooDeep p = bareOf 3 p
 

@@ -46,5 +46,6 @@ zero-at zero i = refl
 zero-at (suc k) zero = refl
 zero-at (suc k) (suc i) = zero-at k i
 
+-- whatever the words: no slot has a place
 pub blank : (ws ns : List ℕ) (n k : ℕ) → Remembers ws ns n (replicate {A = ℕ} k 0)
 blank ws ns n k = record { right = λ i at e v end S. absurd (omega (arith, e, zero-at k (2 * i))) }

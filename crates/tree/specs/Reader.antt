@@ -43,6 +43,7 @@ module _ (ws : List ℕ) where
     module _ (sub : ℕ → Got Expr) (subS : ℕ → Got (Tree Expr (one stmt))) where
       -- a field of the sort s, a row of fields: `sub` reads an expression inside, `subS` a statement
       unfoldable mutual
+        -- a field: one word, or as its sort says
         pub fieldAt : (s : Sort) → ℕ → Got (Tree Expr (one s))
         fieldAt (leaf l) at = bind (wordAt (kindL l) (okL ns n l) at) (λ x m. got (word x) m)
         fieldAt expr at = bind (sub at) (λ e m. got (value e) m)
@@ -52,6 +53,7 @@ module _ (ws : List ℕ) where
         fieldAt (either k ss s) at = pick (isAt (wordOf k 0) at) (bind (rowAt ss (at + 1)) (λ r m. got (this r) m)) (bind (fieldAt s at) (λ v m. got (that v) m))
         fieldAt never at = neverAt at
 
+        -- the fields of a row, one after the other
         pub rowAt : (ss : Sorts) → ℕ → Got (Tree Expr (row ss))
         rowAt nil at = got done at
         rowAt (s & ss) at = bind (fieldAt s at) (λ v m. bind (rowAt ss m) (λ r m′. got (cons v r) m′))

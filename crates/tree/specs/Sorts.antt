@@ -10,6 +10,7 @@ pub data Leaf : Type 0 where
   mark : (kind from below : ℕ) → Leaf
 
 mutual
+  -- the sort of a field
   pub data Sort : Type 0 where
     leaf : Leaf → Sort
     expr stmt : Sort
@@ -23,16 +24,20 @@ mutual
     -- no word is right
     never : Sort
 
+  -- those of a row of fields
   pub data Sorts : Type 0 where
     nil : Sorts
     _&_ : Sort → Sorts → Sorts
 
+-- a bool
 abbrev pub flag : Sort
 flag = leaf (mark 3 0 2)  -- kind 3, 0 or 1: bool
 
+-- an integer that is not negative
 abbrev pub whole : Sort
 whole = leaf (mark 4 0 16777216)  -- kind 4: any other integer
 
+-- a char from A to Z
 abbrev pub letter : Sort
 letter = leaf (mark 7 65 91)  -- kind 7, A to Z: char
 
@@ -44,6 +49,7 @@ oneOf n = leaf (mark 9 0 n)
 abbrev pub named : Sort
 named = leaf name
 
+-- any string
 abbrev pub quoted : Sort
 quoted = leaf text
 
@@ -55,6 +61,7 @@ opt ss = either 0 nil (group ss)
 abbrev pub exprs : Sort
 exprs = many (expr & nil)
 
+-- a list of statements
 abbrev pub body : Sort
 body = many (stmt & nil)
 
@@ -82,24 +89,31 @@ ResumeTarget = either 52 nil (either 53 nil (either 54 (GotoTarget & nil) never)
 
 -- ---- the Rust's structs: after each its fields' names in order
 
+-- what may be assigned to: a variable, an array's element, a record's field
 abbrev pub LValue : Sorts
 LValue = named & opt (exprs & nil) & many (named & nil) & nil  -- name, indices, fields
 
+-- what DIM and REDIM declare
 abbrev pub Declarator : Sorts
 Declarator = named & opt (exprs & nil) & many (opt (expr & nil) & nil) & opt (TypeRef & nil) & nil  -- name, dimensions, lowers, ty
 
+-- a procedure's parameter
 abbrev pub Param : Sorts
 Param = named & flag & flag & opt (TypeRef & nil) & nil  -- name, byval, array, ty
 
+-- what SHARED and STATIC name
 abbrev pub ScopeItem : Sorts
 ScopeItem = named & flag & opt (TypeRef & nil) & nil  -- name, array, ty
 
+-- a field of a TYPE
 abbrev pub FieldDecl : Sorts
 FieldDecl = named & TypeRef & nil  -- name, ty
 
+-- a slice of FIELD
 abbrev pub FieldSlice : Sorts
 FieldSlice = expr & group LValue & nil  -- width, target
 
+-- an item of DATA
 abbrev pub DataItem : Sorts
 DataItem = quoted & flag & nil  -- text, quoted
 

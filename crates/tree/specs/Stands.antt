@@ -5,6 +5,7 @@ use Rattle.expr.specs.Expr.{Expr}
 use Rattle.expr.specs.Stands.{Wrote}
 use Rattle.tree.specs.Tree.{Shape, Tree, wordsT, Right}
 
+-- a right tree stands from `at` to `end`
 pub record Stands (ws ns : List ℕ) (n : ℕ) {i : Shape} (at : ℕ) (v : Tree Expr i) (end : ℕ) : Type 0 where
   pub wrote : Wrote ws at (wordsT v) end
   pub valid : Right ns n v

@@ -29,20 +29,25 @@ use Rattle.types.proofs.Laws.{code-kept, Put, RowsAre}
 pub record Alike (owner : ℕ) (rows rows′ : List Row) : Type 0 where
   pub same : (x : ℕ) → x < 16777216 → (x ≡ owner → ⊥) → find (entryKey 130 x 0) rows′ ≡ find (entryKey 130 x 0) rows
 
+-- rows and themselves
 pub alike-refl : {owner : ℕ} {rows : List Row} → Alike owner rows rows
 alike-refl = record { same = λ x h n. refl }
 
+-- by way of others
 pub alike-trans : {owner : ℕ} {a b c : List Row} → Alike owner a b → Alike owner b c → Alike owner a c
 alike-trans A B = record { same = λ x h n. B .same x h n ∙ A .same x h n }
 
 module _ (owner : ℕ) (rows : List Row) where
+  -- after fields of the TYPE's own were taken out
   pub alike-remove : (from : ℕ) → from < 16777216 → Alike owner rows (remove (entryKey 131 owner from) (entryKey 131 (owner + 1) 0) rows)
   alike-remove from s = record { same = λ x h n. find-remove-out (entryKey 130 x 0) (entryKey 131 owner from) (entryKey 131 (owner + 1) 0) rows (inl (omega arith)) (omega arith) }
 
+  -- after its own row was entered
   pub alike-type : (words line : ℕ) → Alike owner rows (insert (typeRow owner words line) rows)
   unfolding key
   alike-type words line = record { same = λ x h n. find-insert-other (entryKey 130 x 0) (typeRow owner words line) rows (λ e. n (omega (arith, e))) }
 
+  -- after a field of its own was
   pub alike-field : (i name word h a : ℕ) → Alike owner rows (insert (fieldRow owner i name word h a) rows)
   unfolding key
   alike-field i name word h a = record { same = λ x s n. find-insert-other (entryKey 130 x 0) (fieldRow owner i name word h a) rows (λ e. omega (arith, e)) }
@@ -52,14 +57,17 @@ abbrev pub Small : List FieldDecl → Type 0
 Small [] = Unit {0}
 Small (f ∷ fs) = (arg (f .ty) < 16777216) × Small fs
 
+-- one more such field
 pub small-snoc : (fs : List FieldDecl) (f : FieldDecl) → Small fs → arg (f .ty) < 16777216 → Small (fs ++ (f ∷ []))
 small-snoc [] f S h = (h, tt)
 small-snoc (g ∷ gs) f S h = (S .0, small-snoc gs f (S .1) h)
 
+-- the first of two lists
 pub small-left : (fs gs : List FieldDecl) → Small (fs ++ gs) → Small fs
 small-left [] gs S = tt
 small-left (f ∷ fs) gs S = (S .0, small-left fs gs (S .1))
 
+-- the second
 pub small-right : (fs gs : List FieldDecl) → Small (fs ++ gs) → Small gs
 small-right [] gs S = S
 small-right (f ∷ fs) gs S = small-right fs gs (S .1)
@@ -79,6 +87,7 @@ module _ (owner : ℕ) (rows rows′ : List Row) (A : Alike owner rows rows′) 
   said-alike x [] S = refl
   said-alike x (f ∷ fs) S = rw (type-code-alike (head (f .ty)) (arg (f .ty)) (S .0), said-alike x fs (S .1)) refl
 
+  -- a field's code
   pub code-alike : (before : List FieldDecl) (name h a : ℕ) → Small before → a < 16777216 → codeOf rows′ owner before name h a ≡ codeOf rows owner before name h a
   unfolding codeOf
   code-alike before name h a S s = rw (said-alike name before S, type-code-alike h a s) refl
@@ -96,6 +105,7 @@ module _ (owner : ℕ) (rows rows′ : List Row) (A : Alike owner rows rows′) 
           absurd (omega arith)
       go false true p false q = ap recordWords (A .same a s (eqb-false a owner q))
 
+  -- the words after a field
   pub sized-alike : (before : List FieldDecl) (words name h a : ℕ) → a < 16777216
       → sized rows′ words (codeOf rows owner before name h a) h a ≡ sized rows words (codeOf rows owner before name h a) h a
   unfolding sized
@@ -106,6 +116,7 @@ module _ (owner : ℕ) (rows rows′ : List Row) (A : Alike owner rows rows′) 
       go true e = rw (words-alike h a s (code-kept rows owner before name h a (eqb-true _ 0 e))) refl
       go false e = pick-false _ _ e ∙ sym (pick-false _ _ e)
 
+  -- the kept fields
   pub kept-alike : (words : ℕ) (before fs : List FieldDecl) → Small before → Small fs → keptFields rows′ owner words before fs ≡ keptFields rows owner words before fs
   unfolding keptFields
   kept-alike words before [] B S = refl
@@ -118,10 +129,12 @@ module _ (owner : ℕ) (rows rows′ : List Row) (A : Alike owner rows rows′) 
 
 -- ---- states
 
+-- a run's rows are such; of a stopped run nothing is said
 abbrev pub AlikeIn : ℕ → List Row → State → Type 0
 AlikeIn owner rows (running r n) = Alike owner rows r
 AlikeIn owner rows (stopped k) = Unit {0}
 
+-- a change that leaves them such does so in a run
 pub change-alike : (owner N : ℕ) (rows : List Row) (f : List Row → List Row) → ((r : List Row) → Alike owner r (f r)) → (st : State) → AlikeIn owner rows st → AlikeIn owner rows (change (some N) f st)
 unfolding change
 change-alike owner N rows f g (running r n) A = go (fits width (some N) (f r))
@@ -190,6 +203,7 @@ module _ (owner words line many : ℕ) (fs : List FieldDecl) {t t₁ t₂ r : Co
   unfolding changing entering enter change asking
   put-stopped d N D k H = R₃ .after d N D (stopped k) (R₂ .after d N D (stopped k) (R₁ .after d N D (stopped k) H))
 
+  -- what these three leave is what the one change of the rows leaves
   pub put-does : (d : List ℕ) → t .notes * noteWidth ≤ length d → (N D : ℕ) (rows : List Row) (st : State) → RowsAre rows owner st → many ≡ length (keptFields rows owner 0 [] fs) → Held N D st t b d
       → Held N D (Put rows owner N line words (keptFields rows owner 0 [] fs) st) r b′ d
   put-does d fit N D rows (running r′ n′) e m H =

@@ -25,6 +25,7 @@ pub record SayingAt (ws ns : List ℕ) (m : ℕ) (v : Tree Expr (manyRows FieldR
   pub enough : left ≤ count rest
   pub same : (rows : List Row) → Keeps rows k b → said rows owner field (take n (rowsOf fieldDecl v)) ≡ said rows owner field (take left (rowsOf fieldDecl rest))
 
+-- the same of whatever fields stand there
 pub record Saying (ws : List ℕ) (at n owner field a left k : ℕ) (b : List ℕ) : Type 0 where
   pub of : (ns : List ℕ) (m : ℕ) (v : Tree Expr (manyRows FieldRow)) (end : ℕ) → Stands ws ns m at v end → n ≤ count v → SayingAt ws ns m v end n owner field a left k b
 
@@ -45,15 +46,18 @@ unfolding said
 said-false rows owner field f fs name h a p q r e = rw (sym p, sym q, sym r) (rw (sym e) refl)
 
 module _ {ws : List ℕ} {at n owner field k : ℕ} {b : List ℕ} where
+  -- at first all n are left
   pub saying-all : Saying ws at n owner field at n k b
   saying-all = record { of = λ ns m v end S h. record { rest = v; there = S; enough = h; same = λ rows H. refl } }
 
+  -- where some are left, the next field stands at a
   pub saying-some : {a left : ℕ} → SomeFields ws at n → Saying ws at n owner field a left k b → 0 < left → SomeTree (oneRow FieldRow) ws a
   saying-some {a} {left} F Y h =
       let p = Y .of (F .names) (F .strings) (F .tree) (F .end) (F .stands) (F .enough) in
       let q = next-of (p .rest) (omega (arith, p .enough)) (p .there) in
       record { names = F .names; strings = F .strings; tree = q .field; end = q .mid; stands = q .here }
 
+  -- it is such a field: the field was said
   pub saying-hit : {a left : ℕ} → Saying ws at n owner field a left k b → 0 < left → (f : FieldAt) → FieldIs ws a f
       → ((rows : List Row) → Keeps rows k b → true ≡ (eqb (f .name) field && eqb (typeCode rows owner (f .head) (f .arg)) 0))
       → (rows : List Row) → Keeps rows k b → Upto ws at n (λ fs. true ≡ said rows owner field fs)
@@ -67,6 +71,7 @@ module _ {ws : List ℕ} {at n owner field k : ℕ} {b : List ℕ} where
             ∙ sym (p .same rows H ∙ ap (λ (l : List FieldDecl). said rows owner field (take left l)) (q .items) ∙ ap (said rows owner field) (take-one left (fieldDecl (q .field)) (rowsOf fieldDecl (q .tail)) h));
       }
 
+  -- it isn't: the fields after it decide
   pub saying-next : {a left : ℕ} → Saying ws at n owner field a left k b → 0 < left → (f : FieldAt) → FieldIs ws a f
       → ((rows : List Row) → Keeps rows k b → false ≡ (eqb (f .name) field && eqb (typeCode rows owner (f .head) (f .arg)) 0))
       → Saying ws at n owner field (f .next) (left - 1) k b
@@ -86,6 +91,7 @@ module _ {ws : List ℕ} {at n owner field k : ℕ} {b : List ℕ} where
             };
       }
 
+  -- none is left: the field was not said
   pub saying-none : {a left : ℕ} → Saying ws at n owner field a left k b → (0 < left → ⊥) → (rows : List Row) → Keeps rows k b → Upto ws at n (λ fs. false ≡ said rows owner field fs)
   unfolding said
   saying-none {a} {left} Y h rows H =
@@ -99,10 +105,12 @@ module _ {ws : List ℕ} {at n owner field k : ℕ} {b : List ℕ} where
 -- ---- a field's code
 
 module _ {ws : List ℕ} {at n : ℕ} (owner field h a : ℕ) (rows : List Row) where
+  -- a field that was said before has the code 5
   pub code-twice : Upto ws at n (λ fs. true ≡ said rows owner field fs) → Upto ws at n (λ fs. 5 ≡ codeOf rows owner fs field h a)
   unfolding codeOf
   code-twice U = record { of = λ ns m v end S c. sym (pick-true 5 (typeCode rows owner h a) (sym (U .of ns m v end S c))) }
 
+  -- any other has its type's code
   pub code-once : (code : ℕ) → code ≡ typeCode rows owner h a → Upto ws at n (λ fs. false ≡ said rows owner field fs) → Upto ws at n (λ fs. code ≡ codeOf rows owner fs field h a)
   unfolding codeOf
   code-once code e U = record { of = λ ns m v end S c. e ∙ sym (pick-false 5 (typeCode rows owner h a) (sym (U .of ns m v end S c))) }

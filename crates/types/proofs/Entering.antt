@@ -68,6 +68,7 @@ module _ (owner N : ℕ) (rows : List Row) (whole : State) where
   unfolding keptFields
   keep-step k k′ w w′ code name h a before tail f st ec en eh ea ew ek = rw (ek, ew, ec, en, eh, ea) (keep-one k w f st (eqb (fieldCode rows owner before f) 0) (keptFields rows owner (sizedBy rows owner w before f) (before ++ (f ∷ [])) tail))
 
+-- before the first all are left to enter
 pub inside-start : (owner N D : ℕ) (fs : List FieldDecl) (st : State) → Inside owner N (rowsIn st) (Entering owner fs N D st) 0 0 [] fs st
 unfolding asking
 inside-start owner N D fs (running r n) = (alike-refl, refl)
@@ -77,6 +78,7 @@ inside-start owner N D fs (stopped k) = refl
 module _ (owner N : ℕ) (rows : List Row) (whole : State) (k k′ w w′ code name h a cnt : ℕ) (before tail : List FieldDecl) (f : FieldDecl) (b : List ℕ)
     (B : Small before) (s : arg (f .ty) < 16777216) (en : name ≡ f .name) (eh : h ≡ head (f .ty)) (ea : a ≡ arg (f .ty)) (ek : k′ ≡ pick (eqb code 0) (k + 1) k)
     (told : (r : List Row) → Keeps r cnt b → (code ≡ fieldCode r owner before f) × (w′ ≡ sized r w code h a)) where
+  -- it is entered where it is kept; the others are left
   pub inside-next : (st : State) → ((r n : List Row) → st ≡ running r n → Keeps r cnt b) → Inside owner N rows whole k w before (f ∷ tail) st
       → Inside owner N rows whole k′ w′ (before ++ (f ∷ [])) tail (each (enter (some N)) (pick (eqb code 0) (fieldRow owner k name w h a ∷ []) []) st)
   inside-next (running r n) H I =
@@ -93,15 +95,18 @@ module _ (owner N : ℕ) (rows : List Row) (whole : State) (k k′ w w′ code n
 
 -- ---- the loop
 
+-- between two fields: the state, and that what is left leads to the same end
 pub record Mid (N D owner : ℕ) (st₀ : State) (fs : List FieldDecl) (c : Kept) (b d : List ℕ) (before after : List FieldDecl) : Type 0 where
   pub state : State
   pub held : Held N D state (c .counts) b d
   pub inside : Inside owner N (rowsIn st₀) (Entering owner fs N D st₀) (c .fields) (c .words) before after state
 
+-- after i fields of v, whatever state the run began with
 pub record EnteringAt (ws ns : List ℕ) (m : ℕ) (v : Tree Expr (manyRows FieldRow)) (end owner : ℕ) (s : Counts) (b₀ : List ℕ) (c : Kept) (a i : ℕ) (b : List ℕ) : Type 0 where
   pub past : Rest ws ns m v end a i
   pub mid : (d : List ℕ) (N D : ℕ) (st₀ : State) → Held N D st₀ s b₀ d → Mid N D owner st₀ (rowsOf fieldDecl v) c b d (past .before) (rowsOf fieldDecl (past .rest))
 
+-- the same of whatever fields stand there, and the counts fit
 pub record EnteringMid (ws : List ℕ) (at n owner : ℕ) (s : Counts) (b₀ : List ℕ) (c : Kept) (a i : ℕ) (b : List ℕ) : Type 0 where
   pub fit : c .counts .rows * width ≤ length b
   pub kept : c .counts .notes ≡ s .notes
@@ -114,6 +119,7 @@ held-rows : {N D : ℕ} {c : Counts} {b d : List ℕ} (st : State) → Held N D 
 held-rows {N} {D} {c} {b} {d} st H r n e = subst (λ (x : State). Held N D x c b d) e H .inside .1
 
 module _ {ws : List ℕ} {at n owner : ℕ} {s : Counts} {b₀ : List ℕ} where
+  -- before the first all are left
   pub entering-all : s .rows * width ≤ length b₀ → EnteringMid ws at n owner s b₀ (record { counts = s; fields = 0; words = 0 }) at 0 b₀
   entering-all h =
       record {
@@ -125,12 +131,14 @@ module _ {ws : List ℕ} {at n owner : ℕ} {s : Counts} {b₀ : List ℕ} where
         walked = λ ns m v end S e. record { past = rest-all S; mid = λ d N D st₀ H. record { state = st₀; held = H; inside = inside-start owner N D (rowsOf fieldDecl v) st₀ } };
       }
 
+  -- where some are left, the next field stands at a
   pub entering-some : {c : Kept} {a i : ℕ} {b : List ℕ} → SomeFields ws at n → EnteringMid ws at n owner s b₀ c a i b → i < n → SomeTree (oneRow FieldRow) ws a
   entering-some {c} {a} {i} {b} F C h =
       let p = C .walked (F .names) (F .strings) (F .tree) (F .end) (F .stands) (F .enough) .past in
       let q = next-of (p .rest) (omega (arith, p .counted, F .enough)) (p .there) in
       record { names = F .names; strings = F .strings; tree = q .field; end = q .mid; stands = q .here }
 
+  -- one more entered, where it is kept
   pub entering-next : {c c′ : Kept} {a i : ℕ} {b b′ : List ℕ} → EnteringMid ws at n owner s b₀ c a i b → i < n → (f : FieldAt) → FieldIs ws a f → (code : ℕ)
       → ((rows : List Row) → Keeps rows (c .counts .rows) b → Upto ws at i (λ fs. code ≡ codeOf rows owner fs (f .name) (f .head) (f .arg)))
       → KeepsField owner code (f .name) (f .head) (f .arg) c c′ b b′ → EnteringMid ws at n owner s b₀ c′ (f .next) (i + 1) b′
@@ -167,6 +175,7 @@ module _ {ws : List ℕ} {at n owner : ℕ} {s : Counts} {b₀ : List ℕ} where
                 };
           }
 
+  -- none is left: all kept ones were entered
   pub entering-done : {c : Kept} {a i : ℕ} {b : List ℕ} → EnteringMid ws at n owner s b₀ c a i b → (i < n → ⊥) → Enters ws at n owner s (c .counts) b₀ b
   entering-done {c} {a} {i} {b} C h = record { after = by }
     where

@@ -32,6 +32,7 @@ has-snoc x [] f = or-false (eqb (f .name) x)
 has-snoc x (g ∷ gs) f = or-step (eqb (g .name) x) _ _ _ (has-snoc x gs f)
 
 module _ (rows : List Row) (owner : ℕ) where
+  -- a field of the name x that may stand there by its type
   abbrev pub hit : ℕ → FieldDecl → Bool
   hit x f = eqb (f .name) x && eqb (typeCode rows owner (head (f .ty)) (arg (f .ty))) 0
 
@@ -40,13 +41,16 @@ module _ (rows : List Row) (owner : ℕ) where
   said-snoc x [] f = or-false (hit x f)
   said-snoc x (g ∷ gs) f = or-step (hit x g) _ _ _ (said-snoc x gs f)
 
+  -- a name is among the kept fields exactly where it was said before
   abbrev pub Same : List FieldInfo → List FieldDecl → Type 0
   Same kept before = (x : ℕ) → hasField x kept ≡ said rows owner x before
 
+  -- so it is at first
   pub same-none : Same [] []
   unfolding hasField said
   same-none x = refl
 
+  -- a field of code 0 may stand there by its type
   pub code-kept : (before : List FieldDecl) (name h a : ℕ) → codeOf rows owner before name h a ≡ 0 → typeCode rows owner h a ≡ 0
   unfolding codeOf
   code-kept before name h a e = go (said rows owner name before) e
@@ -113,6 +117,7 @@ module _ (rows : List Row) (owner : ℕ) where
   looks-stays D line words code name h a =
       stays-pick (eqb code 0) _ _ (stays-pick (leb (words + typeWords rows h a) 65535) _ _ (λ k. refl) (stays-stop 9)) (stays-push D (noteOf code line owner name a))
 
+  -- a stopped run stays as it is
   pub checks-stays : (D line words : ℕ) (before fs : List FieldDecl) → Stays (checks D rows line owner words before fs)
   unfolding checks
   checks-stays D line words before [] k = refl
@@ -167,6 +172,7 @@ module _ (rows : List Row) (owner : ℕ) where
     unfolding checks total keptFields looks sized
     split-rejected info before fs f st e ih = rw (e) ih
 
+    -- the definition's fields are to look at all of them, and then to put the TYPE with the kept ones
     pub fields-split : (info : RecordInfo) (before fs : List FieldDecl) → Same (info .fields) before → (st : State) → Split info before fs st
     unfolding fields checks total keptFields withField
     fields-split info before [] S st = ap (λ (l : List FieldInfo). Put N line (info .words) l st) (sym (append-nil (info .fields)))
@@ -185,6 +191,7 @@ module _ (rows : List Row) (owner : ℕ) where
 
   -- ---- the rows stay as they are while the fields are looked at
 
+  -- the rows of a run are these; of a stopped run nothing is said
   abbrev pub RowsAre : State → Type 0
   RowsAre (running r n) = r ≡ rows
   RowsAre (stopped k) = Unit {0}
@@ -212,6 +219,7 @@ module _ (rows : List Row) (owner : ℕ) where
       go true false = stop-rows st
       go false u = push-rows D (noteOf code line owner name a) st e
 
+  -- looking at the fields leaves them
   pub checks-rows : (D line words : ℕ) (before fs : List FieldDecl) (st : State) → RowsAre st → RowsAre (checks D rows line owner words before fs st)
   unfolding checks
   checks-rows D line words before [] st e = e

@@ -21,6 +21,7 @@ use Rattle.types.proofs.Alike.{Small}
 
 -- ---- one field
 
+-- its name and its type, where the words have them
 pub record FieldParts (ws ns : List ℕ) (n at : ℕ) (v : Tree Expr (oneRow FieldRow)) (end : ℕ) : Type 0 where
   pub type : Tree Expr (one TypeSort)
   pub inside : at < length ws
@@ -28,6 +29,7 @@ pub record FieldParts (ws ns : List ℕ) (n at : ℕ) (v : Tree Expr (oneRow Fie
   pub there : Stands ws ns n (at + 1) type end
   pub type-is : typeRef type ≡ fieldDecl v .ty
 
+-- its name, and then its type
 pub field-parts : {ws ns : List ℕ} {n at end : ℕ} (v : Tree Expr (oneRow FieldRow)) → Stands ws ns n at v end → FieldParts ws ns n at v end
 unfolding wordsT Right fieldDecl
 field-parts {ws} {ns} {n} {at} {end} (cons (word x) (cons t done)) s =
@@ -36,14 +38,17 @@ field-parts {ws} {ns} {n} {at} {end} (cons (word x) (cons t done)) s =
     record { type = t; inside = f .inside; name-is = ap payOf (f .is) ∙ pay-is 2 x (s .valid .0 .1); there = record { wrote = rw (append-nil (wordsT t)) at q; valid = s .valid .1 .0 }; type-is = refl }
 
 module _ {ws : List ℕ} {at : ℕ} where
+  -- its name is within the words
   pub field-inside : SomeTree (oneRow FieldRow) ws at → at < length ws
   field-inside S = field-parts (S .tree) (S .stands) .inside
 
+  -- its type stands after the name
   pub field-type : SomeTree (oneRow FieldRow) ws at → SomeTree (one TypeSort) ws (at + 1)
   field-type S =
       let p = field-parts (S .tree) (S .stands) in
       record { names = S .names; strings = S .strings; tree = p .type; end = S .end; stands = p .there }
 
+  -- so the field is read from these words
   pub field-is : (t : TypeAt) → TypeIs ws (at + 1) t → FieldIs ws at (record { name = payOf (getD ws at 0); head = t .head; arg = t .arg; next = t .next })
   field-is t T =
       record {
@@ -57,6 +62,7 @@ module _ {ws : List ℕ} {at : ℕ} where
 
 -- ---- all of them
 
+-- of n fields the first i
 pub fewer : {ws : List ℕ} {at n i : ℕ} → SomeFields ws at n → i ≤ n → SomeFields ws at i
 fewer F h = record { names = F .names; strings = F .strings; tree = F .tree; end = F .end; stands = F .stands; enough = omega (arith, F .enough) }
 
@@ -69,6 +75,7 @@ type-small ns n (that (that (that (this done)))) r = lit< tt
 type-small ns n (that (that (that (that (this (cons (word k) done)))))) r = r .0 .1
 type-small ns n (that (that (that (that (that (this (cons (word x) done))))))) r = r .0 .1
 
+-- right fields have small arguments
 pub rows-small : (ns : List ℕ) (n : ℕ) (v : Tree Expr (manyRows FieldRow)) → Right ns n v → Small (rowsOf fieldDecl v)
 unfolding Right rowsOf fieldDecl
 rows-small ns n none r = tt
@@ -84,6 +91,7 @@ pub record Next (ws ns : List ℕ) (m a : ℕ) (rest : Tree Expr (manyRows Field
   pub items : rowsOf fieldDecl rest ≡ fieldDecl field ∷ rowsOf fieldDecl tail
   pub counted : count rest ≡ count tail + 1
 
+-- where fields are left, there is a first one
 pub next-of : {ws ns : List ℕ} {m a end : ℕ} (rest : Tree Expr (manyRows FieldRow)) → 0 < count rest → Stands ws ns m a rest end → Next ws ns m a rest end
 unfolding rowsOf
 next-of {ws} {ns} {m} rest h S =
@@ -105,9 +113,11 @@ pub record Rest (ws ns : List ℕ) (m : ℕ) (v : Tree Expr (manyRows FieldRow))
   pub counted : i + count rest ≡ count v
 
 module _ {ws ns : List ℕ} {m : ℕ} {v : Tree Expr (manyRows FieldRow)} {end : ℕ} where
+  -- before the first all are left
   abbrev pub rest-all : {at : ℕ} → Stands ws ns m at v end → Rest ws ns m v end at 0
   rest-all S = record { before = []; rest = v; there = S; is = refl; passed = refl; counted = omega arith }
 
+  -- after one more
   abbrev pub rest-next : {a i : ℕ} (p : Rest ws ns m v end a i) → (q : Next ws ns m a (p .rest) end) → (a′ : ℕ) → a′ ≡ q .mid → Rest ws ns m v end a′ (i + 1)
   rest-next {a} {i} p q a′ e =
       record {

@@ -41,6 +41,7 @@ pub record Asked : Type 0 where
 -- ---- the fields
 
 module _ {ws : List ℕ} {at n line owner : ℕ} {s : Counts} {b d : List ℕ} where
+  -- in a stopped run nothing is done
   pub defines-stopped : Fit s (length b) (length d) → (s .stop ≡ 0 → ⊥) → Defines ws at n line owner s s b d b d
   defines-stopped fit h = record { does = λ ns m v end S e bytes ends erased. record { fit = fit; after = by (rowsOf fieldDecl v) bytes ends erased } }
     where
@@ -70,6 +71,7 @@ module _ {ws : List ℕ} {at n line owner : ℕ} {s : Counts} {b d : List ℕ} w
           let z : 0 ≡ k = sym go ∙ H .inside .0 in
           absurd (omega (arith, H .inside .1))
 
+    -- the fields looked at, the old ones taken out, the TYPE and the kept ones entered: the definition's fields
     pub defines-done : Defines ws at n line owner s r b d b′ d₁
     defines-done =
         record {
@@ -80,6 +82,7 @@ module _ {ws : List ℕ} {at n line owner : ℕ} {s : Counts} {b d : List ℕ} w
 
 -- ---- the statement
 
+-- its parts, where the words have them, and what collecting sees of it
 pub record TypeParts (ws ns : List ℕ) (n at line : ℕ) (r : Tree Expr (oneRow (sorts typeKind))) (end : ℕ) : Type 0 where
   pub name : ℕ
   pub decls : Tree Expr (manyRows FieldRow)
@@ -91,6 +94,7 @@ pub record TypeParts (ws ns : List ℕ) (n at line : ℕ) (r : Tree Expr (oneRow
   pub named : eqb (getD ns name 0) 1 ≡ true
   pub view-is : view typeKind (over see r) ≡ TypeDef name (rowsOf fieldDecl decls)
 
+-- its line, its name, its count, and then its fields
 pub type-parts : {ws ns : List ℕ} {n at line end : ℕ} (r : Tree Expr (oneRow (sorts typeKind))) → Stands ws ns n at (Stmt typeKind line r) end → TypeParts ws ns n at line r end
 unfolding sorts wordsT Right view over items
 type-parts {ws} {ns} {n} {at} {line} {end} (cons (word x) (cons (list rs) done)) s =
@@ -119,9 +123,11 @@ module _ {ws : List ℕ} {at : ℕ} where
   abbrev type-there : (T : SomeType ws at) → TypeParts ws (T .any .names) (T .any .strings) at (T .any .stmt .line) (T .any .stmt .fields) (T .any .stmt .end)
   type-there T = type-parts (T .any .stmt .fields) (T .any .stmt .stands)
 
+  -- its line, its name and its count are within the words
   pub type-inside : SomeType ws at → at + 2 < length ws
   type-inside T = type-there T .inside
 
+  -- as many fields stand after them
   pub type-fields : SomeType ws at → SomeFields ws (at + 3) (payOf (getD ws (at + 2) 0))
   type-fields T =
       let p = type-there T in
@@ -156,6 +162,7 @@ module _ (ws : List ℕ) (at scope : ℕ) {s t₁ t₂ r : Counts} {b d d₁ d�
       same (λ N D. when (not (eqb scope 0)) (push (some D) (typeInside (payOf (getD ws at 0)) (payOf (getD ws (at + 1) 0))))) (λ N D st. ap (λ (t : Bool). when t (push (some D) (typeInside (payOf (getD ws at 0)) (payOf (getD ws (at + 1) 0)))) st) is)
       (notes-does B b (omega (arith, A .kept, fit .0)))
 
+  -- so the statement is collected
   pub type-collects : CollectsAny typeKind ws scope at s r b d b′ d′
   unfolding statement typeDef
   type-collects =

@@ -52,6 +52,7 @@ pub record Upto (ws : List ℕ) (at n : ℕ) (P : List FieldDecl → Type 0) : T
 
 -- ---- a field's code: 0 where it is kept, else its diagnostic's
 
+-- by its type alone: 6 where it is the TYPE's own, 7 where no TYPE has that name
 unfoldable pub typeCode : List Row → (owner head arg : ℕ) → ℕ
 typeCode rows owner head arg = pick (eqb head 45) (pick (eqb arg owner) 6 (pick (has rows 130 arg 0) 0 7)) 0
 
@@ -60,38 +61,47 @@ unfoldable pub said : List Row → (owner field : ℕ) → List FieldDecl → Bo
 said rows owner field [] = false
 said rows owner field (f ∷ fs) = (eqb (f .name) field && eqb (typeCode rows owner (head (f .ty)) (arg (f .ty))) 0) || said rows owner field fs
 
+-- by its name first: 5 where one before it is kept under the same
 unfoldable pub codeOf : List Row → (owner : ℕ) → (before : List FieldDecl) → (name head arg : ℕ) → ℕ
 codeOf rows owner before name head arg = pick (said rows owner name before) 5 (typeCode rows owner head arg)
 
+-- the same of a field as it is declared
 abbrev pub fieldCode : List Row → (owner : ℕ) → (before : List FieldDecl) → FieldDecl → ℕ
 fieldCode rows owner before f = codeOf rows owner before (f .name) (head (f .ty)) (arg (f .ty))
 
+-- the diagnostic of a code 5, 6 or 7
 unfoldable pub noteOf : (code line owner name arg : ℕ) → Row
 noteOf code line owner name arg = pick (eqb code 5) (fieldTwice line name owner) (pick (eqb code 6) (containsItself line owner) (fieldUndefined line name arg))
 
 -- ---- the words: those of the kept fields, where they are not too many
 
+-- so many more words, unless they would pass 65,535
 unfoldable pub grown : (words more : ℕ) → ℕ
 grown words more = pick (leb (words + more) 65535) (words + more) words
 
+-- the words after a field of this code
 unfoldable pub sized : List Row → (words code head arg : ℕ) → ℕ
 sized rows words code head arg = pick (eqb code 0) (grown words (typeWords rows head arg)) words
 
 -- ---- looking at one field, at all of them
 
+-- one field: a diagnostic, number 9 where the words would be too many, or nothing
 unfoldable pub looks : (D : ℕ) → List Row → (line owner words code name head arg : ℕ) → Step
 looks D rows line owner words code name head arg =
     pick (eqb code 0) (pick (leb (words + typeWords rows head arg) 65535) nothing (stop 9)) (push (some D) (noteOf code line owner name arg))
 
+-- the words after a field as it is declared
 abbrev pub sizedBy : List Row → (owner words : ℕ) → (before : List FieldDecl) → FieldDecl → ℕ
 sizedBy rows owner words before f = sized rows words (fieldCode rows owner before f) (head (f .ty)) (arg (f .ty))
 
+-- all of them in order
 unfoldable pub checks : (D : ℕ) → List Row → (line owner words : ℕ) → (before after : List FieldDecl) → Step
 checks D rows line owner words before [] = nothing
 checks D rows line owner words before (f ∷ fs) =
     looks D rows line owner words (fieldCode rows owner before f) (f .name) (head (f .ty)) (arg (f .ty))
     ⨾ checks D rows line owner (sizedBy rows owner words before f) (before ++ (f ∷ [])) fs
 
+-- the words of all kept ones
 unfoldable pub total : List Row → (owner words : ℕ) → (before after : List FieldDecl) → ℕ
 total rows owner words before [] = words
 total rows owner words before (f ∷ fs) = total rows owner (sizedBy rows owner words before f) (before ++ (f ∷ [])) fs

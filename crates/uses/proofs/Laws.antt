@@ -33,10 +33,12 @@ use Rattle.uses.specs.declared.Answer.the-variants.{Counted, NoUse}
 
 -- ---- what the walk found
 
+-- a use was found: its count
 pub counted-told : (u : Use) → u .found ≡ true → told (Counted (u .count)) ≡ gives (useOf u)
 unfolding told useOf
 counted-told u q = rw q refl
 
+-- none was: none
 pub none-told : (u : Use) → u .found ≡ false → told NoUse ≡ gives (useOf u)
 unfolding told useOf
 none-told u q = rw q refl
@@ -47,6 +49,7 @@ module _ {ns ws : List ℕ} {at : ℕ} (R : WasRead ns ws at) where
   stands : Stands ws ns (length ns) 0 (R .body) at
   stands = let f = program-sound ws ns (length ns) (R .body) at (R .reads) in record { wrote = f .wrote; valid = f .valid }
 
+  -- a list of statements stands at the first word
   pub body-there : SomeTree (one body) ws 0
   body-there = record { names = ns; strings = length ns; tree = R .body; end = at; stands = stands }
 
@@ -58,6 +61,7 @@ module _ {ns ws : List ℕ} {at : ℕ} (R : WasRead ns ws at) where
   unfolding countOf programOf wholeOf rest
   read-is name = ap (λ (g : Got Program). after (wholeOf ws g) (rest name)) (R .reads)
 
+  -- words over: 2 at the first of them
   pub over-is : (name : ℕ) → (at ≡ length ws → ⊥) → refused (Word at) ≡ countOf ns ws name
   unfolding refused after
   over-is name z = sym (read-is name ∙ ap (λ (b : Bool). after (pick b (gives (R .body)) (stops 2 at)) (rest name)) (ne-eqb at (length ws) z))
@@ -66,10 +70,12 @@ module _ {ns ws : List ℕ} {at : ℕ} (R : WasRead ns ws at) where
   unfolding after
   whole-is name q = read-is name ∙ ap (λ (b : Bool). after (pick b (gives (R .body)) (stops 2 at)) (rest name)) (eq-eqb at (length ws) q)
 
+  -- a number that is no name's: 11
   pub no-name-is : (name : ℕ) → at ≡ length ws → isMarked ns name ≡ false → refused Lookup ≡ countOf ns ws name
   unfolding refused rest unless
   no-name-is name q z = sym (whole-is name q ∙ ap (λ (b : Bool). unless b 11 0 (gives (subscriptCount (λ name (e : Expr). inExpr name e) name (R .body)))) z)
 
+  -- else what the walk found
   pub counted-is : (name : ℕ) {t : Told (Option ℕ)} {o : Option ℕ} → at ≡ length ws → isMarked ns name ≡ true → ((ks : List ℕ) (k : ℕ) (v : Tree Expr (one body)) (end : ℕ) → Stands ws ks k 0 v end → o ≡ subscriptCount (λ name (e : Expr). inExpr name e) name v) → t ≡ gives o → t ≡ countOf ns ws name
   unfolding rest unless
   counted-is name q z f e = e ∙ ap gives (f ns (length ns) (R .body) at stands) ∙ sym (whole-is name q ∙ ap (λ (b : Bool). unless b 11 0 (gives (subscriptCount (λ name (e : Expr). inExpr name e) name (R .body)))) z)
@@ -77,13 +83,16 @@ module _ {ns ws : List ℕ} {at : ℕ} (R : WasRead ns ws at) where
 -- ---- what reading gave
 
 module _ (ns ws : List ℕ) (name : ℕ) where
+  -- it was read, up to a place
   pub was-read : {s : Step} {c : Cursor} → s ≡ stepOf (programAt ws ns (length ns)) → s ≡ Read c → WasRead ns ws (c .at)
   was-read e q = let r = answer-read (programAt ws ns (length ns)) e q in record { body = r .tree; reads = r .is }
 
+  -- a wrong word: 2
   pub wrong-is : {s : Step} {p : ℕ} → s ≡ stepOf (programAt ws ns (length ns)) → s ≡ Wrong p → refused (Word p) ≡ countOf ns ws name
   unfolding countOf programOf wholeOf refused after
   wrong-is e q = rw (answer-wrong (programAt ws ns (length ns)) e q) refl
 
+  -- one too deep: 3
   pub deep-is : {s : Step} {p : ℕ} → s ≡ stepOf (programAt ws ns (length ns)) → s ≡ Deep p → refused (Depth p) ≡ countOf ns ws name
   unfolding countOf programOf wholeOf refused after
   deep-is e q = rw (answer-deep (programAt ws ns (length ns)) e q) refl

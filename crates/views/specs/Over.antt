@@ -10,14 +10,17 @@ use Rattle.views.specs.Uses.{own, Uses, plain, uses}
 module _ {E F : Type 0} (g : E → F) where
   -- ---- expressions, targets
 
+  -- the indices, where there is a list
   unfoldable pub overIndices : Option (List E) → Option (List F)
   overIndices absent = absent
   overIndices (some es) = some (map g es)
 
+  -- a target with its indices replaced
   unfoldable pub overTarget : LValue E → LValue F
   unfolding overIndices
   overTarget v = record { name = v .name; indices = overIndices (v .indices) }
 
+  -- targets and expressions replaced
   unfoldable pub overUses : Uses E → Uses F
   unfolding overTarget
   overUses u = record { targets = map overTarget (u .targets); exprs = map g (u .exprs) }
@@ -26,6 +29,7 @@ module _ {E F : Type 0} (g : E → F) where
   map-append [] ys = refl
   map-append (x ∷ xs) ys = ap (λ (l : List F). g x ∷ l) (map-append xs ys)
 
+  -- the own expressions of a tree under g are its own expressions, each by g
   pub own-over : {i : Shape} (t : Tree E i) → own (over g t) ≡ map g (own t)
   unfolding over own
   own-over (word x) = refl
@@ -48,15 +52,18 @@ module _ {E F : Type 0} (g : E → F) where
   expressions-of none = refl
   expressions-of (more (cons (value e) done) rs) = ap (λ (l : List F). g e ∷ l) (expressions-of rs)
 
+  -- so are those of a list
   pub expressions-over : (r : Tree E (row (exprs & nil))) → expressions (over g r) ≡ map g (expressions r)
   unfolding over expressions items
   expressions-over (cons (list rs) done) = expressions-of rs
 
+  -- so are a target's indices
   pub indices-over : (is : Tree E (one (opt (exprs & nil)))) → optional expressions (over g is) ≡ overIndices (optional expressions is)
   unfolding over optional overIndices
   indices-over (this r) = refl
   indices-over (that (part r)) = ap some (expressions-over r)
 
+  -- a target's tree under g is its target under g
   pub lvalue-over : (r : Tree E (row LValueRow)) → lvalue (over g r) ≡ overTarget (lvalue r)
   unfolding over lvalue overTarget
   lvalue-over (cons (word x) (cons is (cons fs done))) = ap (λ (o : Option (List F)). record { name = x; indices = o }) (indices-over is)
@@ -66,6 +73,7 @@ module _ {E F : Type 0} (g : E → F) where
   lvalues-of none = refl
   lvalues-of (more r rs) = ap₂ _∷_ (lvalue-over r) (lvalues-of rs)
 
+  -- so are several targets
   pub items-over : (v : Tree E (one (many LValueRow))) → items lvalue (over g v) ≡ map overTarget (items lvalue v)
   unfolding over items
   items-over (list rs) = lvalues-of rs
@@ -79,6 +87,7 @@ module _ {E F : Type 0} (g : E → F) where
   unfolding plain overUses
   plain-over r = both refl (own-over r)
 
+  -- what a statement uses under g is what it uses, each by g
   pub uses-over : (k : Kind) (r : Tree E (row (sorts k))) → uses k (over g r) ≡ overUses (uses k r)
   unfolding sorts uses over overUses overTarget
   uses-over label r = plain-over r

@@ -4,6 +4,7 @@ use Rattle.expr.specs.Expr.{Expr, Exprs, Lit, Var, Elem, Unary, Binary, Call, F
 use Rattle.tree.specs.Tree.{Shape, Tree, over}
 
 unfoldable mutual
+  -- an expression without them
   pub stripE : Expr → Expr
   stripE (Lit l) = Lit l
   stripE (Var n) = Var n
@@ -14,9 +15,11 @@ unfoldable mutual
   stripE (Field e n) = Field (stripE e) n
   stripE (Paren e) = stripE e
 
+  -- several, each without them
   pub stripL : Exprs → Exprs
   stripL none = none
   stripL (more e es) = more (stripE e) (stripL es)
 
+-- a tree with all its expressions so
 unfoldable pub strip : {i : Shape} → Tree Expr i → Tree Expr i
 strip t = over stripE t

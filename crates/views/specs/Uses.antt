@@ -20,6 +20,7 @@ own (cons v r) = own v ++ own r
 own none = []
 own (more r rs) = own r ++ own rs
 
+-- its targets, and its expressions in order
 pub record Uses (E : Type 0) : Type 0 where
   pub targets : List (LValue E)
   pub exprs : List E

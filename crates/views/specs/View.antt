@@ -9,6 +9,7 @@ use Rattle.tree.specs.Tree.{Shape, one, row, rows, Tree, word, value, Stmt, lis
 
 -- ---- the Rust's enum and structs, as far as collecting reads them (of LValue not `fields`). As sorts they stand in tree/specs/Sorts.antt
 
+-- a type
 pub data TypeRef : Type 0 where
   Integer Long Single Double : TypeRef
   FixedString Record : ℕ → TypeRef
@@ -22,6 +23,7 @@ head Double = 43
 head (FixedString n) = 44
 head (Record x) = 45
 
+-- the argument: the length of a fixed string, the name of a record
 abbrev pub arg : TypeRef → ℕ
 arg Integer = 0
 arg Long = 0
@@ -30,35 +32,42 @@ arg Double = 0
 arg (FixedString n) = n
 arg (Record x) = x
 
+-- the head's kind, where there is a type
 abbrev pub headOf : Option TypeRef → ℕ
 headOf absent = 0
 headOf (some t) = head t
 
+-- its argument, where there is one
 abbrev pub argOf : Option TypeRef → ℕ
 argOf absent = 0
 argOf (some t) = arg t
 
+-- a target
 pub record LValue (E : Type 0) : Type 0 where
   pub name : ℕ
   pub indices : Option (List E)
 
+-- what DIM and REDIM declare
 pub record Declarator (E : Type 0) : Type 0 where
   pub name : ℕ
   pub dimensions : Option (List E)
   pub lowers : List (Option E)
   pub ty : Option TypeRef
 
+-- a parameter
 pub record Param : Type 0 where
   pub name : ℕ
   pub byval : Bool
   pub array : Bool
   pub ty : Option TypeRef
 
+-- what SHARED and STATIC name
 pub record ScopeItem : Type 0 where
   pub name : ℕ
   pub array : Bool
   pub ty : Option TypeRef
 
+-- a field of a TYPE
 pub record FieldDecl : Type 0 where
   pub name : ℕ
   pub ty : TypeRef
@@ -66,6 +75,7 @@ pub record FieldDecl : Type 0 where
 module _ {E : Type 0} where
   -- ---- an option, a list, a flag
 
+  -- what f gives of an option's row, where it is present
   unfoldable pub optional : {A : Type 0} {ss : Sorts} → (Tree E (row ss) → A) → Tree E (one (opt ss)) → Option A
   optional f (this r) = absent
   optional f (that (part r)) = some (f r)
@@ -79,11 +89,13 @@ module _ {E : Type 0} where
   unfoldable pub items : {A : Type 0} {ss : Sorts} → (Tree E (row ss) → A) → Tree E (one (many ss)) → List A
   items f (list rs) = rowsOf f rs
 
+  -- a flag that is 1
   unfoldable pub isSet : Tree E (one flag) → Bool
   isSet (word x) = eqb x 1
 
   -- ---- the Rust's structs
 
+  -- a `TypeRef` by its head's place among the choices
   unfoldable pub typeRef : Tree E (one TypeSort) → TypeRef
   typeRef (this r) = Integer  -- 40
   typeRef (that (this r)) = Long  -- 41
@@ -92,36 +104,46 @@ module _ {E : Type 0} where
   typeRef (that (that (that (that (this (cons (word n) done)))))) = FixedString n  -- 44
   typeRef (that (that (that (that (that (this (cons (word x) done))))))) = Record x  -- 45
 
+  -- the type that is a row's one field
   unfoldable pub asType : Tree E (row (TypeSort & nil)) → TypeRef
   asType (cons t done) = typeRef t
 
+  -- the expression that is a row's one field
   unfoldable pub expression : Tree E (row (expr & nil)) → E
   expression (cons (value e) done) = e
 
+  -- those of a list that is a row's one field
   unfoldable pub expressions : Tree E (row (exprs & nil)) → List E
   expressions (cons es done) = items expression es
 
+  -- a lower bound, where there is one
   unfoldable pub lower : Tree E (row (opt (expr & nil) & nil)) → Option E
   lower (cons e done) = optional expression e
 
+  -- an `LValue`
   unfoldable pub lvalue : Tree E (row LValueRow) → LValue E
   lvalue (cons (word x) (cons is (cons fs done))) = record { name = x; indices = optional expressions is }
 
+  -- a `Declarator`
   unfoldable pub declarator : Tree E (row DeclaratorRow) → Declarator E
   declarator (cons (word x) (cons ds (cons ls (cons t done)))) =
       record { name = x; dimensions = optional expressions ds; lowers = items lower ls; ty = optional asType t }
 
+  -- a `Param`
   unfoldable pub param : Tree E (row ParamRow) → Param
   param (cons (word x) (cons v (cons a (cons t done)))) = record { name = x; byval = isSet v; array = isSet a; ty = optional asType t }
 
+  -- a `ScopeItem`
   unfoldable pub scopeItem : Tree E (row ScopeRow) → ScopeItem
   scopeItem (cons (word x) (cons a (cons t done))) = record { name = x; array = isSet a; ty = optional asType t }
 
+  -- a `FieldDecl`
   unfoldable pub fieldDecl : Tree E (row FieldRow) → FieldDecl
   fieldDecl (cons (word x) (cons t done)) = record { name = x; ty = typeRef t }
 
 -- ---- a statement as collecting sees it: the kinds of its match (sema.rs), all others being `Other`
 
+-- what a statement shows
 pub data View (E : Type 0) : Type 0 where
   Label LabelName OptionBase : ℕ → View E
   TypeDef : (name : ℕ) → List FieldDecl → View E

@@ -8,6 +8,7 @@ use mathlib.Core.List.{List, [], _∷_, _++_}
 use lib.ListN.{length, set}
 use lib.Seq.{sets}
 
+-- a disjunction whose first test fails is its second
 pub or-false : (a b : Bool) → a ≡ false → (a || b) ≡ b
 or-false a b e = rw e refl
 

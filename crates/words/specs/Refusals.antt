@@ -18,6 +18,7 @@ numberOf RowsFull = 7
 numberOf DiagnosticsFull = 8
 numberOf TypeWords = 9
 
+-- the place that goes with the number, 0 where the cause has none
 abbrev pub placeOf : Refusal → ℕ
 placeOf Size = 0
 placeOf (Strings p) = p
@@ -31,5 +32,6 @@ placeOf RowsFull = 0
 placeOf DiagnosticsFull = 0
 placeOf TypeWords = 0
 
+-- a refusal as a call tells it: stopped, with its number and its place
 unfoldable pub refused : {A : Type 0} → Refusal → Told A
 refused r = stops (numberOf r) (placeOf r)

@@ -1,15 +1,19 @@
 -- The sizes of document 01. Exactly a size passes; one over is number 5, for the depth number 3.
 use Prim.Native.Nat.{ℕ}
 
+-- the words of a tree
 abbrev pub maxWords : ℕ
 maxWords = 8192
 
+-- the strings of the table
 abbrev pub maxStrings : ℕ
 maxStrings = 1024
 
+-- their bytes
 abbrev pub maxBytes : ℕ
 maxBytes = 16384
 
+-- the erased names
 abbrev pub maxErased : ℕ
 maxErased = 1024
 

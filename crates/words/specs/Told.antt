@@ -2,6 +2,7 @@
 use Prim.Native.Nat.{ℕ}
 use mathlib.Core.Bool.{Bool, true, false}
 
+-- the number and the place that stopped a call, or what it gives
 pub data Told (A : Type 0) : Type 0 where
   stops : (number place : ℕ) → Told A
   gives : A → Told A

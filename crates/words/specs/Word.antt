@@ -3,9 +3,11 @@ use Prim.Native.Nat.{ℕ, _+_, _*_, _/_, _%_}
 use mathlib.Core.Bool.{Bool, true, false}
 use mathlib.Core.List.{List, [], _∷_, _++_}
 
+-- a word's kind: its top 8 bits
 abbrev pub kindOf : ℕ → ℕ
 kindOf w = w / 16777216
 
+-- its payload: its low 24 bits
 abbrev pub payOf : ℕ → ℕ
 payOf w = w % 16777216
 

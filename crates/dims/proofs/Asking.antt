@@ -3,9 +3,10 @@ use Prim.Native.Nat.{ℕ, _+_, _*_, _<_, _≤_}
 use native.Mathlib.Omega.{arith}
 use native.Mathlib.Numerals.{add-one}
 use mathlib.Core.Path.{_≡_, refl, sym, ap, subst, _∙_}
-use mathlib.Core.Bool.{Bool, true, false, not, _&&_}
+use mathlib.Core.Bool.{Bool, true, false, not, _&&_, _||_}
 use mathlib.Core.List.{List}
 use mathlib.Core.Option.{Option}
+use lib.Dec.{eqb}
 use lib.ListN.{length, getD, drop}
 use lib.Seq.{drop-cons, drop-length}
 use borrow.Author.Tests.{eq-eqb, ne-eqb, not-true, not-false}
@@ -33,6 +34,11 @@ pub and-some : (t : Bool) {u : Bool} → u ≡ false → t ≡ (t && not u)
 and-some true e = rw e refl
 and-some false e = refl
 
+-- a test, or one that fails: the test
+pub or-none : (t : Bool) {u : Bool} → u ≡ false → (t || u) ≡ t
+or-none true e = refl
+or-none false e = e
+
 -- ---- a record's type
 
 module _ (bytes ends : List ℕ) (name h : ℕ) where
@@ -47,15 +53,11 @@ module _ (bytes ends : List ℕ) (name h : ℕ) where
 -- ---- erased names
 
 module _ (xs : List ℕ) (x : ℕ) where
-  -- the name at i is it: it is among those from i on
-  pub member-here : (i : ℕ) → i < length xs → getD xs i 0 ≡ x → member x (drop i xs) ≡ true
+  -- those from i on: the one at i, and those after it
+  pub member-step : (hit : Bool) (i : ℕ) → i < length xs → ((hit || eqb (getD xs i 0) x) || member x (drop (i + 1) xs)) ≡ (hit || member x (drop i xs))
   unfolding member
-  member-here i h e = rw (drop-cons xs i 0 h, eq-eqb (getD xs i 0) x e) refl
-
-  -- it is another: those after it decide
-  pub member-next : (i : ℕ) → i < length xs → (getD xs i 0 ≡ x → ⊥) → member x (drop i xs) ≡ member x (drop (i + 1) xs)
-  unfolding member
-  member-next i h n = rw (drop-cons xs i 0 h, ne-eqb (getD xs i 0) x n, add-one i) refl
+  member-step true i h = refl
+  member-step false i h = rw (drop-cons xs i 0 h, add-one i) refl
 
   -- past the last it is not
   pub member-end : (i : ℕ) → i ≤ length xs → length xs ≤ i → member x (drop i xs) ≡ false

@@ -258,18 +258,17 @@ fn old_array(b: &[u32], count: usize, scope: u32, name: u32) -> Old
     }
 }
 
-// Whether the name is one that some ERASE names.
+// Whether the name is one that some ERASE names. All are looked at: so the compiler can compare several at a time.
 fn is_erased(erased: &[u32], name: u32) -> bool
     ensures { λ r. ⌜ r ≡ member name (now (erased .entry)) ⌝ }
 {
+    let mut hit = false;
     let mut i = 0;
     while i < erased.len() {
-        if erased[i] == name {
-            return true;
-        }
+        hit = either(hit, erased[i] == name);
         i += 1;
     }
-    false
+    hit
 }
 
 // Whether an array that was there must not be declared again.

@@ -49,7 +49,7 @@ lastOf [] = 0
 lastOf (b ∷ []) = b
 lastOf (b ∷ (c ∷ bs)) = lastOf (c ∷ bs)
 
--- a number is in a list
+-- a number is in a list: `erased.contains(&key.1)`
 unfoldable pub member : ℕ → List ℕ → Bool
 member x [] = false
 member x (y ∷ ys) = eqb y x || member x ys
@@ -62,7 +62,7 @@ disagrees last ty = suffix last && not (eqb (fromTypeRef (head ty)) (fromSuffix 
 abbrev pub isRecord : TypeRef → Bool
 isRecord t = eqb (head t) 45  -- TypeRef::Record
 
--- some of the options is there
+-- some of the options is there: `lowers.iter().any(Option::is_some)`
 unfoldable pub anySome : {A : Type 0} → List (Option A) → Bool
 anySome [] = false
 anySome (x ∷ xs) = isSome x || anySome xs
@@ -98,7 +98,7 @@ unfoldable pub hasField : ℕ → List FieldInfo → Bool
 hasField name [] = false
 hasField name (f ∷ fs) = eqb (f .name) name || hasField name fs
 
--- the field's type can't stand in this TYPE
+-- what is said of a field whose type can't stand in this TYPE; none where it can
 unfoldable pub typeRejected : List Row → (line name field : ℕ) → TypeRef → Option Row
 typeRejected rows line name field Integer = none
 typeRejected rows line name field Long = none
@@ -108,7 +108,7 @@ typeRejected rows line name field (FixedString n) = none
 typeRejected rows line name field (Record inner) =
     pick (eqb inner name) (some (containsItself line name)) (pick (has rows 130 inner 0) none (some (fieldUndefined line field inner)))
 
--- what is said of a field that isn't kept
+-- what is said of a field that isn't kept; none where it is
 unfoldable pub rejected : List Row → (line name : ℕ) → RecordInfo → FieldDecl → Option Row
 rejected rows line name info f =
     pick (hasField (f .name) (info .fields)) (some (fieldTwice line (f .name) name)) (typeRejected rows line name (f .name) (f .ty))
@@ -176,7 +176,7 @@ module _ (G : Given) where
 
   -- ---- StmtKind::Label, StmtKind::LabelName
 
-  -- a line number; a second one is entered too, and said
+  -- a line number; a second one is entered too, and said: `insert(..).is_some()` is asked of the rows before
   unfoldable pub label : (scope line n : ℕ) → Step
   label scope line n =
       asking (λ rows.
@@ -325,7 +325,7 @@ module _ (G : Given) where
   ranked scope line name (some rank) = entry (arrayRow name scope rank line true)
   ranked scope line name none = entry (arrayRow name scope 1 line true) ⨾ entry (unrankedRow name scope)
 
-  -- its rank is that of its first use in the body
+  -- its rank is that of its first use in the body; `rank.unwrap_or(1)` is `ranked`
   unfoldable pub arrayParam : (scope line : ℕ) → Tree Seen (one body) → Param → Step
   arrayParam scope line b p = when (p .array) (ranked scope line (p .name) (subscriptCount (λ name (e : Seen). e .use-of name) (p .name) b))
 

@@ -12,7 +12,7 @@ use Rattle.table.specs.Rows.{Row, width, keyOf, zeros, find, replace}
 abbrev pub row : (kind name : ℕ) → List ℕ → Row
 row kind name words = wordOf kind name ∷ words ++ zeros (width - suc (length words))
 
--- its key: kind and name, and word 1: a scope, an ordinal, a mark or 0
+-- its key: kind and name, and word 1: a scope, an ordinal, in 137 whether it is an array, or 0
 abbrev pub entryKey : (kind name second : ℕ) → ℕ
 entryKey kind name second = keyOf (wordOf kind name) second
 

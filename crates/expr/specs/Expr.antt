@@ -1,4 +1,4 @@
--- The abstract tree, and the words that write it.
+-- Expressions as trees, and the words that write them.
 use Prim.Native.Nat.{ℕ, _+_, _*_, _/_, _%_, _<_, max}
 use mathlib.Core.Path.{_≡_}
 use mathlib.Core.Bool.{Bool, true, not}

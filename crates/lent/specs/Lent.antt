@@ -1,4 +1,4 @@
--- A lent table: rows that are in order by themselves, strictly rising, and zeros after them. `Lent` says what it is; `checked` decides it row by row, and
+-- A lent table: rows that are right by themselves, strictly rising, and zeros after them. `Lent` says what it is; `checked` decides it row by row, and
 -- `LentLaws` shows that it says yes to exactly the lent tables. These are definitions.
 use mathlib.Core.Path.{_≡_}
 use mathlib.Core.Bool.{Bool, true, false}
@@ -16,11 +16,11 @@ use Rattle.lent.specs.Rules.{rowOk}
 use Rattle.lent.specs.declared.Checked.{Checked}
 use Rattle.lent.specs.declared.Checked.the-variants.{Bad, Rows}
 
--- each row is in order by itself
+-- each row is right by itself
 abbrev pub AllOk : (names : List ℕ) → List Row → Type 0
 AllOk names rows = Each (λ r. rowOk names r ≡ true) rows
 
--- the buffer is the image of these n rows, which rise and are in order by themselves
+-- the buffer is the image of these n rows, which rise and are right by themselves
 pub record Lent (names : List ℕ) (rows : List Row) (n : ℕ) (buf : List ℕ) : Type 0 where
   pub holds : Holds rows n buf
   pub ok : AllOk names rows
@@ -34,7 +34,7 @@ allZero (x ∷ xs) = pick (eqb x 0) (allZero xs) false
 unfoldable pub endedAt : ℕ → List ℕ → Checked
 endedAt n rest = pick (allZero rest) (Rows n) Bad
 
--- after n rows that are in order, with room for f more: the next key is to be at least lo
+-- after n rows that are right and rise, with room for f more: the next key is to be at least lo
 unfoldable pub scan : (names : List ℕ) (f lo n : ℕ) → List ℕ → Checked
 scan names zero lo n b = endedAt n b
 scan names (suc f) lo n b =

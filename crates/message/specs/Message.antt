@@ -1,5 +1,5 @@
--- The lines of a diagnostic: the texts that `collect` and `check_name_collisions` pass to `error` and `error_with_note` in sema.rs, by
--- their codes. These are definitions.
+-- The lines of a diagnostic: the texts that `collect`, `check_variable_length_strings` and `check_name_collisions` pass to `error` and
+-- `error_with_note` in sema.rs, by their codes. These are definitions.
 use Prim.Native.Nat.{ℕ, _-_}
 use Prim.Native.String.{String}
 use mathlib.Core.List.{List, [], _∷_, _++_}

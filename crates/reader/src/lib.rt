@@ -227,8 +227,8 @@ fn judged(s: Step, words: &[u32], erased: &[u32], names: &[u8]) -> Accepted
     }
 }
 
-// A program's words and erased names, where the names' marks are known: what all later entries ask first.
-pub fn check_program(words: &[u32], erased: &[u32], names: &[u8]) -> Accepted
+// A program's words and erased names, where the names' marks are known.
+fn check_program(words: &[u32], erased: &[u32], names: &[u8]) -> Accepted
     requires { ⌜ length (now names) ≤ maxStrings ⌝ }
     ensures { λ r. ⌜ toldProgram r ≡ verdict (acceptedOf (now (names .entry)) (now (words .entry)) (now (erased .entry))) ⌝ }
 {

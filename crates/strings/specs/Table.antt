@@ -48,7 +48,7 @@ unfoldable pub rightAt : List ℕ → List ℕ → ℕ → Bool
 unfolding endRight allPrintable stringAt rises lastRight
 rightAt bytes ends i = endRight bytes ends i && (allPrintable (stringAt bytes ends i) && (rises bytes ends i && lastRight bytes ends i))
 
--- what can be said of all strings at once: all bytes are printable, and the last end is their count
+-- for contracts inside: what can be said of all strings at once: all bytes are printable, and the last end is their count
 unfoldable pub isPlain : List ℕ → List ℕ → Bool
 unfolding startOf allPrintable
 isPlain bytes ends = eqb (startOf ends (length ends)) (length bytes) && allPrintable bytes

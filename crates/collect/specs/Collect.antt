@@ -357,8 +357,8 @@ module _ (G : Given) where
   unfoldable pub statement : (scope line : ℕ) → View Seen → Step
   statement scope line (Label n) = label scope line n
   statement scope line (LabelName name) = labelName scope line name
-  statement scope line (OptionBase n) = optionBase line n
   statement scope line (TypeDef name fs) = typeDef scope line name fs
+  statement scope line (OptionBase n) = optionBase line n
   statement scope line (Const name e) = const line name e
   statement scope line (Shared is) = items false scope line is
   statement scope line (Static is) = items true scope line is

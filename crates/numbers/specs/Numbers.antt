@@ -74,7 +74,7 @@ finiteTo (fin s m e) = To (fin s m e)
 abbrev pub narrowOf : Float → Narrow
 narrowOf x = finiteTo (narrowed x)
 
--- ---- a whole number as a float of 64 bits (law `double-exact`: up to 2 ^ 53 either way it is the same number)
+-- ---- a whole number as a float of 64 bits (law `double-exact`: below 2 ^ 53 either way it is the same number)
 
 -- rounded to nearest, ties to even, where it isn't exact
 abbrev pub doubleOf : ℤ → Float

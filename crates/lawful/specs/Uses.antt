@@ -8,6 +8,7 @@ use native.Mathlib.Omega.{arith}
 use lib.Dec.{eqb}
 use lib.ListN.{length}
 use Rattle.words.specs.Word.{pick}
+use Rattle.words.specs.Each.{Each}
 use Rattle.expr.specs.Expr.{Expr, Exprs, Lit, Var, Elem, Unary, Binary, Call, Field, Paren, none, more, many, Valid, Valids}
 use Rattle.tree.specs.Sorts.{Sorts, _&_, nil, opt, exprs, LValue as LValueRow, many as manyOf, Kind, sorts, label, labelName, let′, print, input, lineInput, if, for, while, doLoop, goto, gosub, return, onGoto, onGosub, dim, declare, shared, static, redim, sub, function, call, midAssign, swap, const, exitLoop, exitProc, optionBase, typeDef, fieldAssign, data′, read, defType, beep, erase, raiseError, onError, resume, locate, color, randomize, restore, cls, selectCase, end′, stop, open′, close, width, field′, setField, getPut, lock}
 use Rattle.tree.specs.Tree.{strings, Shape, one, row, rows, Tree, word, value, Stmt, list, part, this, that, done, cons, none as noRows, more as addRow, count, Right, over}
@@ -15,7 +16,6 @@ use Rattle.views.specs.View.{LValue, lvalue, optional, expression, expressions,
 use Rattle.views.specs.Uses.{own, plain, uses}
 use Rattle.subscripts.specs.Subscripts.{orElse, firstOf, subscripted, inExpr, inExprs, indexed, inLvalue, inStmt, subscriptCount}
 use Rattle.collect.specs.Seen.{Seen, see}
-use Rattle.table.specs.Each.{Each}
 use Rattle.lawful.specs.Good.{each-append}
 
 -- none, or a number below 16,777,216

@@ -7,6 +7,7 @@ use mathlib.Core.Option.{Option, none as absent, some}
 use native.Mathlib.Omega.{arith}
 use lib.ListN.{length}
 use borrow.Author.Tests.{lt-ltb, ne-eqb}
+use Rattle.words.specs.Each.{Each}
 use Rattle.expr.specs.Expr.{Expr, Named}
 use Rattle.expr.specs.Stands.{Wrote}
 use Rattle.expr.proofs.Parts.{wrote-first, wrote-left, wrote-right}
@@ -24,7 +25,6 @@ use Rattle.consteval.specs.ConstEval.{constEval}
 use Rattle.consteval.specs.Evaluates.{Consts}
 use Rattle.consteval.specs.EvalLaws.{Words32, const-row}
 use Rattle.collect.specs.Seen.{Seen, see}
-use Rattle.table.specs.Each.{Each}
 use Rattle.lawful.specs.Uses.{Small, length-rows, optional-small, subscripts-small}
 
 -- ---- definitions

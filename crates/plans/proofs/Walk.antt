@@ -10,10 +10,10 @@ use Rattle.expr.specs.Expr.{Expr}
 use Rattle.expr.specs.Stands as W
 use Rattle.expr.proofs.Parts.{wrote-first, wrote-left, wrote-right, kind-is}
 use Rattle.tree.specs.Sorts.{Sort, expr, stmt, Sorts, nil, _&_, body, Kind, sorts, numberOf, kindAt}
+use Rattle.tree.specs.KindLaws.{kind-number, number-small}
 use Rattle.tree.specs.Tree.{strings, Shape, one, row, rows, Tree, value, Stmt, done, cons, none, more, count, depthT, wordsT, Right}
 use Rattle.tree.specs.Stands.{Stands, SomeTree}
 use Rattle.tree.specs.Codes.{codes, parts, allRows, decode, sortAt, rowOf}
-use Rattle.tree.proofs.Complete.{number-small, kind-number}
 use Rattle.tree.proofs.Steps.{decode-stop, decode-go, decode-over, decode-row, row-kind}
 use Rattle.plans.specs.Pieces.{Piece, exprPiece, pieces}
 use Rattle.plans.specs.Plans.{Planned, Shallow, ShallowRows, SomeRows, Walks, WalksRows}

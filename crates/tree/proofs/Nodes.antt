@@ -12,11 +12,12 @@ use Rattle.expr.specs.Stands.{Wrote}
 use Rattle.expr.specs.Stands as W
 use Rattle.expr.proofs.Parts.{First, wrote-first, wrote-left, wrote-right, kind-is, pay-is}
 use Rattle.tree.specs.Sorts.{Leaf, Sort, leaf, expr, stmt, many, group, either, never, Sorts, nil, _&_, opt, Kind, sorts, numberOf, kindAt, const}
+use Rattle.tree.specs.KindLaws.{kind-number}
 use Rattle.tree.specs.Tree.{strings, Shape, one, row, rows, Tree, word, value, Stmt, list, part, this, that, done, cons, none, more, count, kindL, okL, wordsT, Right}
 use Rattle.tree.specs.Stands.{Stands}
 use Rattle.tree.specs.Reader.{isAt}
 use Rattle.tree.proofs.Sound.{is-got}
-use Rattle.tree.proofs.Complete.{may, mayR, clear, clearR, not-first, kind-number}
+use Rattle.tree.proofs.Complete.{may, mayR, clear, clearR, not-first}
 
 module _ (ws ns : List ℕ) (n : ℕ) where
   pub record InStmt (at : ℕ) (v : Tree Expr (one stmt)) (end : ℕ) : Type 0 where

@@ -4,79 +4,77 @@ use native.Mathlib.Omega.{arith}
 use mathlib.Core.Path.{_≡_, refl, sym, ap, subst, _∙_}
 use mathlib.Core.Bool.{false≢true}
 use mathlib.Core.List.{List, [], _∷_}
-use lib.Dec.{eqb}
 use lib.ListN.{length, getD}
-use borrow.Author.Tests.{eqb-true, eqb-false}
 use Rattle.words.specs.Word.{kindOf, payOf}
 use Rattle.words.specs.Each.{Each}
 use Rattle.expr.specs.Expr.{Expr}
 use Rattle.expr.proofs.Parts.{wrote-first, pay-is}
 use Rattle.tree.specs.Sorts.{stmt, Kind, sorts, kinds, kindAt, numberOf, label, labelName, dim, shared, static, redim, sub, function, const, optionBase, typeDef}
-use Rattle.tree.specs.KindLaws.{other, by-kind}
+use Rattle.tree.specs.KindLaws.{noneOf, by-kind}
 use Rattle.tree.specs.Tree.{one, row, Tree, word, value, Stmt, done, cons, wordsT, Right, over}
 use Rattle.tree.specs.Stands.{Stands, SomeTree}
 use Rattle.views.specs.View.{view, inner}
-use Rattle.views.specs.KindLaws.{shown, view-other}
+use Rattle.views.specs.KindLaws.{viewKinds, view-other}
 use Rattle.plans.specs.Plans.{InsideAt}
 use Rattle.plans.proofs.Walk.{head-kind, of-number, fields}
 
 -- ---- the kinds that have a scope of their own, and the others
 
 pub by-scope : (C : Kind → Type 0) → C sub → C function → ((k : Kind) → (numberOf k ≡ 20 → ⊥) → (numberOf k ≡ 21 → ⊥) → C k) → (k : Kind) → C k
-unfolding Each other numberOf
+unfolding Each noneOf numberOf
 by-scope C a b c k = by-kind C (sub ∷ function ∷ []) (a, (b, tt)) k (λ o. c k (λ e. false≢true (rw e at o)) (λ e. false≢true (rw e at o)))
 
 module _ (E : Type 0) (scope : ℕ) where
   -- a statement of the kind keeps the scope around it
-  abbrev Keeps : Kind → Type 0
-  Keeps k = (r : Tree E (row (sorts k))) → scope ≡ inner scope (view k r)
+  abbrev KeepsScope : Kind → Type 0
+  KeepsScope k = (r : Tree E (row (sorts k))) → scope ≡ inner scope (view k r)
 
-  label-keeps : Keeps label
+  label-keeps : KeepsScope label
   unfolding sorts view inner
   label-keeps (cons (word x) done) = refl
 
-  labelName-keeps : Keeps labelName
+  labelName-keeps : KeepsScope labelName
   unfolding sorts view inner
   labelName-keeps (cons (word x) done) = refl
 
-  dim-keeps : Keeps dim
+  dim-keeps : KeepsScope dim
   unfolding sorts view inner
   dim-keeps (cons ds (cons s done)) = refl
 
-  shared-keeps : Keeps shared
+  shared-keeps : KeepsScope shared
   unfolding sorts view inner
   shared-keeps (cons is done) = refl
 
-  static-keeps : Keeps static
+  static-keeps : KeepsScope static
   unfolding sorts view inner
   static-keeps (cons is done) = refl
 
-  redim-keeps : Keeps redim
+  redim-keeps : KeepsScope redim
   unfolding sorts view inner
   redim-keeps (cons ds (cons s done)) = refl
 
-  const-keeps : Keeps const
+  const-keeps : KeepsScope const
   unfolding sorts view inner
   const-keeps (cons (word x) (cons (value e) done)) = refl
 
-  optionBase-keeps : Keeps optionBase
+  optionBase-keeps : KeepsScope optionBase
   unfolding sorts view inner
   optionBase-keeps (cons (word x) done) = refl
 
-  typeDef-keeps : Keeps typeDef
+  typeDef-keeps : KeepsScope typeDef
   unfolding sorts view inner
   typeDef-keeps (cons (word x) (cons fs done)) = refl
 
   abbrev KeepsOther : Kind → Type 0
-  KeepsOther k = (numberOf k ≡ 20 → ⊥) → (numberOf k ≡ 21 → ⊥) → Keeps k
+  KeepsOther k = (numberOf k ≡ 20 → ⊥) → (numberOf k ≡ 21 → ⊥) → KeepsScope k
 
-  kept : Each KeepsOther shown
-  unfolding Each shown numberOf
+  kept : Each KeepsOther viewKinds
+  unfolding Each viewKinds numberOf
   kept = (λ f g. label-keeps, (λ f g. labelName-keeps, (λ f g. dim-keeps, (λ f g. shared-keeps, (λ f g. static-keeps, (λ f g. redim-keeps, (λ f g r. absurd (f refl), (λ f g r. absurd (g refl), (λ f g. const-keeps, (λ f g. optionBase-keeps, (λ f g. typeDef-keeps, tt)))))))))))
 
 pub inner-other : {E : Type 0} (scope : ℕ) (k : Kind) (r : Tree E (row (sorts k))) → (numberOf k ≡ 20 → ⊥) → (numberOf k ≡ 21 → ⊥) → scope ≡ inner scope (view k r)
 unfolding inner
-inner-other {E} scope k r f g = by-kind (KeepsOther E scope) shown (kept E scope) k (λ o f g r. ap (inner scope) (sym (view-other k o r))) f g r
+inner-other {E} scope k r f g = by-kind (KeepsOther E scope) viewKinds (kept E scope) k (λ o f g r. ap (inner scope) (sym (view-other k o r))) f g r
 
 -- whatever stands for an expression
 module _ {E F : Type 0} (g : E → F) (scope : ℕ) where

@@ -16,21 +16,22 @@ use Rattle.expr.specs.Stands as W
 use Rattle.expr.proofs.Parts.{wrote-first, pay-is}
 use Rattle.expr.proofs.Steps.{past}
 use Rattle.tree.specs.Sorts.{Sort, leaf, expr, stmt, many, group, either, never, Sorts, nil, _&_, opt, exprs, quoted, PrintItem, LValue as LValueRow, Kind, sorts, numberOf, kindAt, kinds, let′, print, input, lineInput, swap, read}
-use Rattle.tree.specs.KindLaws.{other, same-kinds}
+use Rattle.tree.specs.KindLaws.{noneOf, same-kinds}
 use Rattle.tree.specs.Tree.{strings, Shape, one, row, rows, Tree, word, value, Stmt, list, part, this, that, done, cons, none, more, wordsT, Right}
 use Rattle.tree.specs.Stands.{Stands, SomeTree}
+use Rattle.tree.proofs.Nodes.{cons-left, cons-right, cons-last, part-row, value-there}
 use Rattle.skip.specs.Shape.{SomeExpr}
 use Rattle.plans.proofs.Walk.{head-kind, of-number, fields}
 use Rattle.views.specs.View.{LValue, lvalue, optional, expressions, items}
 use Rattle.views.specs.Uses.{own, plain, uses}
-use Rattle.views.specs.KindLaws.{targeting, uses-plain}
+use Rattle.views.specs.KindLaws.{targetKinds, uses-plain}
 use Rattle.subscripts.specs.Subscripts.{orElse, firstOf, inExpr, inLvalue, inStmt, subscriptCount}
 use Rattle.subscripts.specs.Code.{useOf, SeeksExpr, SeeksOwn, IndexedAt, SeeksIndexed, SeeksTarget, SeeksTargets, KindAt, SeeksStmt, targeted}
 use Rattle.subscripts.specs.declared.Use.{Use}
 use Rattle.subscripts.specs.declared.Sought.{Sought}
 use Rattle.subscripts.specs.declared.Target.{Target}
 use Rattle.subscripts.proofs.Expressions.{orElse-none, firstOf-append}
-use Rattle.subscripts.proofs.Lists.{cons-left, cons-right, cons-last, part-row, moved, value-there}
+use Rattle.subscripts.proofs.Lists.{moved}
 
 -- the use of a name in an expression
 abbrev pub usedIn : ℕ → Expr → Option ℕ
@@ -422,5 +423,5 @@ read-kind k t a b c d e = go (eqb k 96) refl
 -- ---- all other kinds
 
 pub plain-uses : (k : Kind) (r : Tree Expr (row (sorts k))) → targeted (64 + numberOf k) ≡ false → uses k r ≡ plain r
-unfolding tuple kinds other targeting targeted numberOf
-plain-uses k r z = uses-plain k (same-kinds (λ k. Bool) (other targeting) (λ k. not (targeted (64 + numberOf k))) refl k ∙ ap not z) r
+unfolding tuple kinds noneOf targetKinds targeted numberOf
+plain-uses k r z = uses-plain k (same-kinds (λ k. Bool) (noneOf targetKinds) (λ k. not (targeted (64 + numberOf k))) refl k ∙ ap not z) r

@@ -1,5 +1,5 @@
 -- What is so of all listed kinds is so of every kind: a rule for all 54 of them is one computed test. And a claim of some kinds and of all others. Assumes nothing.
-use Prim.Native.Nat.{ℕ, _<_}
+use Prim.Native.Nat.{_<_}
 use mathlib.Core.Path.{_≡_, refl, sym, ap, subst, _∙_}
 use mathlib.Core.Bool.{Bool, true, false, not, _&&_}
 use mathlib.Core.List.{List, [], _∷_}
@@ -83,20 +83,20 @@ number-small k = ltb-true (numberOf k) 54 (same-kinds (λ k. Bool) (λ k. ltb (n
 -- ---- some kinds, and all others
 
 -- the kind is none of the list
-unfoldable pub other : List Kind → Kind → Bool
-other [] k = true
-other (j ∷ js) k = not (eqb (numberOf k) (numberOf j)) && other js k
+unfoldable pub noneOf : List Kind → Kind → Bool
+noneOf [] k = true
+noneOf (j ∷ js) k = not (eqb (numberOf k) (numberOf j)) && noneOf js k
 
 -- a claim that is so of the kinds of the list is so of a kind if it is where the kind is none of them
-pub by-kind : (C : Kind → Type 0) (js : List Kind) → Each C js → (k : Kind) → (other js k ≡ true → C k) → C k
-unfolding Each other
+pub by-kind : (C : Kind → Type 0) (js : List Kind) → Each C js → (k : Kind) → (noneOf js k ≡ true → C k) → C k
+unfolding Each noneOf
 by-kind C [] a k f = f refl
 by-kind C (j ∷ js) a k f = go (eqb (numberOf k) (numberOf j)) refl (by-kind C js (a .1) k)
   where
-    go : (b : Bool) → eqb (numberOf k) (numberOf j) ≡ b → ((other js k ≡ true → C k) → C k) → C k
+    go : (b : Bool) → eqb (numberOf k) (numberOf j) ≡ b → ((noneOf js k ≡ true → C k) → C k) → C k
     go true e next = subst C (sym (kind-number j) ∙ ap kindAt (sym (eqb-true (numberOf k) (numberOf j) e)) ∙ kind-number k) (a .0)
     go false e next = next (λ o. f (rw e o))
 
 -- two functions that are alike at all kinds that are none of the list, which computing shows
-pub same-others : (T : Kind → Type 0) (js : List Kind) (f g : (k : Kind) → T k) → tuple f kinds ≡ tuple (λ k. pick (other js k) (g k) (f k)) kinds → (k : Kind) → other js k ≡ true → f k ≡ g k
-same-others T js f g e k o = rw o at (same-kinds T f (λ k. pick (other js k) (g k) (f k)) e k)
+pub same-others : (T : Kind → Type 0) (js : List Kind) (f g : (k : Kind) → T k) → tuple f kinds ≡ tuple (λ k. pick (noneOf js k) (g k) (f k)) kinds → (k : Kind) → noneOf js k ≡ true → f k ≡ g k
+same-others T js f g e k o = rw o at (same-kinds T f (λ k. pick (noneOf js k) (g k) (f k)) e k)

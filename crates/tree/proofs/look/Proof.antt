@@ -1,10 +1,10 @@
 -- `look`: by the number of the sort. Assumes nothing.
 use mathlib.Core.Path.{refl, sym}
 use mathlib.Core.Logic.{inr}
+use Rattle.words.specs.Laws.{PastArms, beyond}
 use Rattle.tree.specs.Sorts.{name, text, mark}
 use Rattle.tree.specs.Frames.{goes}
 use Rattle.tree.proofs.Steps.{name-word, is-own, sort-opt, sort-many, sort-group, leaf-arm, never-arm, group-arm}
-use Rattle.tree.proofs.Tables.{Past, beyond}
 use Rattle.tree.proofs.Frames.{told-goes, row-same, look-arm}
 use borrow.Author.Needs.{needs}
 use Rattle.tree.proofs.look.Statement.{statement}
@@ -89,7 +89,7 @@ choice-requires-4 : tie.Need-choice-requires-4
 choice-requires-4 c κs = search needs
 
 sub-optional : tie.Need-sub-optional
-unfolding Past
+unfolding PastArms
 sub-optional c = beyond 16 _ (c .before .match .rest)
 
 optional-requires : tie.Need-optional-requires
@@ -156,7 +156,7 @@ returns-16 : tie.Need-returns-16
 returns-16 c = look-arm _ _ _ _ (is-own 15 (c .before .match .keys16) refl) (goes (c .choice4 .ensures _ _))
 
 returns-17 : tie.Need-returns-17
-unfolding Past
+unfolding PastArms
 returns-17 c = look-arm _ _ _ _ (sort-opt _ (beyond 16 _ (c .before .before .match .rest)) (c .before .if1 .taken)) (c .optional .ensures _ _)
 
 returns-18 : tie.Need-returns-18

@@ -8,7 +8,7 @@ use Rattle.tree.specs.Tree.{Shape, one, row, rows, Tree, word, value, Stmt, lis
 use Rattle.views.specs.View.{LValue, lvalue, optional, rowsOf, items, expression, expressions}
 use Rattle.tree.specs.KindLaws.{by-kind}
 use Rattle.views.specs.Uses.{own, Uses, plain, uses}
-use Rattle.views.specs.KindLaws.{targeting, uses-plain}
+use Rattle.views.specs.KindLaws.{targetKinds, uses-plain}
 
 module _ {E F : Type 0} (g : E → F) where
   -- ---- expressions, targets
@@ -111,5 +111,5 @@ module _ {E F : Type 0} (g : E → F) where
   read-over (cons vars done) = both (items-over vars) (own-over vars)
 
   pub uses-over : (k : Kind) (r : Tree E (row (sorts k))) → uses k (over g r) ≡ overUses (uses k r)
-  unfolding Each targeting
-  uses-over k = by-kind Over targeting (let-over, (print-over, (input-over, (lineInput-over, (swap-over, (read-over, tt)))))) k (λ o r. uses-plain k o (over g r) ∙ plain-over r ∙ ap overUses (sym (uses-plain k o r)))
+  unfolding Each targetKinds
+  uses-over k = by-kind Over targetKinds (let-over, (print-over, (input-over, (lineInput-over, (swap-over, (read-over, tt)))))) k (λ o r. uses-plain k o (over g r) ∙ plain-over r ∙ ap overUses (sym (uses-plain k o r)))

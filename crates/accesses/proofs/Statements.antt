@@ -7,8 +7,8 @@ use mathlib.Core.List.{List, _∷_, _++_, append-nil}
 use lib.ListN.{getD}
 use borrow.Author.Tests.{ne-eqb}
 use Rattle.words.specs.Word.{wordOf, kindOf, pick}
-use Rattle.expr.specs.Expr.{Expr, Exprs, many, words, wordsAll}
-use Rattle.expr.specs.Stands.{Wrote, StandsAll}
+use Rattle.expr.specs.Expr.{Expr, words, wordsAll}
+use Rattle.expr.specs.Stands.{Wrote}
 use Rattle.expr.proofs.Parts.{wrote-first}
 use Rattle.tree.specs.Sorts.{expr, stmt, nil, _&_, Kind, sorts, numberOf, kindAt, kinds, call, sub, function}
 use Rattle.tree.specs.Tree.{strings, one, row, rows, Tree, word, value, Stmt, list, done, cons, none as nothing, more as add, count, wordsT, Right}
@@ -20,6 +20,7 @@ use Rattle.plans.proofs.Scopes.{by-scope, inner-other}
 use Rattle.resolve.specs.Tables.{Tables, Places, nowhere, places, after}
 use Rattle.resolve.specs.Resolve.{passed, resolveExpr, resolveArgs, first, inside, argued, resolveTree}
 use Rattle.resolve.specs.Keeps.{count-tree}
+use Rattle.resolver.proofs.Nodes.{Called}
 
 -- ---- a list of expressions in a row of a statement, as the list that it is
 
@@ -60,14 +61,8 @@ inside-other σ k x p q = rw (ne-eqb (numberOf k) 20 p, ne-eqb (numberOf k) 21 q
 
 -- its name and its arguments, where the words have them, and its words when resolved
 pub record InCall (ws ns : List ℕ) (n at : ℕ) (v : Tree Expr (one stmt)) (end : ℕ) : Type 0 where
-  pub name : ℕ
-  pub args : Exprs
-  pub called : getD ws (at + 1) 0 ≡ wordOf 2 name
-  pub listed : getD ws (at + 2) 0 ≡ wordOf 1 (many args)
-  pub small : name < 16777216
-  pub few : many args < 16777216
-  pub there : StandsAll ws (strings ns n) (at + 3) args end
-  pub is : (T : Tables) (σ : ℕ) → wordsT (resolveTree T σ nowhere v) ≡ getD ws at 0 ∷ getD ws (at + 1) 0 ∷ getD ws (at + 2) 0 ∷ wordsAll (resolveArgs T σ (places T name) args)
+  pub parts : Called ws (strings ns n) at end
+  pub is : (T : Tables) (σ : ℕ) → wordsT (resolveTree T σ nowhere v) ≡ getD ws at 0 ∷ getD ws (at + 1) 0 ∷ getD ws (at + 2) 0 ∷ wordsAll (resolveArgs T σ (places T (parts .name)) (parts .args))
 
 a-call : {ws ns : List ℕ} {n at end line : ℕ} (r : Tree Expr (row (sorts call))) → Stands ws ns n at (Stmt call line r) end → InCall ws ns n at (Stmt call line r) end
 unfolding sorts wordsT Right resolveTree inside argued numberOf first
@@ -81,13 +76,15 @@ a-call {ws} {ns} {n} {at} {end} {line} (cons (word x) (cons (list rs) done)) s =
     let t : Wrote ws (at + 3) (wordsT rs) end = rw q at (h .rest) in
     let third : getD ws (at + 2) 0 ≡ wordOf 1 (count rs) = ap (λ (i : ℕ). getD ws i 0) (sym p) ∙ h .is in
     record {
-      name = x;
-      args = members rs;
-      called = g .is;
-      listed = third ∙ ap (wordOf 1) (sym (many-members rs));
-      small = s .valid .1 .0 .1;
-      few = rw (many-members rs) (s .valid .1 .1 .0 .0);
-      there = members-there (record { wrote = t; valid = s .valid .1 .1 .0 .1 });
+      parts = record {
+        name = x;
+        args = members rs;
+        called = g .is;
+        listed = third ∙ ap (wordOf 1) (sym (many-members rs));
+        small = s .valid .1 .0 .1;
+        few = rw (many-members rs) (s .valid .1 .1 .0 .0);
+        there = members-there (record { wrote = t; valid = s .valid .1 .1 .0 .1 });
+      };
       is = λ T σ. ap₂ (λ (k : ℕ) (y : List ℕ). wordOf 86 line ∷ wordOf 2 x ∷ wordOf 1 k ∷ y) (count-tree T σ (places T x) rs) (append-nil (wordsT (resolveTree T σ (places T x) rs)) ∙ resolve-members T σ (places T x) rs) ∙ rw (f .is, g .is, third) refl;
     }
 

@@ -11,9 +11,8 @@ use lib.Seq.{sets, drop-cons, length-take-le}
 use Rattle.words.specs.Word.{wordOf, kindOf, payOf, pick}
 use Rattle.words.specs.Sizes.{maxDepth}
 use Rattle.words.specs.Laws.{sets-append}
-use Rattle.expr.specs.Expr.{Expr, Call, Exprs, many, words, wordsAll}
-use Rattle.expr.specs.Stands as E
-use Rattle.expr.proofs.Parts.{wrote-cat, pay-is}
+use Rattle.expr.specs.Expr.{Expr, Call, words, wordsAll}
+use Rattle.expr.proofs.Parts.{wrote-cat}
 use Rattle.expr.proofs.Steps.{past}
 use Rattle.tree.specs.Sorts.{numberOf}
 use Rattle.tree.specs.Tree.{strings, wordsT}
@@ -196,17 +195,11 @@ calledHead T σ f = wordOf (pick (element T σ f) 18 21) 0
 
 -- its name, the head of its list and its arguments, which are written after h
 pub record HeadAt (h : Tables → ℕ → ℕ → ℕ) (ws ns : List ℕ) (at : ℕ) (xs : List Item) (end : ℕ) : Type 0 where
-  pub name : ℕ
-  pub args : Exprs
-  pub rest : List Item
   pub mid : ℕ
-  pub called : getD ws (at + 1) 0 ≡ wordOf 2 name
-  pub listed : getD ws (at + 2) 0 ≡ wordOf 1 (many args)
-  pub small : name < 16777216
-  pub few : many args < 16777216
-  pub there : E.StandsAll ws (strings ns (length ns)) (at + 3) args mid
+  pub parts : N.Called ws (strings ns (length ns)) at mid
+  pub rest : List Item
   pub after : StandsAll ws ns (length ns) maxDepth mid rest end
-  pub writes : (T : Tables) (σ : ℕ) → writtenIs (resolved T σ) xs ≡ h T σ name ∷ getD ws (at + 1) 0 ∷ getD ws (at + 2) 0 ∷ (wordsAll (resolveArgs T σ (places T name) args) ++ writtenIs (resolved T σ) rest)
+  pub writes : (T : Tables) (σ : ℕ) → writtenIs (resolved T σ) xs ≡ h T σ (parts .name) ∷ getD ws (at + 1) 0 ∷ getD ws (at + 2) 0 ∷ (wordsAll (resolveArgs T σ (places T (parts .name)) (parts .args)) ++ writtenIs (resolved T σ) rest)
 
 module _ {ws ns : List ℕ} {at : ℕ} {xs : List Item} {end : ℕ} (s : StandsAll ws ns (length ns) maxDepth at xs end) (z : at < end) where
   -- a call in an expression, whose head may change
@@ -215,17 +208,11 @@ module _ {ws ns : List ℕ} {at : ℕ} {xs : List Item} {end : ℕ} (s : StandsA
       let C = at-call s z k in
       let D = N.in-call k (C .whole) in
       record {
-        name = D .name;
-        args = D .args;
-        rest = C .rest;
         mid = C .mid;
-        called = D .called;
-        listed = D .listed;
-        small = D .small;
-        few = D .few;
-        there = D .there;
+        parts = D .parts;
+        rest = C .rest;
         after = C .after;
-        writes = λ T σ. C .writes (resolved T σ) (parted T σ) ∙ ap (λ (l : List ℕ). l ++ writtenIs (resolved T σ) (C .rest)) (ap (λ (e : Expr). words (resolveExpr T σ e)) (D .is) ∙ call-words T σ (D .name) (D .args) ∙ ap₂ (λ (x y : ℕ). calledHead T σ (D .name) ∷ x ∷ y ∷ wordsAll (resolveArgs T σ (places T (D .name)) (D .args))) (sym (D .called)) (sym (D .listed)));
+        writes = λ T σ. C .writes (resolved T σ) (parted T σ) ∙ ap (λ (l : List ℕ). l ++ writtenIs (resolved T σ) (C .rest)) (ap (λ (e : Expr). words (resolveExpr T σ e)) (D .is) ∙ call-words T σ (D .parts .name) (D .parts .args) ∙ ap₂ (λ (x y : ℕ). calledHead T σ (D .parts .name) ∷ x ∷ y ∷ wordsAll (resolveArgs T σ (places T (D .parts .name)) (D .parts .args))) (sym (D .parts .called)) (sym (D .parts .listed)));
       }
 
   -- a CALL, whose head stays
@@ -234,57 +221,42 @@ module _ {ws ns : List ℕ} {at : ℕ} {xs : List Item} {end : ℕ} (s : StandsA
       let S = at-stmt s z (omega (arith, k)) (omega (arith, k)) in
       let D = in-call k (S .whole) in
       record {
-        name = D .name;
-        args = D .args;
-        rest = S .rest;
         mid = S .mid;
-        called = D .called;
-        listed = D .listed;
-        small = D .small;
-        few = D .few;
-        there = D .there;
+        parts = D .parts;
+        rest = S .rest;
         after = S .after;
         writes = λ T σ. S .writes (resolved T σ) (parted T σ) ∙ ap (λ (l : List ℕ). l ++ writtenIs (resolved T σ) (S .rest)) (D .is T σ);
       }
 
 module _ {h : Tables → ℕ → ℕ → ℕ} {ws ns : List ℕ} {at : ℕ} {xs : List Item} {end : ℕ} (C : HeadAt h ws ns at xs end) where
-  name-is : payOf (getD ws (at + 1) 0) ≡ C .name
-  name-is = ap payOf (C .called) ∙ pay-is 2 (C .name) (C .small)
-
-  many-is : many (C .args) ≡ payOf (getD ws (at + 2) 0)
-  many-is = sym (ap payOf (C .listed) ∙ pay-is 1 (many (C .args)) (C .few))
-
-  head-inside : at + 3 ≤ length ws
-  head-inside = let s = C .there in omega (arith, s .wrote .span, s .wrote .inside)
-
   -- of no procedure: the arguments are still to come
-  head-moved : (T : Tables) (σ : ℕ) {w to : ℕ} {out last : List ℕ} {a t : ℕ} → T .procedure (C .name) ≡ false → w ≡ h T σ (C .name) → a ≡ at + 3 → t ≡ to + 3 → last ≡ sets out to (w ∷ getD ws (at + 1) 0 ∷ getD ws (at + 2) 0 ∷ []) → Moved T σ ns ws xs at end to out a t last
+  head-moved : (T : Tables) (σ : ℕ) {w to : ℕ} {out last : List ℕ} {a t : ℕ} → T .procedure (C .parts .name) ≡ false → w ≡ h T σ (C .parts .name) → a ≡ at + 3 → t ≡ to + 3 → last ≡ sets out to (w ∷ getD ws (at + 1) 0 ∷ getD ws (at + 2) 0 ∷ []) → Moved T σ ns ws xs at end to out a t last
   unfolding wordsI wordsIs RightI RightIs writtenI writtenIs
   head-moved T σ {w} {to} f e p q n =
-      let s = C .there in
+      let s = C .parts .there in
       let r = C .after in
       record {
-        left = exprsItem (C .args) ∷ C .rest;
+        left = exprsItem (C .parts .args) ∷ C .rest;
         there = record { wrote = rw p (wrote-cat (s .wrote) (r .wrote)); valid = (s .valid, r .valid) };
         wrote = w ∷ getD ws (at + 1) 0 ∷ getD ws (at + 2) 0 ∷ [];
         upto = q;
         short = omega arith;
         is = n;
-        rest = C .writes T σ ∙ ap₂ (λ (x : ℕ) (l : List ℕ). x ∷ getD ws (at + 1) 0 ∷ getD ws (at + 2) 0 ∷ (l ++ writtenIs (resolved T σ) (C .rest))) (sym e) (ap (λ (m : ℕ → Bool). wordsAll (resolveArgs T σ m (C .args))) (no-places T (C .name) f) ∙ each-args T σ (C .args));
+        rest = C .writes T σ ∙ ap₂ (λ (x : ℕ) (l : List ℕ). x ∷ getD ws (at + 1) 0 ∷ getD ws (at + 2) 0 ∷ (l ++ writtenIs (resolved T σ) (C .rest))) (sym e) (ap (λ (m : ℕ → Bool). wordsAll (resolveArgs T σ m (C .parts .args))) (no-places T (C .parts .name) f) ∙ each-args T σ (C .parts .args));
       }
 
   -- of a procedure: the arguments are resolved with it
-  args-moved : (T : Tables) (σ : ℕ) {to : ℕ} {out one last : List ℕ} {a t : ℕ} → one ≡ sets out to (h T σ (C .name) ∷ getD ws (at + 1) 0 ∷ getD ws (at + 2) 0 ∷ []) → Put (wordsAll (resolveArgs T σ (places T (C .name)) (C .args))) one last (to + 3) a t (C .mid) → Moved T σ ns ws xs at end to out a t last
+  args-moved : (T : Tables) (σ : ℕ) {to : ℕ} {out one last : List ℕ} {a t : ℕ} → one ≡ sets out to (h T σ (C .parts .name) ∷ getD ws (at + 1) 0 ∷ getD ws (at + 2) 0 ∷ []) → Put (wordsAll (resolveArgs T σ (places T (C .parts .name)) (C .parts .args))) one last (to + 3) a t (C .mid) → Moved T σ ns ws xs at end to out a t last
   args-moved T σ {to} {out} {one} n d =
-      let s = C .there in
-      let y : List ℕ = wordsAll (resolveArgs T σ (places T (C .name)) (C .args)) in
-      let x : List ℕ = h T σ (C .name) ∷ getD ws (at + 1) 0 ∷ getD ws (at + 2) 0 ∷ [] in
+      let s = C .parts .there in
+      let y : List ℕ = wordsAll (resolveArgs T σ (places T (C .parts .name)) (C .parts .args)) in
+      let x : List ℕ = h T σ (C .parts .name) ∷ getD ws (at + 1) 0 ∷ getD ws (at + 2) 0 ∷ [] in
       record {
         left = C .rest;
         there = rw (d .past) (C .after);
         wrote = x ++ y;
         upto = omega (arith, d .upto);
-        short = omega (arith, d .past, s .wrote .span, shorter-args T σ (places T (C .name)) (C .args));
+        short = omega (arith, d .past, s .wrote .span, shorter-args T σ (places T (C .parts .name)) (C .parts .args));
         is = d .now ∙ ap (λ (l : List ℕ). sets l (to + 3) y) n ∙ sym (sets-append x y out to);
         rest = C .writes T σ;
       }
@@ -319,7 +291,7 @@ array-head scope f {b = b} e a n rs H =
 module _ {ns ws buf : List ℕ} {count scope at to size : ℕ} (r : ReadyToken ns ws buf count scope at to size) where
   head-room : {h : Tables → ℕ → ℕ → ℕ} → HeadAt h ws ns at (r .items) (r .end) → (at + 3 ≤ length ws) × (to + 3 ≤ size)
   head-room C =
-      let x : at + 3 ≤ length ws = head-inside C in
+      let x : at + 3 ≤ length ws = N.head-inside (C .parts) in
       (x, omega (arith, r .room .behind, r .room .fits))
 
   -- there is room for a call's first three words
@@ -340,7 +312,7 @@ module _ {ns ws buf : List ℕ} {count scope at to size : ℕ} (r : ReadyToken n
   pub ready-args : kindOf (getD ws at 0) ≡ 86 → {size′ : ℕ} → size′ ≡ size → ReadyAll ws buf count scope (at + 3) (to + 3) size′ (payOf (getD ws (at + 2) 0))
   ready-args k q =
       let C = calling-head (r .there) (r .before) k in
-      record { strings = strings ns (length ns); trees = C .args; end = C .mid; stands = C .there; counted = many-is C; room = room-at (r .room) (at + 3) (to + 3) (omega (arith, r .room .behind)) q }
+      record { strings = strings ns (length ns); trees = C .parts .args; end = C .mid; stands = C .parts .there; counted = N.many-is (C .parts); room = room-at (r .room) (at + 3) (to + 3) (omega (arith, r .room .behind)) q }
 
 module _ {ns ws buf out : List ℕ} {count scope at to : ℕ} where
   -- the head alone
@@ -350,7 +322,7 @@ module _ {ns ws buf out : List ℕ} {count scope at to : ℕ} where
   heads-done {h} H₀ f g e = record {
     gives = λ rs H xs end s z.
         let C = H₀ xs end s z in
-        (head-moved C (tablesOf rs) scope (ap (λ (x : ℕ). tablesOf rs .procedure x) (sym (name-is C)) ∙ f rs H) (g rs H ∙ ap (λ (x : ℕ). h (tablesOf rs) scope x) (name-is C)) (e .0) (e .1) (e .2), omega (arith, e .0));
+        (head-moved C (tablesOf rs) scope (ap (λ (x : ℕ). tablesOf rs .procedure x) (sym (N.name-is (C .parts))) ∙ f rs H) (g rs H ∙ ap (λ (x : ℕ). h (tablesOf rs) scope x) (N.name-is (C .parts))) (e .0) (e .1) (e .2), omega (arith, e .0));
   }
 
   -- a call of no procedure: its first three words are written, its arguments are still to come
@@ -378,8 +350,8 @@ module _ {ns ws buf out : List ℕ} {count scope at to : ℕ} where
     gives = λ rs H xs end s z.
         let T : Tables = tablesOf rs in
         let C = calling-head s z k in
-        let u = C .there in
-        let e = d .gives rs H (strings ns (length ns)) (C .args) (C .mid) (C .there) (many-is C) in
-        let e′ : Put (wordsAll (resolveArgs T scope (places T (C .name)) (C .args))) one last (to + 3) a t (C .mid) = subst (λ (f : ℕ). Put (wordsAll (resolveArgs T scope (places T f) (C .args))) one last (to + 3) a t (C .mid)) (name-is C) e in
+        let u = C .parts .there in
+        let e = d .gives rs H (strings ns (length ns)) (C .parts .args) (C .mid) (C .parts .there) (N.many-is (C .parts)) in
+        let e′ : Put (wordsAll (resolveArgs T scope (places T (C .parts .name)) (C .parts .args))) one last (to + 3) a t (C .mid) = subst (λ (f : ℕ). Put (wordsAll (resolveArgs T scope (places T f) (C .parts .args))) one last (to + 3) a t (C .mid)) (N.name-is (C .parts)) e in
         (args-moved C T scope n e′, omega (arith, e .past, u .wrote .span));
   }

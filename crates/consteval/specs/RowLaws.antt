@@ -15,7 +15,6 @@ use lib.Seq.{getD-drop}
 use Rattle.words.specs.Word.{kindOf, payOf}
 use Rattle.expr.specs.Expr.{Strings, Named, Expr}
 use Rattle.expr.specs.Stands.{Stands}
-use Rattle.expr.proofs.Parts.{kind-is, pay-is}
 use Rattle.table.specs.Rows.{Row, width, keyOf, key, rank, find, insert, remove}
 use Rattle.table.specs.Laws.{order, find-some, find-insert-same, find-insert-other, find-remove-in, find-remove-out}
 use Rattle.table.specs.Each.{each-at, each-find, find-key, wide-each}
@@ -26,8 +25,9 @@ use Rattle.fold.specs.ValueLaws.{RowValue, rule-row, row-rule, value-words}
 use Rattle.fold.specs.FoldLaws.{RowFold}
 use Rattle.fold.specs.declared.Value.{Value}
 use Rattle.fold.specs.declared.Fold.the-variants.{Is}
-use Rattle.lent.specs.Rules.{rules, isMarked, constOk, wordOk, wordsOk, kindOk, rowOk}
+use Rattle.lent.specs.Rules.{rules, constOk, wordOk, kindOk, rowOk}
 use Rattle.lent.specs.RuleLaws.{words-ok-at}
+use Rattle.lent.specs.Valid.{const-ok}
 use Rattle.lent.specs.Lent.{Lent}
 use Rattle.consteval.specs.ConstEval.{rowValue, constEval}
 use Rattle.consteval.specs.Evaluates.{Consts}
@@ -76,18 +76,13 @@ module _ {names : List ℕ} {rows : List Row} {count : ℕ} {buf : List ℕ} (L 
 
 -- ---- what folding gives, as a row of a lent table
 
--- a CONST row of a name and of words that meet their rule is in order by itself
-const-row-ok : (names : List ℕ) (name kind low high : ℕ) → name < 16777216 → isMarked names name ≡ true → constOk names kind low high ≡ true → rowOk names (constRow name kind low high) ≡ true
-unfolding rowOk kindOk wordsOk wordOk
-const-row-ok names name kind low high h q o = rw (kind-is 132 name h, pay-is 132 name h, q, o) refl
-
 -- THE LAW on rows: the row of a value that an expression gives is one that a lent table may hold
 pub const-again : {ws ns : List ℕ} {at : ℕ} {e : Expr} {end : ℕ} {rows : List Row} → Words32 ws → Consts (length ns) rows → Stands ws (strings ns) at e end
     → {v : Value} → constEval rows e ≡ Is v → (name : ℕ) → Named ns name → rowOk ns (constRow name (literalKind v) (lowOf v) (highOf v)) ≡ true
 unfolding constOk
 const-again {ws} {ns} {at} {e} {end} {rows} W C s {v} q name n =
     let r : RowValue (length ns) v = subst (RowFold (length ns)) q (const-row {n = strings ns} W C s) in
-    const-row-ok ns name (literalKind v) (lowOf v) (highOf v) (n .fits) (n .named) (is-true _ (row-rule (length ns) v r))
+    const-ok ns name (n .fits) (n .named) (literalKind v) (lowOf v) (highOf v) (is-true _ (row-rule (length ns) v r))
 
 -- ---- rows stay such
 

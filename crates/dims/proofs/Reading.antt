@@ -12,9 +12,10 @@ use Rattle.expr.specs.Expr.{Expr, Strings, Lit, Var, Elem, Unary, Binary, Call,
 use Rattle.expr.specs.Stands as W
 use Rattle.expr.proofs.Parts.{wrote-first, wrote-left, wrote-right, pay-is}
 use Rattle.expr.proofs.Nodes.{kind-of, within}
-use Rattle.tree.specs.Sorts.{Sort, Sorts, expr, exprs, many, opt, nil, _&_, named, TypeRef as TypeSort, Declarator as DeclaratorRow}
+use Rattle.tree.specs.Sorts.{Sorts, expr, exprs, many, opt, nil, _&_, named, TypeRef as TypeSort, Declarator as DeclaratorRow}
 use Rattle.tree.specs.Tree.{Tree, one, row, rows, word, value, list, part, this, that, done, cons, count, over, strings, wordsT, Right}
 use Rattle.tree.specs.Stands.{Stands, SomeTree}
+use Rattle.tree.proofs.Nodes.{cons-last, value-there}
 use Rattle.skip.specs.Shape.{SomeExpr}
 use Rattle.views.specs.View.{optional, items, expression, expressions, lower, declarator, asType, headOf, argOf}
 use Rattle.collect.specs.Seen.{Seen, see}
@@ -31,21 +32,12 @@ use Rattle.dims.specs.Declarators.{rankOf, DimsIs, LowerIs, LowersIs, Is
 
 -- ---- one expression in a row
 
-module _ {ws ns : List ℕ} {n at end : ℕ} where
-  only : {s : Sort} (v : Tree Expr (one s)) → Stands ws ns n at (cons v done) end → Stands ws ns n at v end
-  unfolding wordsT Right
-  only v S = record { wrote = rw (append-nil (wordsT v)) at (S .wrote); valid = S .valid .0 }
-
-  held : {e : Expr} → Stands ws ns n at (value e) end → W.Stands ws (strings ns n) at e end
-  unfolding wordsT Right
-  held S = record { wrote = S .wrote; valid = S .valid }
-
 -- an expression stands there
 pub some-expr : {ws : List ℕ} {at : ℕ} → SomeTree (row (expr & nil)) ws at → SomeExpr ws at
 some-expr {ws} {at} S = go (S .tree) (S .stands)
   where
     go : (r : Tree Expr (row (expr & nil))) → Stands ws (S .names) (S .strings) at r (S .end) → SomeExpr ws at
-    go (cons (value e) done) T = record { strings = strings (S .names) (S .strings); expr = e; end = S .end; stands = held (only (value e) T) }
+    go (cons (value e) done) T = record { strings = strings (S .names) (S .strings); expr = e; end = S .end; stands = value-there (cons-last T) }
 
 -- the place past it
 abbrev Skips : (ws : List ℕ) (at m : ℕ) → Type 0
@@ -53,7 +45,7 @@ Skips ws at m = (n : Strings) (e : Expr) (end : ℕ) → W.Stands ws n at e end 
 
 -- the row ends where its expression ends
 pub row-past : {ws : List ℕ} {at m : ℕ} → Skips ws at m → (ns : List ℕ) (n : ℕ) (r : Tree Expr (row (expr & nil))) (end : ℕ) → Stands ws ns n at r end → m ≡ end
-row-past F ns n (cons (value e) done) end S = F (strings ns n) e end (held (only (value e) S))
+row-past F ns n (cons (value e) done) end S = F (strings ns n) e end (value-there (cons-last S))
 
 -- rows that are only passed
 abbrev pub Passing : (ss : Sorts) (ws : List ℕ) (from total at left : ℕ) → Type 0
@@ -89,7 +81,7 @@ module _ {ws : List ℕ} {at : ℕ} where
       go : (v : Tree Expr (one (opt (exprs & nil)))) → Stands ws (S .names) (S .strings) at v (S .end) → SomeRows (expr & nil) (payOf (getD ws at 0)) ws (at + 1)
       go (this done) T = absurd (z (wrote-first (T .wrote) .is))
       go (that (part (cons v done))) T =
-          list-rows (record { names = S .names; strings = S .strings; tree = v; end = S .end; stands = only v (record { wrote = T .wrote; valid = T .valid }) })
+          list-rows (record { names = S .names; strings = S .strings; tree = v; end = S .end; stands = cons-last {v = v} (record { wrote = T .wrote; valid = T .valid }) })
 
   -- an array with so many dimensions, which ends after them
   pub dims-present : (getD ws at 0 ≡ 0 → ⊥) → {m : ℕ}

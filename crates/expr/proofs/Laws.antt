@@ -153,22 +153,25 @@ got-17 q h =
     let v = map-got _ _ (rw q at h) in
     record { name = v .0; reads = v .1; is = v .2 }
 
--- 18: a name and a list
-pub record OfElem (ws : List ℕ) (n : Strings) (sub : ℕ → Got Expr) (m : ℕ) (e : Expr) (end : ℕ) : Type 0 where
+-- a name and a list: an element or a call
+pub record OfNamed (ws : List ℕ) (n : Strings) (sub : ℕ → Got Expr) (make : ℕ → Exprs → Expr) (m : ℕ) (e : Expr) (end : ℕ) : Type 0 where
   pub name : ℕ
   pub mid : ℕ
   pub items : Exprs
   pub reads : nameAt ws (n .names) m ≡ got name mid
   pub list : listAt ws n sub mid ≡ got items end
-  pub is : e ≡ Elem name items
+  pub is : e ≡ make name items
 
--- 18: an element
-pub got-18 : {ws : List ℕ} {n : Strings} {sub : ℕ → Got Expr} {k m : ℕ} {e : Expr} {end : ℕ} → k ≡ 18 → bodyAt ws n sub k m ≡ got e end → OfElem ws n sub m e end
-unfolding bodyAt
-got-18 q h =
-    let v = bind-got _ (rw q at h) in
+named-got : {ws : List ℕ} {n : Strings} {sub : ℕ → Got Expr} {m : ℕ} {e : Expr} {end : ℕ} (make : ℕ → Exprs → Expr) → bind (nameAt ws (n .names) m) (λ x p. bind (listAt ws n sub p) (λ es q. got (make x es) q)) ≡ got e end → OfNamed ws n sub make m e end
+named-got make h =
+    let v = bind-got _ h in
     let w = map-got _ _ (v .3) in
     record { name = v .0; mid = v .1; items = w .0; reads = v .2; list = w .1; is = w .2 }
+
+-- 18: an element
+pub got-18 : {ws : List ℕ} {n : Strings} {sub : ℕ → Got Expr} {k m : ℕ} {e : Expr} {end : ℕ} → k ≡ 18 → bodyAt ws n sub k m ≡ got e end → OfNamed ws n sub Elem m e end
+unfolding bodyAt
+got-18 q h = named-got Elem (rw q at h)
 
 -- 19: an operator and an expression
 pub record OfUnary (ws : List ℕ) (n : Strings) (sub : ℕ → Got Expr) (m : ℕ) (e : Expr) (end : ℕ) : Type 0 where
@@ -208,22 +211,10 @@ got-20 q h =
     let x = map-got _ _ (w .3) in
     record { op = v .0; mid = v .1; lhs = w .0; mid₂ = w .1; rhs = x .0; reads = v .2; left = w .2; right = x .1; is = x .2 }
 
--- 21: a name and a list
-pub record OfCall (ws : List ℕ) (n : Strings) (sub : ℕ → Got Expr) (m : ℕ) (e : Expr) (end : ℕ) : Type 0 where
-  pub name : ℕ
-  pub mid : ℕ
-  pub items : Exprs
-  pub reads : nameAt ws (n .names) m ≡ got name mid
-  pub list : listAt ws n sub mid ≡ got items end
-  pub is : e ≡ Call name items
-
 -- 21: a call
-pub got-21 : {ws : List ℕ} {n : Strings} {sub : ℕ → Got Expr} {k m : ℕ} {e : Expr} {end : ℕ} → k ≡ 21 → bodyAt ws n sub k m ≡ got e end → OfCall ws n sub m e end
+pub got-21 : {ws : List ℕ} {n : Strings} {sub : ℕ → Got Expr} {k m : ℕ} {e : Expr} {end : ℕ} → k ≡ 21 → bodyAt ws n sub k m ≡ got e end → OfNamed ws n sub Call m e end
 unfolding bodyAt
-got-21 q h =
-    let v = bind-got _ (rw q at h) in
-    let w = map-got _ _ (v .3) in
-    record { name = v .0; mid = v .1; items = w .0; reads = v .2; list = w .1; is = w .2 }
+got-21 q h = named-got Call (rw q at h)
 
 -- 22: an expression and a name
 pub record OfField (ws : List ℕ) (n : Strings) (sub : ℕ → Got Expr) (m : ℕ) (e : Expr) (end : ℕ) : Type 0 where

@@ -10,7 +10,7 @@ use Rattle.words.specs.Word.{wordOf, kindOf, payOf}
 use Rattle.expr.specs.Got.{got}
 use Rattle.expr.specs.Reader.{headAt, listAt, bodyAt, exprAt}
 use Rattle.expr.specs.Stands.{Wrote, Stands, StandsAll}
-use Rattle.expr.proofs.Laws.{bind-got, deep-got, leaf-got, name-got, IsHead, head-got, list-got, got-16, got-18, got-19, got-20, got-21, got-22, got-23}
+use Rattle.expr.proofs.Laws.{bind-got, deep-got, OfNamed, leaf-got, name-got, IsHead, head-got, list-got, got-16, got-18, got-19, got-20, got-21, got-22, got-23}
 use Rattle.expr.proofs.Parts.{wrote-first, kind-is}
 use lib.Dec.{lit<}
 use Rattle.expr.proofs.Sound.{lit-sound, sound, exprs-sound}
@@ -182,15 +182,12 @@ pub record InElem (ws : List ℕ) (n : Strings) (at : ℕ) (e : Expr) (end : ℕ
   pub list : InList ws n (at + 1 + 1) args end
   pub is : (e ≡ Elem name args) ⊎ (e ≡ Call name args)
 
+elem-of : (ws : List ℕ) (n : Strings) (d at : ℕ) (e : Expr) (end : ℕ) {make : ℕ → Exprs → Expr} (v : OfNamed ws n (exprAt ws n d) make (at + 1) e end) → (e ≡ Elem (v .name) (v .items)) ⊎ (e ≡ Call (v .name) (v .items)) → InElem ws n at e end
+elem-of ws n d at e end v is =
+    let l = v .list in
+    record { name = v .name; args = v .items; list = in-list ws n d (at + 1 + 1) (v .items) end (rw (name-got (v .reads) .to) at l); is = is }
+
 -- 18 or 21: a name, and then a list
 pub in-elem : {ws : List ℕ} {n : Strings} {at : ℕ} {e : Expr} {end : ℕ} → (kindOf (getD ws at 0) ≡ 18) ⊎ (kindOf (getD ws at 0) ≡ 21) → Stands ws n at e end → InElem ws n at e end
-in-elem {ws} {n} {at} {e} {end} (inl k) s =
-    let N = node s in
-    let v = got-18 k (N .body) in
-    let l = v .list in
-    record { name = v .name; args = v .items; list = in-list ws n (N .levels) (at + 1 + 1) (v .items) end (rw (name-got (v .reads) .to) at l); is = inl (v .is) }
-in-elem {ws} {n} {at} {e} {end} (inr k) s =
-    let N = node s in
-    let v = got-21 k (N .body) in
-    let l = v .list in
-    record { name = v .name; args = v .items; list = in-list ws n (N .levels) (at + 1 + 1) (v .items) end (rw (name-got (v .reads) .to) at l); is = inr (v .is) }
+in-elem {ws} {n} {at} {e} {end} (inl k) s = let v = got-18 k (node s .body) in elem-of ws n (node s .levels) at e end v (inl (v .is))
+in-elem {ws} {n} {at} {e} {end} (inr k) s = let v = got-21 k (node s .body) in elem-of ws n (node s .levels) at e end v (inr (v .is))

@@ -13,6 +13,10 @@ use Rattle.expr.specs.Stands.{Wrote}
 pub wrote-none : (ws : List ℕ) (at : ℕ) → at ≤ length ws → Wrote ws at [] at
 wrote-none ws at h = record { span = omega arith; inside = h; is = refl }
 
+-- the same words, their place told otherwise
+pub wrote-at : {ws xs : List ℕ} {at at′ end : ℕ} → at ≡ at′ → Wrote ws at xs end → Wrote ws at′ xs end
+wrote-at e w = rw e at w
+
 -- one word, and others after it
 pub wrote-cons : {ws : List ℕ} {at w m end : ℕ} {xs : List ℕ} → at < length ws → getD ws at 0 ≡ w → m ≡ at + 1 → Wrote ws m xs end → Wrote ws at (w ∷ xs) end
 wrote-cons {ws} {at} {w} {m} {end} {xs} h e q r = record {

@@ -11,9 +11,10 @@ use borrow.Author.Tests.{eq-eqb, ne-eqb, le-leb, lt-leb}
 use Rattle.words.specs.Word.{payOf}
 use Rattle.expr.specs.Expr.{Expr}
 use Rattle.expr.proofs.Parts.{wrote-first, pay-is}
-use Rattle.tree.specs.Sorts.{sorts, numberOf, nil, _&_, opt, many, TypeRef as TypeSort, ScopeItem as ItemRow, shared as sharedKind, static as staticKind}
+use Rattle.tree.specs.Sorts.{sorts, nil, _&_, opt, many, TypeRef as TypeSort, ScopeItem as ItemRow, shared as sharedKind, static as staticKind}
 use Rattle.tree.specs.Tree.{Tree, one, row as rowShape, Stmt, word, cons, done, wordsT, Right, over}
 use Rattle.tree.specs.Stands.{Stands, SomeTree}
+use Rattle.tree.proofs.Nodes.{cons-last, stmt-line}
 use Rattle.table.specs.Rows.{Row, width, noteWidth, find}
 use Rattle.runs.specs.Runs.{Keeps}
 use Rattle.entries.specs.Entries.{row, entryKey, rowWord}
@@ -216,18 +217,16 @@ record InItems (ws ns : List ℕ) (n at line end : ℕ) (v : View Seen) (made : 
 
 module _ {ws ns : List ℕ} {n at line end : ℕ} where
   shared-seen : (fields : Tree Expr (rowShape (sorts sharedKind))) → Stands ws ns n at (Stmt sharedKind line fields) end → InItems ws ns n at line end (view sharedKind (over see fields)) Shared
-  unfolding sorts numberOf wordsT Right over view
+  unfolding sorts over view
   shared-seen (cons v done) S =
-      let f = wrote-first (S .wrote) in
-      let q = f .rest in
-      record { items-of = v; inside = f .inside; line-is = ap payOf (f .is) ∙ pay-is 81 line (S .valid .0); there = record { wrote = rw (append-nil (wordsT v)) at q; valid = S .valid .1 .0 }; is = ap Shared (sym (scope-items-over see v)) }
+      let l = stmt-line S in
+      record { items-of = v; inside = l .0; line-is = l .1; there = cons-last (l .2); is = ap Shared (sym (scope-items-over see v)) }
 
   static-seen : (fields : Tree Expr (rowShape (sorts staticKind))) → Stands ws ns n at (Stmt staticKind line fields) end → InItems ws ns n at line end (view staticKind (over see fields)) Static
-  unfolding sorts numberOf wordsT Right over view
+  unfolding sorts over view
   static-seen (cons v done) S =
-      let f = wrote-first (S .wrote) in
-      let q = f .rest in
-      record { items-of = v; inside = f .inside; line-is = ap payOf (f .is) ∙ pay-is 82 line (S .valid .0); there = record { wrote = rw (append-nil (wordsT v)) at q; valid = S .valid .1 .0 }; is = ap Static (sym (scope-items-over see v)) }
+      let l = stmt-line S in
+      record { items-of = v; inside = l .0; line-is = l .1; there = cons-last (l .2); is = ap Static (sym (scope-items-over see v)) }
 
 module _ {ws : List ℕ} {at : ℕ} where
   -- the head of a SHARED is within the words

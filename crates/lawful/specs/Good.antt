@@ -7,9 +7,10 @@ use mathlib.Core.List.{List, [], _∷_, _++_}
 use mathlib.Core.Option.{Option, some}
 use lib.ListN.{length, getD}
 use Rattle.words.specs.Word.{kindOf, pick}
+use Rattle.words.specs.Each.{Each}
 use Rattle.table.specs.Rows.{Row, width, noteWidth, key, find, insert, insertAll, remove, replace, Table, Holds}
 use Rattle.table.specs.Laws.{insert-table, remove-table}
-use Rattle.table.specs.Each.{Each, each-insert, each-remove, each-find, find-key, wide-each}
+use Rattle.table.specs.Each.{each-insert, each-remove, each-find, find-key, wide-each}
 use Rattle.table.specs.Images.{table-wide}
 use Rattle.lent.specs.Rules.{scopeOk, rowOk}
 use Rattle.lent.specs.Lent.{AllOk, Lent}

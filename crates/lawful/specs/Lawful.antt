@@ -13,6 +13,7 @@ use lib.Seq.{getD-drop}
 use borrow.Author.Tests.{leb-true, leb-false, ltb-true, eqb-true, eqb-false, le-leb}
 use Rattle.words.specs.Word.{kindOf, payOf, wordOf, pick}
 use Rattle.words.specs.Told.{gives}
+use Rattle.words.specs.Each.{Each}
 use Rattle.expr.specs.Expr.{Expr, Named}
 use Rattle.expr.proofs.Parts.{kind-is}
 use Rattle.tree.specs.Sorts.{body, Kind, sorts}
@@ -42,7 +43,6 @@ use Rattle.collect.specs.Seen.{Seen, see}
 use Rattle.collect.specs.Collect as C
 use Rattle.collect.specs.Collect.{Given, Proc, FieldInfo, RecordInfo, hasField, withField, typeRejected, rejected, fieldRows, paramRows, marked, constOf}
 use Rattle.collect.specs.Diagnostics.{named, otherRank}
-use Rattle.table.specs.Each.{Each}
 use Rattle.lent.specs.RuleLaws.{words-ok-at, array-name}
 use Rattle.lawful.specs.Good.{FineNote, each-append, GoodRows, Good, Bounded, Entry, no-rows, other, replace-good, Keeps, push-k, change-k, enter-k, nothing-k, stop-k, then-k, pick-k, if-k, when-k, asking-k, each-k, found, good-lent}
 use Rattle.lawful.specs.Uses.{Small}

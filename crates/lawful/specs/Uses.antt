@@ -8,14 +8,16 @@ use native.Mathlib.Omega.{arith}
 use lib.Dec.{eqb}
 use lib.ListN.{length}
 use Rattle.words.specs.Word.{pick}
+use Rattle.words.specs.Each.{Each}
 use Rattle.expr.specs.Expr.{Expr, Exprs, Lit, Var, Elem, Unary, Binary, Call, Field, Paren, none, more, many, Valid, Valids}
-use Rattle.tree.specs.Sorts.{Sorts, _&_, nil, opt, exprs, LValue as LValueRow, many as manyOf, Kind, sorts, label, labelName, let′, print, input, lineInput, if, for, while, doLoop, goto, gosub, return, onGoto, onGosub, dim, declare, shared, static, redim, sub, function, call, midAssign, swap, const, exitLoop, exitProc, optionBase, typeDef, fieldAssign, data′, read, defType, beep, erase, raiseError, onError, resume, locate, color, randomize, restore, cls, selectCase, end′, stop, open′, close, width, field′, setField, getPut, lock}
+use Rattle.tree.specs.Sorts.{Sorts, _&_, nil, opt, exprs, LValue as LValueRow, many as manyOf, Kind, sorts, let′, print, input, lineInput, swap, read}
+use Rattle.tree.specs.KindLaws.{by-kind}
 use Rattle.tree.specs.Tree.{strings, Shape, one, row, rows, Tree, word, value, Stmt, list, part, this, that, done, cons, none as noRows, more as addRow, count, Right, over}
 use Rattle.views.specs.View.{LValue, lvalue, optional, expression, expressions, items, rowsOf}
 use Rattle.views.specs.Uses.{own, plain, uses}
+use Rattle.views.specs.KindLaws.{targetKinds, uses-plain}
 use Rattle.subscripts.specs.Subscripts.{orElse, firstOf, subscripted, inExpr, inExprs, indexed, inLvalue, inStmt, subscriptCount}
 use Rattle.collect.specs.Seen.{Seen, see}
-use Rattle.table.specs.Each.{Each}
 use Rattle.lawful.specs.Good.{each-append}
 
 -- none, or a number below 16,777,216
@@ -108,62 +110,37 @@ module _ (ns : List ℕ) (n : ℕ) where
   unfolding plain Each
   plain-small r h = (tt, own-small r h)
 
-  uses-small : (k : Kind) (r : Tree Expr (row (sorts k))) → Right ns n r → Each FineTarget (uses k (over see r) .targets) × Each FineExpr (uses k (over see r) .exprs)
+  -- the uses of a statement of the kind
+  abbrev SmallUses : Kind → Type 0
+  SmallUses k = (r : Tree Expr (row (sorts k))) → Right ns n r → Each FineTarget (uses k (over see r) .targets) × Each FineExpr (uses k (over see r) .exprs)
+
+  let-small : SmallUses let′
   unfolding sorts uses over Right Each
-  uses-small label r h = plain-small r h
-  uses-small labelName r h = plain-small r h
-  uses-small let′ (cons (word x) (cons is e)) h = (((optional-small is (h .1 .0)), tt), each-append FineExpr (own (over see is)) (own (over see e)) (own-small is (h .1 .0)) (own-small e (h .1 .1)))
-  uses-small print (cons file (cons its (cons (word newline) (cons using′ (cons (word write) done))))) h = (tt, each-append FineExpr (own (over see file)) (own (over see using′) ++ own (over see its)) (own-small file (h .0)) (each-append FineExpr (own (over see using′)) (own (over see its)) (own-small using′ (h .1 .1 .1 .0)) (own-small its (h .1 .0))))
-  uses-small input (cons prompt (cons (word query) (cons vars (cons file done)))) h = (targets-small vars (h .1 .1 .0), each-append FineExpr (own (over see file)) (own (over see vars)) (own-small file (h .1 .1 .1 .0)) (own-small vars (h .1 .1 .0)))
-  uses-small lineInput (cons prompt (cons (part var) (cons file done))) h = ((target-small var (h .1 .0), tt), each-append FineExpr (own (over see file)) (own (over see var)) (own-small file (h .1 .1 .0)) (own-small var (h .1 .0)))
-  uses-small if r h = plain-small r h
-  uses-small for r h = plain-small r h
-  uses-small while r h = plain-small r h
-  uses-small doLoop r h = plain-small r h
-  uses-small goto r h = plain-small r h
-  uses-small gosub r h = plain-small r h
-  uses-small return r h = plain-small r h
-  uses-small onGoto r h = plain-small r h
-  uses-small onGosub r h = plain-small r h
-  uses-small dim r h = plain-small r h
-  uses-small declare r h = plain-small r h
-  uses-small shared r h = plain-small r h
-  uses-small static r h = plain-small r h
-  uses-small redim r h = plain-small r h
-  uses-small sub r h = plain-small r h
-  uses-small function r h = plain-small r h
-  uses-small call r h = plain-small r h
-  uses-small midAssign r h = plain-small r h
-  uses-small swap (cons (part a) (cons (part b) done)) h = ((target-small a (h .0), (target-small b (h .1 .0), tt)), each-append FineExpr (own (over see a)) (own (over see b)) (own-small a (h .0)) (own-small b (h .1 .0)))
-  uses-small const r h = plain-small r h
-  uses-small exitLoop r h = plain-small r h
-  uses-small exitProc r h = plain-small r h
-  uses-small optionBase r h = plain-small r h
-  uses-small typeDef r h = plain-small r h
-  uses-small fieldAssign r h = plain-small r h
-  uses-small data′ r h = plain-small r h
-  uses-small read (cons vars done) h = (targets-small vars (h .0), own-small vars (h .0))
-  uses-small defType r h = plain-small r h
-  uses-small beep r h = plain-small r h
-  uses-small erase r h = plain-small r h
-  uses-small raiseError r h = plain-small r h
-  uses-small onError r h = plain-small r h
-  uses-small resume r h = plain-small r h
-  uses-small locate r h = plain-small r h
-  uses-small color r h = plain-small r h
-  uses-small randomize r h = plain-small r h
-  uses-small restore r h = plain-small r h
-  uses-small cls r h = plain-small r h
-  uses-small selectCase r h = plain-small r h
-  uses-small end′ r h = plain-small r h
-  uses-small stop r h = plain-small r h
-  uses-small open′ r h = plain-small r h
-  uses-small close r h = plain-small r h
-  uses-small width r h = plain-small r h
-  uses-small field′ r h = plain-small r h
-  uses-small setField r h = plain-small r h
-  uses-small getPut r h = plain-small r h
-  uses-small lock r h = plain-small r h
+  let-small (cons (word x) (cons is e)) h = (((optional-small is (h .1 .0)), tt), each-append FineExpr (own (over see is)) (own (over see e)) (own-small is (h .1 .0)) (own-small e (h .1 .1)))
+
+  print-small : SmallUses print
+  unfolding sorts uses over Right Each
+  print-small (cons file (cons its (cons (word newline) (cons using′ (cons (word write) done))))) h = (tt, each-append FineExpr (own (over see file)) (own (over see using′) ++ own (over see its)) (own-small file (h .0)) (each-append FineExpr (own (over see using′)) (own (over see its)) (own-small using′ (h .1 .1 .1 .0)) (own-small its (h .1 .0))))
+
+  input-small : SmallUses input
+  unfolding sorts uses over Right Each
+  input-small (cons prompt (cons (word query) (cons vars (cons file done)))) h = (targets-small vars (h .1 .1 .0), each-append FineExpr (own (over see file)) (own (over see vars)) (own-small file (h .1 .1 .1 .0)) (own-small vars (h .1 .1 .0)))
+
+  lineInput-small : SmallUses lineInput
+  unfolding sorts uses over Right Each
+  lineInput-small (cons prompt (cons (part var) (cons file done))) h = ((target-small var (h .1 .0), tt), each-append FineExpr (own (over see file)) (own (over see var)) (own-small file (h .1 .1 .0)) (own-small var (h .1 .0)))
+
+  swap-small : SmallUses swap
+  unfolding sorts uses over Right Each
+  swap-small (cons (part a) (cons (part b) done)) h = ((target-small a (h .0), (target-small b (h .1 .0), tt)), each-append FineExpr (own (over see a)) (own (over see b)) (own-small a (h .0)) (own-small b (h .1 .0)))
+
+  read-small : SmallUses read
+  unfolding sorts uses over Right Each
+  read-small (cons vars done) h = (targets-small vars (h .0), own-small vars (h .0))
+
+  uses-small : (k : Kind) → SmallUses k
+  unfolding Each targetKinds
+  uses-small k = by-kind SmallUses targetKinds (let-small, (print-small, (input-small, (lineInput-small, (swap-small, (read-small, tt)))))) k (λ o r h. rw (uses-plain k o (over see r)) (plain-small r h))
 
   lvalue-small : (name : ℕ) (v : LValue Seen) → FineTarget v → Small (inLvalue name v)
   unfolding inLvalue

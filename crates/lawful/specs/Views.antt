@@ -7,13 +7,16 @@ use mathlib.Core.Option.{Option, none as absent, some}
 use native.Mathlib.Omega.{arith}
 use lib.ListN.{length}
 use borrow.Author.Tests.{lt-ltb, ne-eqb}
+use Rattle.words.specs.Each.{Each}
 use Rattle.expr.specs.Expr.{Expr, Named}
 use Rattle.expr.specs.Stands.{Wrote}
 use Rattle.expr.proofs.Parts.{wrote-first, wrote-left, wrote-right}
-use Rattle.tree.specs.Sorts.{Sorts, nil, _&_, opt, body, named, name, many, TypeRef as TypeSort, Declarator as DeclaratorRow, Param as ParamRow, ScopeItem as ScopeRow, FieldDecl as FieldRow, Kind, sorts, label, labelName, let′, print, input, lineInput, if, for, while, doLoop, goto, gosub, return, onGoto, onGosub, dim, declare, shared, static, redim, sub, function, call, midAssign, swap, const, exitLoop, exitProc, optionBase, typeDef, fieldAssign, data′, read, defType, beep, erase, raiseError, onError, resume, locate, color, randomize, restore, cls, selectCase, end′, stop, open′, close, width, field′, setField, getPut, lock}
+use Rattle.tree.specs.Sorts.{Sorts, nil, _&_, opt, body, named, name, many, TypeRef as TypeSort, Declarator as DeclaratorRow, Param as ParamRow, ScopeItem as ScopeRow, FieldDecl as FieldRow, Kind, sorts, label, labelName, dim, shared, static, redim, sub, function, const, optionBase, typeDef}
+use Rattle.tree.specs.KindLaws.{by-kind}
 use Rattle.tree.specs.Tree.{strings, Shape, one, row, rows, Tree, word, value, Stmt, list, part, this, that, done, cons, none, more, okL, wordsT, Right, over}
 use Rattle.tree.specs.Stands.{Stands}
 use Rattle.views.specs.View.{TypeRef, Integer, Long, Single, Double, FixedString, Record, head, arg, headOf, argOf, Declarator, Param, ScopeItem, FieldDecl, optional, rowsOf, items, typeRef, asType, declarator, param, scopeItem, fieldDecl, View, Label, LabelName, OptionBase, TypeDef, Const, Shared, Static, Dim, Redim, Sub, Function, Other, view, inner}
+use Rattle.views.specs.KindLaws.{viewKinds, view-other}
 use Rattle.subscripts.specs.Subscripts.{indexed, subscriptCount}
 use Rattle.table.specs.Rows.{Row}
 use Rattle.fold.specs.FoldLaws.{RowFold}
@@ -24,7 +27,6 @@ use Rattle.consteval.specs.ConstEval.{constEval}
 use Rattle.consteval.specs.Evaluates.{Consts}
 use Rattle.consteval.specs.EvalLaws.{Words32, const-row}
 use Rattle.collect.specs.Seen.{Seen, see}
-use Rattle.table.specs.Each.{Each}
 use Rattle.lawful.specs.Uses.{Small, length-rows, optional-small, subscripts-small}
 
 -- ---- definitions
@@ -215,60 +217,57 @@ module _ (ns : List ℕ) (n : ℕ) where
   unfolding declarator over Right
   decl-fine (cons (word x) (cons ds (cons ls (cons t done)))) h = record { name = named-is x (h .0); dims = optional-small ns n ds (h .1 .0); ty = asType-fine t (h .1 .1 .1 .0) }
 
+  -- what a statement of the kind shows is fine
+  abbrev FineKind : Kind → Type 0
+  FineKind k = (r : Tree Expr (row (sorts k))) → Right ns n r → Known n r → FineView (view k (over see r))
+
+  label-fine : FineKind label
+  unfolding sorts view over Right
+  label-fine (cons (word x) done) h q = h .0 .1
+
+  labelName-fine : FineKind labelName
+  unfolding sorts view over Right
+  labelName-fine (cons (word x) done) h q = named-is x (h .0)
+
+  dim-fine : FineKind dim
+  unfolding sorts view over Right
+  dim-fine (cons ds (cons s done)) h q = items-each declarator FineDecl decl-fine ds (h .0)
+
+  shared-fine : FineKind shared
+  unfolding sorts view over Right
+  shared-fine (cons is done) h q = items-each scopeItem FineItem item-fine is (h .0)
+
+  static-fine : FineKind static
+  unfolding sorts view over Right
+  static-fine (cons is done) h q = items-each scopeItem FineItem item-fine is (h .0)
+
+  redim-fine : FineKind redim
+  unfolding sorts view over Right
+  redim-fine (cons ds (cons s done)) h q = items-each declarator FineDecl decl-fine ds (h .0)
+
+  sub-fine : FineKind sub
+  unfolding sorts view over Right
+  sub-fine (cons (word x) (cons ps (cons b (cons s done)))) h q = (named-is x (h .0), record { all = items-each param FineParam param-fine ps (h .1 .0); few = items-few param ps (h .1 .0); rank = λ name. subscripts-small ns n name b (h .1 .1 .0) })
+
+  function-fine : FineKind function
+  unfolding sorts view over Right
+  function-fine (cons (word x) (cons ps (cons t (cons b (cons s (cons d done)))))) h q = (named-is x (h .0), record { all = items-each param FineParam param-fine ps (h .1 .0); few = items-few param ps (h .1 .0); rank = λ name. subscripts-small ns n name b (h .1 .1 .1 .0) }, asType-fine t (h .1 .1 .0))
+
+  const-fine : FineKind const
+  unfolding sorts view over Right Known see
+  const-fine (cons (word x) (cons (value e) done)) h q = (named-is x (h .0), q .1 .0)
+
+  optionBase-fine : FineKind optionBase
+  unfolding sorts view over Right
+  optionBase-fine (cons (word x) done) h q = h .0 .1
+
+  typeDef-fine : FineKind typeDef
+  unfolding sorts view over Right
+  typeDef-fine (cons (word x) (cons fs done)) h q = (named-is x (h .0), items-each (fieldDecl) FineField field-fine fs (h .1 .0), items-few fieldDecl fs (h .1 .0))
+
   -- a right statement shows what is in order
   pub view-fine : (k : Kind) (r : Tree Expr (row (sorts k))) → Right ns n r → Known n r → FineView (view k (over see r))
-  unfolding sorts view over Right Known see
-  view-fine label (cons (word x) done) h q = h .0 .1
-  view-fine labelName (cons (word x) done) h q = named-is x (h .0)
-  view-fine let′ r h q = tt
-  view-fine print r h q = tt
-  view-fine input r h q = tt
-  view-fine lineInput r h q = tt
-  view-fine if r h q = tt
-  view-fine for r h q = tt
-  view-fine while r h q = tt
-  view-fine doLoop r h q = tt
-  view-fine goto r h q = tt
-  view-fine gosub r h q = tt
-  view-fine return r h q = tt
-  view-fine onGoto r h q = tt
-  view-fine onGosub r h q = tt
-  view-fine dim (cons ds (cons s done)) h q = items-each declarator FineDecl decl-fine ds (h .0)
-  view-fine declare r h q = tt
-  view-fine shared (cons is done) h q = items-each scopeItem FineItem item-fine is (h .0)
-  view-fine static (cons is done) h q = items-each scopeItem FineItem item-fine is (h .0)
-  view-fine redim (cons ds (cons s done)) h q = items-each declarator FineDecl decl-fine ds (h .0)
-  view-fine sub (cons (word x) (cons ps (cons b (cons s done)))) h q = (named-is x (h .0), record { all = items-each param FineParam param-fine ps (h .1 .0); few = items-few param ps (h .1 .0); rank = λ name. subscripts-small ns n name b (h .1 .1 .0) })
-  view-fine function (cons (word x) (cons ps (cons t (cons b (cons s (cons d done)))))) h q = (named-is x (h .0), record { all = items-each param FineParam param-fine ps (h .1 .0); few = items-few param ps (h .1 .0); rank = λ name. subscripts-small ns n name b (h .1 .1 .1 .0) }, asType-fine t (h .1 .1 .0))
-  view-fine call r h q = tt
-  view-fine midAssign r h q = tt
-  view-fine swap r h q = tt
-  view-fine const (cons (word x) (cons (value e) done)) h q = (named-is x (h .0), q .1 .0)
-  view-fine exitLoop r h q = tt
-  view-fine exitProc r h q = tt
-  view-fine optionBase (cons (word x) done) h q = h .0 .1
-  view-fine typeDef (cons (word x) (cons fs done)) h q = (named-is x (h .0), items-each (fieldDecl) FineField field-fine fs (h .1 .0), items-few fieldDecl fs (h .1 .0))
-  view-fine fieldAssign r h q = tt
-  view-fine data′ r h q = tt
-  view-fine read r h q = tt
-  view-fine defType r h q = tt
-  view-fine beep r h q = tt
-  view-fine erase r h q = tt
-  view-fine raiseError r h q = tt
-  view-fine onError r h q = tt
-  view-fine resume r h q = tt
-  view-fine locate r h q = tt
-  view-fine color r h q = tt
-  view-fine randomize r h q = tt
-  view-fine restore r h q = tt
-  view-fine cls r h q = tt
-  view-fine selectCase r h q = tt
-  view-fine end′ r h q = tt
-  view-fine stop r h q = tt
-  view-fine open′ r h q = tt
-  view-fine close r h q = tt
-  view-fine width r h q = tt
-  view-fine field′ r h q = tt
-  view-fine setField r h q = tt
-  view-fine getPut r h q = tt
-  view-fine lock r h q = tt
+  unfolding Each viewKinds
+  view-fine k =
+      by-kind FineKind viewKinds (label-fine, (labelName-fine, (dim-fine, (shared-fine, (static-fine, (redim-fine, (sub-fine, (function-fine, (const-fine, (optionBase-fine, (typeDef-fine, tt))))))))))) k
+      (λ o r h q. subst FineView (sym (view-other k o (over see r))) tt)

@@ -10,8 +10,8 @@ use Rattle.words.specs.Word.{pick}
 use Rattle.words.specs.Told.{Told, gives}
 use Rattle.words.specs.Refusals.{refused}
 use Rattle.words.specs.declared.Refusal.the-variants.{Rows as RowsRefused}
+use Rattle.words.specs.Each.{Each}
 use Rattle.table.specs.Rows.{width, Row, key, rowsOf, Holds}
-use Rattle.table.specs.Each.{Each}
 use Rattle.lent.specs.Rules.{rowOk}
 use Rattle.lent.specs.declared.Checked.{Checked}
 use Rattle.lent.specs.declared.Checked.the-variants.{Bad, Rows}

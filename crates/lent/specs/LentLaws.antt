@@ -13,9 +13,9 @@ use lib.Seq.{drop-cons, drop-drop, getD-drop, getD-take, take-at, drop-at, lengt
 use borrow.Author.Tests.{le-leb, lt-leb, eq-eqb, ne-eqb, eqb-true, eqb-false, leb-true, leb-false}
 use Rattle.words.specs.Word.{kindOf, pick, flatten}
 use Rattle.words.specs.Told.{gives}
+use Rattle.words.specs.Each.{Each}
 use Rattle.table.specs.Rows.{width, Row, keyOf, key, Table, zeros, image, rowsOf, Filled}
 use Rattle.table.specs.Laws.{pick-true, pick-false, table-down, order}
-use Rattle.table.specs.Each.{Each}
 use Rattle.table.specs.Images.{table-wide, holds-fits, image-none}
 use Rattle.runs.specs.Places.{rows-filled}
 use Rattle.lent.specs.Rules.{kindOk, rowOk}

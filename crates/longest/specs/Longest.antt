@@ -11,13 +11,14 @@ use lib.Dec.{leb}
 use lib.ListN.{length, take, drop, getD, length-append}
 use lib.Seq.{take-at}
 use Rattle.words.specs.Told.{Told, stops, gives}
+use Rattle.words.specs.Each.{Each}
 use Rattle.strings.specs.Table.{namesOf}
 use Rattle.text.specs.Text.{ascii, hex8, decimal}
 use Rattle.text.specs.Wrote.{size, laid}
 use Rattle.tree.specs.Tree.{wordsT}
 use Rattle.reader.specs.Whole.{Whole, program-whole}
 use Rattle.table.specs.Rows.{Row, width, noteWidth}
-use Rattle.table.specs.Each.{Each, wide-each}
+use Rattle.table.specs.Each.{wide-each}
 use Rattle.table.specs.Images.{table-wide}
 use Rattle.consteval.specs.EvalLaws.{Words32}
 use Rattle.image.specs.Image.{Image, decode}

@@ -11,6 +11,7 @@ use lib.Dec.{eqb}
 use lib.ListN.{length, take, drop, getD, set, length-append, length-take, length-drop, List·getD-eq-default}
 use lib.Seq.{sets, take-suc, take-add, getD-drop, take-all, take-take, take-nil, drop-nil, drop-drop, drop-append-add, take-append-seam, length-take-le}
 use Rattle.words.specs.Word.{flatten}
+use Rattle.words.specs.Laws.{PastArms, beyond}
 use Rattle.text.specs.Text.{ascii, decimal}
 use Rattle.text.specs.Wrote.{Wrote}
 use Rattle.text.specs.Laws.{nothing, then, same, fits, copied-more}
@@ -30,20 +31,7 @@ unfolding table templates
 many = refl
 
 -- past the last template: no code that has one
-unfoldable pub Beyond : ℕ → ℕ → Type 0
-Beyond zero c = Unit {0}
-Beyond (suc n) c = Beyond n c × (c ≡ n → ⊥)
-
-beyond : (n c : ℕ) → Beyond n c → n ≤ c
-unfolding Beyond
-beyond zero c h = omega arith
-beyond (suc n) c h =
-    let l : n ≤ c = beyond n c (h .0) in
-    let k : c ≡ n → ⊥ = h .1 in
-    omega arith
-
--- past the last code a template starts at the table's end
-pub start-past : (c : ℕ) → Beyond 29 c → 1325 ≡ length (flatten (take c table))
+pub start-past : (c : ℕ) → PastArms 0 29 c → 1325 ≡ length (flatten (take c table))
 start-past c h =
     let l : 29 ≤ c = beyond 29 c h in
     sym long ∙ ap (λ x. length (flatten x)) (sym (take-all c table (omega (arith, many))))
@@ -239,7 +227,7 @@ row-fits c s e t p q h =
     omega (arith, k, row-length c s e p q)
 
 -- past the last code there is no template
-pub no-text : (c : ℕ) (t : List ℕ) → Beyond 29 c → take (length (getD table c [])) t ≡ getD table c []
+pub no-text : (c : ℕ) (t : List ℕ) → PastArms 0 29 c → take (length (getD table c [])) t ≡ getD table c []
 no-text c t h =
     let l : 29 ≤ c = beyond 29 c h in
     let e : getD table c [] ≡ [] = List·getD-eq-default table [] (omega (arith, many)) in

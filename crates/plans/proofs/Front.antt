@@ -16,10 +16,10 @@ use Rattle.expr.specs.Stands as E
 use Rattle.expr.specs.Stands.{Wrote}
 use Rattle.expr.proofs.Parts.{wrote-first, wrote-left, wrote-right, kind-is}
 use Rattle.tree.specs.Sorts.{Sorts, nil, body, Kind, sorts, kinds, numberOf}
+use Rattle.tree.specs.KindLaws.{kind-number, number-small}
 use Rattle.tree.specs.Tree.{Shape, one, row, Tree, word, value, Stmt, list, part, this, that, done, cons, none as nothing, more as add, count, kindL, wordsT, depthT, strings, Right}
 use Rattle.tree.specs.Stands.{Stands}
 use Rattle.tree.specs.Codes.{parts, allRows, rowOf}
-use Rattle.tree.proofs.Complete.{number-small, kind-number}
 use Rattle.tree.proofs.Steps.{row-kind}
 use Rattle.plans.specs.Pieces.{Piece, exprPiece, stmtPiece, written}
 use Rattle.plans.specs.Items.{ordinary, quiet, quietR, quietI, Item, wordItem, litItem, exprItem, exprsItem, treeItem, wordsI, wordsIs, RightI, RightIs, StandsAll, outer, outerI, outerIs, eachE, writtenI, writtenIs, Parted}

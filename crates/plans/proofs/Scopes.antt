@@ -2,18 +2,19 @@
 use Prim.Native.Nat.{ℕ, _+_, _≤_, _<_}
 use native.Mathlib.Omega.{arith}
 use mathlib.Core.Path.{_≡_, refl, sym, ap, subst, _∙_}
-use mathlib.Core.Bool.{Bool, true, false}
-use mathlib.Core.List.{List}
-use lib.Dec.{eqb}
+use mathlib.Core.Bool.{false≢true}
+use mathlib.Core.List.{List, [], _∷_}
 use lib.ListN.{length, getD}
-use borrow.Author.Tests.{eqb-true, eqb-false}
 use Rattle.words.specs.Word.{kindOf, payOf}
+use Rattle.words.specs.Each.{Each}
 use Rattle.expr.specs.Expr.{Expr}
 use Rattle.expr.proofs.Parts.{wrote-first, pay-is}
-use Rattle.tree.specs.Sorts.{stmt, Kind, sorts, kinds, kindAt, numberOf, label, labelName, let′, print, input, lineInput, if, for, while, doLoop, goto, gosub, return, onGoto, onGosub, dim, declare, shared, static, redim, sub, function, call, midAssign, swap, const, exitLoop, exitProc, optionBase, typeDef, fieldAssign, data′, read, defType, beep, erase, raiseError, onError, resume, locate, color, randomize, restore, cls, selectCase, end′, stop, open′, close, width, field′, setField, getPut, lock}
+use Rattle.tree.specs.Sorts.{stmt, Kind, sorts, kinds, kindAt, numberOf, label, labelName, dim, shared, static, redim, sub, function, const, optionBase, typeDef}
+use Rattle.tree.specs.KindLaws.{noneOf, by-kind}
 use Rattle.tree.specs.Tree.{one, row, Tree, word, value, Stmt, done, cons, wordsT, Right, over}
 use Rattle.tree.specs.Stands.{Stands, SomeTree}
 use Rattle.views.specs.View.{view, inner}
+use Rattle.views.specs.KindLaws.{viewKinds, view-other}
 use Rattle.plans.specs.Plans.{InsideAt}
 use Rattle.plans.proofs.Walk.{head-kind, of-number, fields}
 
@@ -21,71 +22,61 @@ use Rattle.plans.proofs.Walk.{head-kind, of-number, fields}
 
 -- what is shown of SUB, of FUNCTION and of all others is shown of each kind
 pub by-scope : (C : Kind → Type 0) → C sub → C function → ((k : Kind) → (numberOf k ≡ 20 → ⊥) → (numberOf k ≡ 21 → ⊥) → C k) → (k : Kind) → C k
-unfolding kindAt kinds
-by-scope C a b c k = go (eqb (numberOf k) 20) (eqb (numberOf k) 21) refl refl
-  where
-    go : (x y : Bool) → eqb (numberOf k) 20 ≡ x → eqb (numberOf k) 21 ≡ y → C k
-    go true y p q = subst C (sym (of-number k 20 (eqb-true (numberOf k) 20 p))) a
-    go false true p q = subst C (sym (of-number k 21 (eqb-true (numberOf k) 21 q))) b
-    go false false p q = c k (eqb-false (numberOf k) 20 p) (eqb-false (numberOf k) 21 q)
+unfolding Each noneOf numberOf
+by-scope C a b c k = by-kind C (sub ∷ function ∷ []) (a, (b, tt)) k (λ o. c k (λ e. false≢true (rw e at o)) (λ e. false≢true (rw e at o)))
+
+module _ (E : Type 0) (scope : ℕ) where
+  -- a statement of the kind keeps the scope around it
+  abbrev KeepsScope : Kind → Type 0
+  KeepsScope k = (r : Tree E (row (sorts k))) → scope ≡ inner scope (view k r)
+
+  label-keeps : KeepsScope label
+  unfolding sorts view inner
+  label-keeps (cons (word x) done) = refl
+
+  labelName-keeps : KeepsScope labelName
+  unfolding sorts view inner
+  labelName-keeps (cons (word x) done) = refl
+
+  dim-keeps : KeepsScope dim
+  unfolding sorts view inner
+  dim-keeps (cons ds (cons s done)) = refl
+
+  shared-keeps : KeepsScope shared
+  unfolding sorts view inner
+  shared-keeps (cons is done) = refl
+
+  static-keeps : KeepsScope static
+  unfolding sorts view inner
+  static-keeps (cons is done) = refl
+
+  redim-keeps : KeepsScope redim
+  unfolding sorts view inner
+  redim-keeps (cons ds (cons s done)) = refl
+
+  const-keeps : KeepsScope const
+  unfolding sorts view inner
+  const-keeps (cons (word x) (cons (value e) done)) = refl
+
+  optionBase-keeps : KeepsScope optionBase
+  unfolding sorts view inner
+  optionBase-keeps (cons (word x) done) = refl
+
+  typeDef-keeps : KeepsScope typeDef
+  unfolding sorts view inner
+  typeDef-keeps (cons (word x) (cons fs done)) = refl
+
+  abbrev KeepsOther : Kind → Type 0
+  KeepsOther k = (numberOf k ≡ 20 → ⊥) → (numberOf k ≡ 21 → ⊥) → KeepsScope k
+
+  kept : Each KeepsOther viewKinds
+  unfolding Each viewKinds numberOf
+  kept = (λ f g. label-keeps, (λ f g. labelName-keeps, (λ f g. dim-keeps, (λ f g. shared-keeps, (λ f g. static-keeps, (λ f g. redim-keeps, (λ f g r. absurd (f refl), (λ f g r. absurd (g refl), (λ f g. const-keeps, (λ f g. optionBase-keeps, (λ f g. typeDef-keeps, tt)))))))))))
 
 -- all others keep the scope
 pub inner-other : {E : Type 0} (scope : ℕ) (k : Kind) (r : Tree E (row (sorts k))) → (numberOf k ≡ 20 → ⊥) → (numberOf k ≡ 21 → ⊥) → scope ≡ inner scope (view k r)
-unfolding sorts view inner numberOf
-inner-other scope label (cons (word x) done) f g = refl
-inner-other scope labelName (cons (word x) done) f g = refl
-inner-other scope let′ r f g = refl
-inner-other scope print r f g = refl
-inner-other scope input r f g = refl
-inner-other scope lineInput r f g = refl
-inner-other scope if r f g = refl
-inner-other scope for r f g = refl
-inner-other scope while r f g = refl
-inner-other scope doLoop r f g = refl
-inner-other scope goto r f g = refl
-inner-other scope gosub r f g = refl
-inner-other scope return r f g = refl
-inner-other scope onGoto r f g = refl
-inner-other scope onGosub r f g = refl
-inner-other scope dim (cons ds (cons s done)) f g = refl
-inner-other scope declare r f g = refl
-inner-other scope shared (cons is done) f g = refl
-inner-other scope static (cons is done) f g = refl
-inner-other scope redim (cons ds (cons s done)) f g = refl
-inner-other scope sub r f g = absurd (f refl)
-inner-other scope function r f g = absurd (g refl)
-inner-other scope call r f g = refl
-inner-other scope midAssign r f g = refl
-inner-other scope swap r f g = refl
-inner-other scope const (cons (word x) (cons (value e) done)) f g = refl
-inner-other scope exitLoop r f g = refl
-inner-other scope exitProc r f g = refl
-inner-other scope optionBase (cons (word x) done) f g = refl
-inner-other scope typeDef (cons (word x) (cons fs done)) f g = refl
-inner-other scope fieldAssign r f g = refl
-inner-other scope data′ r f g = refl
-inner-other scope read r f g = refl
-inner-other scope defType r f g = refl
-inner-other scope beep r f g = refl
-inner-other scope erase r f g = refl
-inner-other scope raiseError r f g = refl
-inner-other scope onError r f g = refl
-inner-other scope resume r f g = refl
-inner-other scope locate r f g = refl
-inner-other scope color r f g = refl
-inner-other scope randomize r f g = refl
-inner-other scope restore r f g = refl
-inner-other scope cls r f g = refl
-inner-other scope selectCase r f g = refl
-inner-other scope end′ r f g = refl
-inner-other scope stop r f g = refl
-inner-other scope open′ r f g = refl
-inner-other scope close r f g = refl
-inner-other scope width r f g = refl
-inner-other scope field′ r f g = refl
-inner-other scope setField r f g = refl
-inner-other scope getPut r f g = refl
-inner-other scope lock r f g = refl
+unfolding inner
+inner-other {E} scope k r f g = by-kind (KeepsOther E scope) viewKinds (kept E scope) k (λ o f g r. ap (inner scope) (sym (view-other k o r))) f g r
 
 -- whatever stands for an expression
 module _ {E F : Type 0} (g : E → F) (scope : ℕ) where

@@ -10,10 +10,11 @@ use Rattle.expr.specs.Expr.{Expr}
 use Rattle.expr.specs.Stands as W
 use Rattle.expr.proofs.Parts.{wrote-first, wrote-left, wrote-right, kind-is}
 use Rattle.tree.specs.Sorts.{Sort, expr, stmt, Sorts, nil, _&_, body, Kind, sorts, numberOf, kindAt}
+use Rattle.tree.specs.KindLaws.{kind-number, number-small}
 use Rattle.tree.specs.Tree.{strings, Shape, one, row, rows, Tree, value, Stmt, done, cons, none, more, count, depthT, wordsT, Right}
+use Rattle.tree.proofs.Nodes.{stmt-line}
 use Rattle.tree.specs.Stands.{Stands, SomeTree}
 use Rattle.tree.specs.Codes.{codes, parts, allRows, decode, sortAt, rowOf}
-use Rattle.tree.proofs.Complete.{number-small, kind-number}
 use Rattle.tree.proofs.Steps.{decode-stop, decode-go, decode-over, decode-row, row-kind}
 use Rattle.plans.specs.Pieces.{Piece, exprPiece, pieces}
 use Rattle.plans.specs.Plans.{Planned, Shallow, ShallowRows, SomeRows, Walks, WalksRows}
@@ -295,8 +296,7 @@ stmt-row {ws} {at = at} {k = k} s =
 
 -- its fields stand after the head
 pub fields : {ws ns : List ℕ} {n at end : ℕ} {k : Kind} {line : ℕ} {r : Tree Expr (row (sorts k))} → Stands ws ns n at (Stmt k line r) end → Stands ws ns n (at + 1) r end
-unfolding wordsT Right
-fields s = record { wrote = wrote-first (s .wrote) .rest; valid = s .valid .1 }
+fields s = stmt-line s .2
 
 -- its row stands after the head, no deeper
 pub fields-there : {ns : List ℕ} {n d : ℕ} {ws : List ℕ} {at : ℕ} → Shallow (one stmt) ns n d ws at → Shallow (row (rowOf (kindOf (getD ws at 0) - 64 + 39))) ns n d ws (at + 1)

@@ -9,16 +9,19 @@ use lib.Dec.{eqb, ltb}
 use lib.ListN.{getD}
 use borrow.Author.Tests.{ne-eqb, ltb-true, ltb-false}
 use Rattle.words.specs.Word.{wordOf, kindOf, pick}
+use Rattle.words.specs.Each.{Each}
 use Rattle.expr.specs.Expr.{Strings, Expr, Exprs, Lit, Var, Elem, Unary, Binary, Call, Field, Paren, none, more, many, words, wordsAll, Valid, Valids}
 use Rattle.expr.specs.Stands.{Wrote}
 use Rattle.expr.proofs.Parts.{wrote-first, kind-is}
-use Rattle.tree.specs.Sorts.{Sort, Sorts, nil, _&_, opt, exprs, many as manySort, LValue as LValueRow, body as bodySort, Kind, sorts, label, labelName, let′, print, input, lineInput, if, for, while, doLoop, goto, gosub, return, onGoto, onGosub, dim, declare, shared, static, redim, sub, function, call, midAssign, swap, const, exitLoop, exitProc, optionBase, typeDef, fieldAssign, data′, read, defType, beep, erase, raiseError, onError, resume, locate, color, randomize, restore, cls, selectCase, end′, stop, open′, close, width, field′, setField, getPut, lock}
+use Rattle.tree.specs.Sorts.{Sort, Sorts, nil, _&_, opt, exprs, many as manySort, LValue as LValueRow, body as bodySort, Kind, sorts, let′, print, input, lineInput, swap, read}
+use Rattle.tree.specs.KindLaws.{by-kind}
 use Rattle.tree.specs.Tree.{strings, Shape, one, row, rows, Tree, word, value, Stmt, list, part, this, that, done, cons, none as noRows, more as addRow, count, wordsT, Right}
 use Rattle.tree.specs.Stands.{Stands}
 use Rattle.views.specs.View.{lvalue, optional, expressions, items, rowsOf}
 use Rattle.views.specs.Uses.{own, plain, uses}
+use Rattle.views.specs.KindLaws.{targetKinds, uses-plain}
 use Rattle.subscripts.specs.Subscripts.{orElse, firstOf, subscripted, inExpr, inExprs, indexed, inLvalue, inStmt, subscriptCount}
-use Rattle.subscripts.proofs.Expressions.{firstOf-append}
+use Rattle.subscripts.proofs.Expressions.{pick-none, firstOf-append}
 use Rattle.procedures.specs.Post.{Quiet}
 
 -- ---- words
@@ -144,10 +147,6 @@ module _ (name : ℕ) (ns : List ℕ) (n : ℕ) where
 
   -- ---- targets
 
-  pick-none : (t : Bool) → pick {A = Option ℕ} t nothing nothing ≡ nothing
-  pick-none true = refl
-  pick-none false = refl
-
   indices-none : (x : ℕ) (is : Tree Expr (one (opt (exprs & nil)))) → Right ns n is → Apart (wordOf 2 name) (wordOf 2 x ∷ wordsT is)
       → pick (eqb x name) (indexed (optional expressions is)) nothing ≡ nothing
   unfolding wordsT Right optional indexed
@@ -192,79 +191,54 @@ module _ (name : ℕ) (ns : List ℕ) (n : ℕ) where
   unfolding firstOf inLvalue
   let-none x is e r a = none-or (indices-none x is r (apart-left (wordOf 2 name) (wordOf 2 x ∷ wordsT is) (wordsT e) a)) refl
 
-  stmt-none : (k : Kind) (r : Tree Expr (row (sorts k))) → Clean r → inStmt (λ x (e : Expr). inExpr x e) name (uses k r) ≡ nothing
+  -- a statement of the kind does not use the name
+  abbrev NoUse : Kind → Type 0
+  NoUse k = (r : Tree Expr (row (sorts k))) → Clean r → inStmt (λ x (e : Expr). inExpr x e) name (uses k r) ≡ nothing
+
+  assign-none : NoUse let′
   unfolding sorts uses inStmt wordsT Right
-  stmt-none label r c = plain-none r c
-  stmt-none labelName r c = plain-none r c
-  stmt-none let′ (cons (word x) (cons is e)) c =
+  assign-none (cons (word x) (cons is e)) c =
       let d = rest (word x) (cons is e) c in
       none-or (let-none x is e (c .right .1 .0) (c .apart)) (both (own is) (own e) (own-none is (left is e d)) (own-none e (rest is e d)))
-  stmt-none print (cons file (cons its (cons (word newline) (cons using′ (cons (word write) done))))) c =
+
+  print-none : NoUse print
+  unfolding sorts uses inStmt wordsT Right
+  print-none (cons file (cons its (cons (word newline) (cons using′ (cons (word write) done))))) c =
       let d = rest file (cons its (cons (word newline) (cons using′ (cons (word write) done)))) c in
       let e = rest (word newline) (cons using′ (cons (word write) done)) (rest its (cons (word newline) (cons using′ (cons (word write) done))) d) in
       none-or no-targets (both (own file) (own using′ ++ own its) (own-none file (left file (cons its (cons (word newline) (cons using′ (cons (word write) done)))) c))
       (both (own using′) (own its) (own-none using′ (left using′ (cons (word write) done) e)) (own-none its (left its (cons (word newline) (cons using′ (cons (word write) done))) d))))
-  stmt-none input (cons prompt (cons (word query) (cons vars (cons file done)))) c =
+
+  input-none : NoUse input
+  unfolding sorts uses inStmt wordsT Right
+  input-none (cons prompt (cons (word query) (cons vars (cons file done)))) c =
       let d = rest (word query) (cons vars (cons file done)) (rest prompt (cons (word query) (cons vars (cons file done))) c) in
       let v = left vars (cons file done) d in
       none-or (items-none vars v) (both (own file) (own vars) (own-none file (left file done (rest vars (cons file done) d))) (own-none vars v))
-  stmt-none lineInput (cons prompt (cons (part var) (cons file done))) c =
+
+  lineInput-none : NoUse lineInput
+  unfolding sorts uses inStmt wordsT Right
+  lineInput-none (cons prompt (cons (part var) (cons file done))) c =
       let d = rest prompt (cons (part var) (cons file done)) c in
       let v = in-part var (left (part var) (cons file done) d) in
       none-or (one-none var v) (both (own file) (own var) (own-none file (left file done (rest (part var) (cons file done) d))) (own-none var v))
-  stmt-none if r c = plain-none r c
-  stmt-none for r c = plain-none r c
-  stmt-none while r c = plain-none r c
-  stmt-none doLoop r c = plain-none r c
-  stmt-none goto r c = plain-none r c
-  stmt-none gosub r c = plain-none r c
-  stmt-none return r c = plain-none r c
-  stmt-none onGoto r c = plain-none r c
-  stmt-none onGosub r c = plain-none r c
-  stmt-none dim r c = plain-none r c
-  stmt-none declare r c = plain-none r c
-  stmt-none shared r c = plain-none r c
-  stmt-none static r c = plain-none r c
-  stmt-none redim r c = plain-none r c
-  stmt-none sub r c = plain-none r c
-  stmt-none function r c = plain-none r c
-  stmt-none call r c = plain-none r c
-  stmt-none midAssign r c = plain-none r c
-  stmt-none swap (cons (part a) (cons (part b) done)) c =
+
+  swap-none : NoUse swap
+  unfolding sorts uses inStmt wordsT Right
+  swap-none (cons (part a) (cons (part b) done)) c =
       let x = in-part a (left (part a) (cons (part b) done) c) in
       let y = in-part b (left (part b) done (rest (part a) (cons (part b) done) c)) in
       none-or (two-none a b x y) (both (own a) (own b) (own-none a x) (own-none b y))
-  stmt-none const r c = plain-none r c
-  stmt-none exitLoop r c = plain-none r c
-  stmt-none exitProc r c = plain-none r c
-  stmt-none optionBase r c = plain-none r c
-  stmt-none typeDef r c = plain-none r c
-  stmt-none fieldAssign r c = plain-none r c
-  stmt-none data′ r c = plain-none r c
-  stmt-none read (cons vars done) c =
+
+  read-none : NoUse read
+  unfolding sorts uses inStmt wordsT Right
+  read-none (cons vars done) c =
       let v = left vars done c in
       none-or (items-none vars v) (own-none vars v)
-  stmt-none defType r c = plain-none r c
-  stmt-none beep r c = plain-none r c
-  stmt-none erase r c = plain-none r c
-  stmt-none raiseError r c = plain-none r c
-  stmt-none onError r c = plain-none r c
-  stmt-none resume r c = plain-none r c
-  stmt-none locate r c = plain-none r c
-  stmt-none color r c = plain-none r c
-  stmt-none randomize r c = plain-none r c
-  stmt-none restore r c = plain-none r c
-  stmt-none cls r c = plain-none r c
-  stmt-none selectCase r c = plain-none r c
-  stmt-none end′ r c = plain-none r c
-  stmt-none stop r c = plain-none r c
-  stmt-none open′ r c = plain-none r c
-  stmt-none close r c = plain-none r c
-  stmt-none width r c = plain-none r c
-  stmt-none field′ r c = plain-none r c
-  stmt-none setField r c = plain-none r c
-  stmt-none getPut r c = plain-none r c
-  stmt-none lock r c = plain-none r c
+
+  stmt-none : (k : Kind) → NoUse k
+  unfolding Each targetKinds
+  stmt-none k = by-kind NoUse targetKinds (assign-none, (print-none, (input-none, (lineInput-none, (swap-none, (read-none, tt)))))) k (λ o r c. ap (inStmt (λ x (e : Expr). inExpr x e) name) (uses-plain k o r) ∙ plain-none r c)
 
   tree-none : {i : Shape} (v : Tree Expr i) → Clean v → subscriptCount (λ x (e : Expr). inExpr x e) name v ≡ nothing
   unfolding subscriptCount wordsT Right

@@ -11,11 +11,12 @@ use Rattle.words.specs.Word.{wordOf, payOf}
 use Rattle.strings.proofs.Laws.{names-length}
 use Rattle.expr.specs.Expr.{Expr}
 use Rattle.expr.specs.Stands.{Wrote}
-use Rattle.expr.proofs.Parts.{First, wrote-first, wrote-left, wrote-right, pay-is}
-use Rattle.tree.specs.Sorts.{name, Sort, Sorts, TypeRef as TypeSort, opt, nil, _&_, flag, numberOf, Param as ParamRow, body as bodySort, stmt, Kind, sorts, sub, function}
+use Rattle.expr.proofs.Parts.{First, wrote-at, wrote-first, wrote-left, wrote-right, pay-is}
+use Rattle.tree.specs.Sorts.{name, Sorts, TypeRef as TypeSort, opt, nil, _&_, flag, Param as ParamRow, body as bodySort, stmt, Kind, sorts, sub, function}
 use Rattle.tree.specs.Tree.{strings, one, row, rows, Tree, word, Stmt, list, done, cons, count, wordsT, Right, over}
 use Rattle.tree.specs.Stands.{Stands, SomeTree}
 use Rattle.tree.proofs.Complete.{one-tree, clear}
+use Rattle.tree.proofs.Nodes.{cons-left, cons-right, stmt-line}
 use Rattle.views.specs.View.{TypeRef, Param, headOf, argOf, optional, asType, isSet, param, items, rowsOf, view}
 use Rattle.lent.specs.RuleLaws.{name-below as marked-below}
 use Rattle.parts.specs.Parts.{AsTypeIs}
@@ -28,9 +29,6 @@ use Rattle.procedures.specs.Post.{StmtTo, ParamOf, ParamIs, ParamsAt, So
 use Rattle.procedures.specs.declared.ProcAt.{ProcAt}
 
 -- ---- words at a place
-
-at-place : {ws xs : List ℕ} {m m′ end : ℕ} → m ≡ m′ → Wrote ws m xs end → Wrote ws m′ xs end
-at-place {ws} {xs} {end = end} e w = subst (λ (x : ℕ). Wrote ws x xs end) e w
 
 first-at : {ws xs : List ℕ} {m m′ w end : ℕ} → m ≡ m′ → First ws m w xs end → First ws m′ w xs end
 first-at {ws} {xs} {w = w} {end} e f = subst (λ (x : ℕ). First ws x w xs end) e f
@@ -65,7 +63,7 @@ in-param {ws} {ns} {n} {at} {end} (cons (word x) (cons (word y) (cons (word z) (
       byval = flag-is _ y (g .is) (s .valid .1 .0 .1);
       array = flag-is _ z (k .is) (s .valid .1 .1 .0 .1);
       clause = t;
-      there = record { wrote = at-place (omega arith) (rw (append-nil (wordsT t)) at (h .rest)); valid = s .valid .1 .1 .1 .0 };
+      there = record { wrote = wrote-at (omega arith) (rw (append-nil (wordsT t)) at (h .rest)); valid = s .valid .1 .1 .1 .0 };
       type-is = refl;
     }
 
@@ -107,17 +105,11 @@ module _ {ws : List ℕ} {at end : ℕ} (S : SomeBody ws at end) where
   pub body-tree : SomeTree (one bodySort) ws at
   body-tree = let B = S .there in record { names = B .names; strings = B .strings; tree = B .tree; end = end; stands = B .stands }
 
--- ---- what stands in a statement: its line, a name and a list, a part and the rest, a flag
+-- ---- what stands in a SUB or FUNCTION: its line, its name and its parameters; a flag
 
-stmt-line : {ws ns : List ℕ} {n at end : ℕ} {k : Kind} {line : ℕ} {r : Tree Expr (row (sorts k))} → Stands ws ns n at (Stmt k line r) end
-    → (at < length ws) × (payOf (getD ws at 0) ≡ line) × Stands ws ns n (at + 1) r end
-unfolding wordsT Right
-stmt-line {k = k} {line} s =
-    let f = wrote-first (s .wrote) in
-    (f .inside, ap payOf (f .is) ∙ pay-is (64 + numberOf k) line (s .valid .0), record { wrote = f .rest; valid = s .valid .1 })
-
-record InHead (ws ns : List ℕ) (n at end x : ℕ) (ps : Tree Expr (rows ParamRow)) {ss : Sorts} (rest : Tree Expr (row ss)) : Type 0 where
+record InHead (ws ns : List ℕ) (n at end line x : ℕ) (ps : Tree Expr (rows ParamRow)) {ss : Sorts} (rest : Tree Expr (row ss)) : Type 0 where
   inside : at + 2 < length ws
+  line-is : payOf (getD ws at 0) ≡ line
   name-is : payOf (getD ws (at + 1) 0) ≡ x
   named : eqb (getD ns x 0) 1 ≡ true
   counted : count ps ≡ payOf (getD ws (at + 2) 0)
@@ -125,15 +117,16 @@ record InHead (ws ns : List ℕ) (n at end x : ℕ) (ps : Tree Expr (rows ParamR
   there : Stands ws ns n (at + 3) ps mid
   next : Stands ws ns n mid rest end
 
-in-head : {ws ns : List ℕ} {n at end : ℕ} {ss : Sorts} (x : ℕ) (ps : Tree Expr (rows ParamRow)) (rest : Tree Expr (row ss))
-    → Stands ws ns n (at + 1) (cons (word {l = name} x) (cons (list ps) rest)) end → InHead ws ns n at end x ps rest
+in-head : {ws ns : List ℕ} {n at end line : ℕ} {ss : Sorts} (x : ℕ) (ps : Tree Expr (rows ParamRow)) (rest : Tree Expr (row ss))
+    → payOf (getD ws at 0) ≡ line → Stands ws ns n (at + 1) (cons (word {l = name} x) (cons (list ps) rest)) end → InHead ws ns n at end line x ps rest
 unfolding wordsT Right
-in-head {ws} {ns} {n} {at} {end} x ps rest s =
+in-head {ws} {ns} {n} {at} {end} x ps rest l s =
     let f = wrote-first (s .wrote) in
     let g = first-at {m′ = at + 2} (omega arith) (wrote-first (f .rest)) in
-    let w : Wrote ws (at + 3) (wordsT ps ++ wordsT rest) end = at-place (omega arith) (g .rest) in
+    let w : Wrote ws (at + 3) (wordsT ps ++ wordsT rest) end = wrote-at (omega arith) (g .rest) in
     record {
       inside = g .inside;
+      line-is = l;
       name-is = ap payOf (f .is) ∙ pay-is 2 x (s .valid .0 .1);
       named = s .valid .0 .0;
       counted = sym (ap payOf (g .is) ∙ pay-is 1 (count ps) (s .valid .1 .0 .0));
@@ -142,19 +135,16 @@ in-head {ws} {ns} {n} {at} {end} x ps rest s =
       next = record { wrote = wrote-right (wordsT ps) w; valid = s .valid .1 .1 };
     }
 
-record InCons (ws ns : List ℕ) (n at end : ℕ) {s : Sort} {ss : Sorts} (v : Tree Expr (one s)) (r : Tree Expr (row ss)) : Type 0 where
-  mid : ℕ
-  there : Stands ws ns n at v mid
-  next : Stands ws ns n mid r end
+-- its parameters, and its name, as the code has them
+module _ {ws ns : List ℕ} {n at end line x : ℕ} {ps : Tree Expr (rows ParamRow)} {ss : Sorts} {rest : Tree Expr (row ss)} (h : InHead ws ns n at end line x ps rest) where
+  abbrev params-at : ParamsAt ws (at + 3) (payOf (getD ws (at + 2) 0)) (rowsOf param ps)
+  params-at = record { names = ns; strings = n; tree = ps; end = h .mid; stands = h .there; counted = h .counted; are = refl }
 
-in-cons : {ws ns : List ℕ} {n at end : ℕ} {s : Sort} {ss : Sorts} (v : Tree Expr (one s)) (r : Tree Expr (row ss)) → Stands ws ns n at (cons v r) end → InCons ws ns n at end v r
-unfolding wordsT Right
-in-cons v r s =
-    record {
-      mid = _;
-      there = record { wrote = wrote-left (wordsT v) (wordsT r) (s .wrote); valid = s .valid .0 };
-      next = record { wrote = wrote-right (wordsT v) (s .wrote); valid = s .valid .1 };
-    }
+  some-params : SomeParams ws (at + 3) (payOf (getD ws (at + 2) 0))
+  some-params = record { params = rowsOf param ps; there = params-at }
+
+  name-marked : eqb (getD ns (payOf (getD ws (at + 1) 0)) 0) 1 ≡ true
+  name-marked = subst (λ (y : ℕ). eqb (getD ns y 0) 1 ≡ true) (sym (h .name-is)) (h .named)
 
 in-flag : {ws ns : List ℕ} {n at end : ℕ} {ss : Sorts} (v : Tree Expr (one flag)) (r : Tree Expr (row ss)) → Stands ws ns n at (cons v r) end
     → (at < length ws) × (eqb (payOf (getD ws at 0)) 1 ≡ isSet v) × Stands ws ns n (at + 1) r end
@@ -182,15 +172,9 @@ record InSub (ws ns : List ℕ) (n at end line : ℕ) (r : Tree Expr (row (sorts
   params : Tree Expr (rows ParamRow)
   body : Tree Expr (one bodySort)
   keeps : Tree Expr (one flag)
-  inside : at + 2 < length ws
-  line-is : payOf (getD ws at 0) ≡ line
-  name-is : payOf (getD ws (at + 1) 0) ≡ name
-  named : eqb (getD ns name 0) 1 ≡ true
-  counted : count params ≡ payOf (getD ws (at + 2) 0)
-  mid : ℕ
-  params-there : Stands ws ns n (at + 3) params mid
+  head : InHead ws ns n at end line name params (cons body (cons keeps done))
   past : ℕ
-  body-there : Stands ws ns n mid body past
+  body-there : Stands ws ns n (head .mid) body past
   last : past + 1 ≡ end
   flag-inside : past < length ws
   flag-set : eqb (payOf (getD ws past 0)) 1 ≡ isSet keeps
@@ -201,23 +185,16 @@ in-sub : {ws ns : List ℕ} {n at end : ℕ} (line : ℕ) (r : Tree Expr (row (s
 unfolding sorts view over statement items
 in-sub line (cons (word x) (cons (list ps) (cons b (cons f done)))) s =
     let l = stmt-line s in
-    let h = in-head x ps (cons b (cons f done)) (l .2) in
-    let c = in-cons b (cons f done) (h .next) in
-    let g = in-flag f done (c .next) in
+    let h = in-head x ps (cons b (cons f done)) (l .1) (l .2) in
+    let g = in-flag f done (cons-right (h .next)) in
     record {
       name = x;
       params = ps;
       body = b;
       keeps = f;
-      inside = h .inside;
-      line-is = l .1;
-      name-is = h .name-is;
-      named = h .named;
-      counted = h .counted;
-      mid = h .mid;
-      params-there = h .there;
-      past = c .mid;
-      body-there = c .there;
+      head = h;
+      past = _;
+      body-there = cons-left (h .next);
       last = in-done (g .2);
       flag-inside = g .0;
       flag-set = g .1;
@@ -230,25 +207,17 @@ in-sub line (cons (word x) (cons (list ps) (cons b (cons f done)))) s =
 ends-at : {ws ns : List ℕ} {n at at′ end end′ : ℕ} {v : Tree Expr (one bodySort)} → at ≡ at′ → end ≡ end′ → Stands ws ns n at v end → Stands ws ns n at′ v end′
 ends-at {ws} {ns} {n} {at} {at′} {end} {end′} {v} e f s = subst (λ (x : ℕ). Stands ws ns n at′ v x) f (subst (λ (x : ℕ). Stands ws ns n x v end) e s)
 
--- what the code knows of the place past the parameters
-module _ {ws ns : List ℕ} {n : ℕ} (at : ℕ) {m : ℕ}
-    (past-params : (ps : List Param) (T : ParamsAt ws (at + 3) (payOf (getD ws (at + 2) 0)) ps) → m ≡ T .end) where
-  params-end : {ps : Tree Expr (rows ParamRow)} {end : ℕ} → count ps ≡ payOf (getD ws (at + 2) 0) → Stands ws ns n (at + 3) ps end → m ≡ end
-  params-end {ps} {end} c s = past-params (rowsOf param ps) (record { names = ns; strings = n; tree = ps; end = end; stands = s; counted = c; are = refl })
-
 module _ {ws ns : List ℕ} {n at end : ℕ} (S : StmtTo ns n sub ws at end) where
   here : InSub ws ns n at (S .stmt .end) (S .stmt .line) (S .stmt .fields)
   here = in-sub (S .stmt .line) (S .stmt .fields) (S .stmt .stands)
 
   -- its line, its name and its count are within the words
   pub sub-inside : at + 2 < length ws
-  sub-inside = here .inside
+  sub-inside = here .head .inside
 
   -- as many parameters stand after them
   pub sub-params : SomeParams ws (at + 3) (payOf (getD ws (at + 2) 0))
-  sub-params =
-      let h = here in
-      record { params = rowsOf param (h .params); there = record { names = ns; strings = n; tree = h .params; end = h .mid; stands = h .params-there; counted = h .counted; are = refl } }
+  sub-params = some-params (here .head)
 
   -- the flag is the last word
   pub last-flag : (1 ≤ end) × (end - 1 < length ws)
@@ -257,20 +226,20 @@ module _ {ws ns : List ℕ} {n at end : ℕ} (S : StmtTo ns n sub ws at end) whe
   -- so the SUB is read: its body after the parameters, its flag last
   pub sub-is : {m : ℕ} → ((ps : List Param) (T : ParamsAt ws (at + 3) (payOf (getD ws (at + 2) 0)) ps) → m ≡ T .end) → (keeps : Bool) → keeps ≡ eqb (payOf (getD ws (end - 1) 0)) 1
       → ProcIs ns n sub ws at (record { line = payOf (getD ws at 0); name = payOf (getD ws (at + 1) 0); params = at + 3; count = payOf (getD ws (at + 2) 0); head = 0; arg = 0; body = m; past = end - 1; function = false; keeps = keeps; deffn = false })
-  sub-is {m} past-params keeps q = record { shows = by; named = subst (λ (x : ℕ). eqb (getD ns x 0) 1 ≡ true) (sym (here .name-is)) (here .named) }
+  sub-is {m} past-params keeps q = record { shows = by; named = name-marked (here .head) }
     where
       by : (line : ℕ) (r : Tree Expr (row (sorts sub))) (end′ : ℕ) → Stands ws ns n at (Stmt sub line r) end′
           → Shown ws sub (record { line = payOf (getD ws at 0); name = payOf (getD ws (at + 1) 0); params = at + 3; count = payOf (getD ws (at + 2) 0); head = 0; arg = 0; body = m; past = end - 1; function = false; keeps = keeps; deffn = false }) line r
       by line r end′ s =
           let h = in-sub line r s in
-          let p = params-end at past-params (h .counted) (h .params-there) in
+          let p = past-params _ (params-at (h .head)) in
           let e : end - 1 ≡ h .past = omega (arith, h .last, same-end S s) in
           record {
             proc = record { name = h .name; params = rowsOf param (h .params); ret-ty = absent; body = over see (h .body); is-function = false; is-static = isSet (h .keeps); def-fn = false };
             is = h .is;
             of = record {
-              name = h .name-is;
-              params = record { names = ns; strings = n; tree = h .params; end = h .mid; stands = h .params-there; counted = h .counted; are = refl };
+              name = h .head .name-is;
+              params = params-at (h .head);
               head = refl;
               arg = refl;
               body = record { names = ns; strings = n; tree = h .body; stands = ends-at (sym p) (sym e) (h .body-there); is = refl };
@@ -278,7 +247,7 @@ module _ {ws ns : List ℕ} {n at end : ℕ} (S : StmtTo ns n sub ws at end) whe
               static = q ∙ ap (λ (x : ℕ). eqb (payOf (getD ws x 0)) 1) e ∙ h .flag-set;
               def-fn = refl;
             };
-            line-is = h .line-is;
+            line-is = h .head .line-is;
           }
 
 -- ---- a FUNCTION: its AS clause stands before the body, and it has two flags
@@ -290,15 +259,9 @@ record InFunction (ws ns : List ℕ) (n at end line : ℕ) (r : Tree Expr (row (
   body : Tree Expr (one bodySort)
   keeps : Tree Expr (one flag)
   deffn : Tree Expr (one flag)
-  inside : at + 2 < length ws
-  line-is : payOf (getD ws at 0) ≡ line
-  name-is : payOf (getD ws (at + 1) 0) ≡ name
-  named : eqb (getD ns name 0) 1 ≡ true
-  counted : count params ≡ payOf (getD ws (at + 2) 0)
-  mid : ℕ
-  params-there : Stands ws ns n (at + 3) params mid
+  head : InHead ws ns n at end line name params (cons clause (cons body (cons keeps (cons deffn done))))
   next : ℕ
-  clause-there : Stands ws ns n mid clause next
+  clause-there : Stands ws ns n (head .mid) clause next
   past : ℕ
   body-there : Stands ws ns n next body past
   last : past + 2 ≡ end
@@ -312,10 +275,9 @@ in-function : {ws ns : List ℕ} {n at end : ℕ} (line : ℕ) (r : Tree Expr (r
 unfolding sorts view over statement items
 in-function line (cons (word x) (cons (list ps) (cons t (cons b (cons f (cons g done)))))) s =
     let l = stmt-line s in
-    let h = in-head x ps (cons t (cons b (cons f (cons g done)))) (l .2) in
-    let a = in-cons t (cons b (cons f (cons g done))) (h .next) in
-    let c = in-cons b (cons f (cons g done)) (a .next) in
-    let k = in-flag f (cons g done) (c .next) in
+    let h = in-head x ps (cons t (cons b (cons f (cons g done)))) (l .1) (l .2) in
+    let a = cons-right (h .next) in
+    let k = in-flag f (cons g done) (cons-right a) in
     let d = in-flag g done (k .2) in
     record {
       name = x;
@@ -324,17 +286,11 @@ in-function line (cons (word x) (cons (list ps) (cons t (cons b (cons f (cons g 
       body = b;
       keeps = f;
       deffn = g;
-      inside = h .inside;
-      line-is = l .1;
-      name-is = h .name-is;
-      named = h .named;
-      counted = h .counted;
-      mid = h .mid;
-      params-there = h .there;
-      next = a .mid;
-      clause-there = a .there;
-      past = c .mid;
-      body-there = c .there;
+      head = h;
+      next = _;
+      clause-there = cons-left (h .next);
+      past = _;
+      body-there = cons-left a;
       last = omega (arith, in-done (d .2));
       flag-inside = d .0;
       keeps-set = k .1;
@@ -352,13 +308,11 @@ module _ {ws ns : List ℕ} {n at end : ℕ} (S : StmtTo ns n function ws at end
 
   -- its line, its name and its count are within the words
   pub function-inside : at + 2 < length ws
-  function-inside = found .inside
+  function-inside = found .head .inside
 
   -- as many parameters stand after them
   pub function-params : SomeParams ws (at + 3) (payOf (getD ws (at + 2) 0))
-  function-params =
-      let h = found in
-      record { params = rowsOf param (h .params); there = record { names = ns; strings = n; tree = h .params; end = h .mid; stands = h .params-there; counted = h .counted; are = refl } }
+  function-params = some-params (found .head)
 
   -- the flags are the last two words
   pub last-flags : (2 ≤ end) × (end - 1 < length ws)
@@ -367,7 +321,7 @@ module _ {ws ns : List ℕ} {n at end : ℕ} (S : StmtTo ns n function ws at end
   module _ {m : ℕ} (past-params : (ps : List Param) (T : ParamsAt ws (at + 3) (payOf (getD ws (at + 2) 0)) ps) → m ≡ T .end) where
     -- the clause stands past the parameters, of whatever FUNCTION stands there
     clause-at : {end line : ℕ} {r : Tree Expr (row (sorts function))} (h : InFunction ws ns n at end line r) → Stands ws ns n m (h .clause) (h .next)
-    clause-at h = subst (λ (x : ℕ). Stands ws ns n x (h .clause) (h .next)) (sym (params-end at past-params (h .counted) (h .params-there))) (h .clause-there)
+    clause-at h = subst (λ (x : ℕ). Stands ws ns n x (h .clause) (h .next)) (sym (past-params _ (params-at (h .head)))) (h .clause-there)
 
     -- its AS clause stands after the parameters
     pub function-clause : SomeTree (one (opt (TypeSort & nil))) ws m
@@ -376,7 +330,7 @@ module _ {ws ns : List ℕ} {n at end : ℕ} (S : StmtTo ns n function ws at end
     -- so the FUNCTION is read: its body after the clause, its two flags last
     pub function-is : {t : TypeAt} → AsTypeIs ws m t → (keeps deffn : Bool) → keeps ≡ eqb (payOf (getD ws (end - 2) 0)) 1 → deffn ≡ eqb (payOf (getD ws (end - 1) 0)) 1
         → ProcIs ns n function ws at (record { line = payOf (getD ws at 0); name = payOf (getD ws (at + 1) 0); params = at + 3; count = payOf (getD ws (at + 2) 0); head = t .head; arg = t .arg; body = t .next; past = end - 2; function = true; keeps = keeps; deffn = deffn })
-    function-is {t} T keeps deffn q d = record { shows = by; named = subst (λ (x : ℕ). eqb (getD ns x 0) 1 ≡ true) (sym (found .name-is)) (found .named) }
+    function-is {t} T keeps deffn q d = record { shows = by; named = name-marked (found .head) }
       where
         by : (line : ℕ) (r : Tree Expr (row (sorts function))) (end′ : ℕ) → Stands ws ns n at (Stmt function line r) end′
             → Shown ws function (record { line = payOf (getD ws at 0); name = payOf (getD ws (at + 1) 0); params = at + 3; count = payOf (getD ws (at + 2) 0); head = t .head; arg = t .arg; body = t .next; past = end - 2; function = true; keeps = keeps; deffn = deffn }) line r
@@ -389,8 +343,8 @@ module _ {ws ns : List ℕ} {n at end : ℕ} (S : StmtTo ns n function ws at end
               proc = record { name = h .name; params = rowsOf param (h .params); ret-ty = optional asType (h .clause); body = over see (h .body); is-function = true; is-static = isSet (h .keeps); def-fn = isSet (h .deffn) };
               is = h .is;
               of = record {
-                name = h .name-is;
-                params = record { names = ns; strings = n; tree = h .params; end = h .mid; stands = h .params-there; counted = h .counted; are = refl };
+                name = h .head .name-is;
+                params = params-at (h .head);
                 head = c .0;
                 arg = c .1;
                 body = record { names = ns; strings = n; tree = h .body; stands = ends-at (sym (c .2)) (sym e) (h .body-there); is = refl };
@@ -398,7 +352,7 @@ module _ {ws ns : List ℕ} {n at end : ℕ} (S : StmtTo ns n function ws at end
                 static = q ∙ ap (λ (x : ℕ). eqb (payOf (getD ws x 0)) 1) e ∙ h .keeps-set;
                 def-fn = d ∙ ap (λ (x : ℕ). eqb (payOf (getD ws x 0)) 1) f ∙ h .deffn-set;
               };
-              line-is = h .line-is;
+              line-is = h .head .line-is;
             }
 
 -- ---- a name's number

@@ -10,7 +10,6 @@ use Rattle.words.specs.Word.{wordOf, kindOf, payOf, pick}
 use Rattle.words.specs.Laws.{sets-append}
 use Rattle.expr.specs.Expr.{Strings, Expr, many, words, wordsAll}
 use Rattle.expr.specs.Stands.{Wrote, Stands}
-use Rattle.expr.proofs.Parts.{pay-is}
 use Rattle.expr.proofs.Nodes.{kind-of}
 use Rattle.skip.specs.Shape.{SomeExpr, children, Shaped}
 use Rattle.skip.specs.declared.Shape.{Shape}
@@ -21,7 +20,7 @@ use Rattle.resolve.specs.FromRows.{tablesOf}
 use Rattle.resolve.specs.Resolve.{resolveExpr, resolveArgs}
 use Rattle.resolver.specs.Node.{front, back, bare}
 use Rattle.resolver.specs.Post.{Some, Ready, ReadyAll, Put, Resolved, ResolvedArgs, Paired}
-use Rattle.resolver.proofs.Nodes.{node, inside, before, after, moves, in-call, in-pair}
+use Rattle.resolver.proofs.Nodes.{node, inside, before, after, moves, name-is, many-is, head-inside, in-call, in-pair}
 use Rattle.resolver.proofs.Writing.{stands-bare, call-words, pair-words, node-words}
 use Rattle.resolver.proofs.Pairs.{unpaired}
 use Rattle.resolver.proofs.Lists.{Part, Walked, part-start, part-next, part-step, part-end}
@@ -120,21 +119,20 @@ pair-done {ws} {buf} {out} {last} {count} {scope} q d = record {
 -- its arguments may be resolved, after its first three words
 pub ready-call : {ws buf : List ℕ} {count scope at to size size′ : ℕ} → Ready ws buf count scope at to size → kindOf (getD ws at 0) ≡ 21 → size′ ≡ size → ReadyAll ws buf count scope (at + 3) (to + 3) size′ (payOf (getD ws (at + 2) 0))
 ready-call r q z =
-    let C = in-call q (r .some .stands) in
+    let C = in-call q (r .some .stands) .parts in
     record {
       strings = r .some .strings;
       trees = C .args;
       end = r .some .end;
       stands = C .there;
-      counted = sym (ap payOf (C .listed) ∙ pay-is 1 (many (C .args)) (C .few));
+      counted = many-is C;
       room = record { rows = r .room .rows; holds = r .room .holds; held = r .room .held; scoped = r .room .scoped; behind = omega (arith, r .room .behind); fits = omega (arith, r .room .fits) };
     }
 
 -- for these there is room
 pub call-room : {ws buf : List ℕ} {count scope at to size : ℕ} → Ready ws buf count scope at to size → kindOf (getD ws at 0) ≡ 21 → (at + 3 ≤ length ws) × (to + 3 ≤ size)
 call-room {ws} {at = at} r q =
-    let s = in-call q (r .some .stands) .there in
-    let l : at + 3 ≤ length ws = omega (arith, s .wrote .span, s .wrote .inside) in
+    let l : at + 3 ≤ length ws = head-inside (in-call q (r .some .stands) .parts) in
     (l, omega (arith, r .room .behind, r .room .fits))
 
 -- its head by the rows, its name and list's head copied, its arguments resolved: the call is
@@ -143,17 +141,18 @@ call-done {ws} {buf} {out} {mid} {last} {count} {scope} {at} {to} {a} {t} {h} q 
   where
     go : (rows : List Row) → Holds rows count buf → (n : Strings) (e : Expr) (end : ℕ) → Stands ws n at e end → Put (words (resolveExpr (tablesOf rows) scope e)) out last to a t end
     go rows H n e end s =
-        let C = in-call q s in
+        let I = in-call q s in
+        let C = I .parts in
         let T : Tables = tablesOf rows in
         let f : ℕ = C .name in
-        let name : payOf (getD ws (at + 1) 0) ≡ f = ap payOf (C .called) ∙ pay-is 2 f (C .small) in
-        let args = d .gives rows H n (C .args) end (C .there) (sym (ap payOf (C .listed) ∙ pay-is 1 (many (C .args)) (C .few))) in
+        let name : payOf (getD ws (at + 1) 0) ≡ f = name-is C in
+        let args = d .gives rows H n (C .args) end (C .there) (many-is C) in
         let y : List ℕ = wordsAll (resolveArgs T scope (places T f) (C .args)) in
         let yy : wordsAll (resolveArgs T scope (places T (payOf (getD ws (at + 1) 0))) (C .args)) ≡ y = ap (λ (g : ℕ). wordsAll (resolveArgs T scope (places T g) (C .args))) name in
         let head : h ≡ wordOf (pick (element T scope f) 18 21) 0 = hh rows H ∙ ap (λ (g : ℕ). wordOf (pick (element T scope g) 18 21) 0) name in
         let x : List ℕ = wordOf (pick (element T scope f) 18 21) 0 ∷ wordOf 2 f ∷ wordOf 1 (many (C .args)) ∷ [] in
         let xx : mid ≡ sets out to x = b ∙ ap (λ (g : ℕ). sets out to (g ∷ getD ws (at + 1) 0 ∷ getD ws (at + 2) 0 ∷ [])) head ∙ ap₂ (λ (g l : ℕ). sets out to (wordOf (pick (element T scope f) 18 21) 0 ∷ g ∷ l ∷ [])) (C .called) (C .listed) in
-        let whole : words (resolveExpr T scope e) ≡ x ++ y = ap (λ (g : Expr). words (resolveExpr T scope g)) (C .is) ∙ call-words T scope f (C .args) in
+        let whole : words (resolveExpr T scope e) ≡ x ++ y = ap (λ (g : Expr). words (resolveExpr T scope g)) (I .is) ∙ call-words T scope f (C .args) in
         record {
           past = args .past;
           upto = rw whole (simp length-append (omega (arith, args .upto, ap length yy)));

@@ -4,10 +4,10 @@ use native.Mathlib.Omega.{arith}
 use mathlib.Core.Path.{_≡_, refl, sym, ap, subst, _∙_}
 use mathlib.Core.List.{List, [], _∷_, _++_, append-nil}
 use lib.ListN.{length, getD}
-use Rattle.words.specs.Word.{wordOf, kindOf}
+use Rattle.words.specs.Word.{wordOf, kindOf, payOf}
 use Rattle.expr.specs.Expr.{Strings, Expr, Lit, Var, Elem, Unary, Binary, Call, Field, Paren, Exprs, many, words, wordsAll, wordsL, Valid, kindE}
 use Rattle.expr.specs.Stands.{Wrote, Stands, StandsAll}
-use Rattle.expr.proofs.Parts.{wrote-first, wrote-left, wrote-right}
+use Rattle.expr.proofs.Parts.{wrote-first, wrote-left, wrote-right, pay-is}
 use Rattle.expr.proofs.Nodes.{within, kind-of}
 use Rattle.skip.specs.Shape as N
 use Rattle.skip.specs.Shape.{children, Shaped}
@@ -77,16 +77,33 @@ moves s = let w = within s in (w .moves, w .inside)
 
 -- ---- a call, and a pair
 
--- a call: its name, its list's head, and its arguments
-pub record InCall (ws : List ℕ) (n : Strings) (at : ℕ) (e : Expr) (end : ℕ) : Type 0 where
+-- what stands after the head of a call, or of a CALL: a name, the head of a list and the arguments
+pub record Called (ws : List ℕ) (n : Strings) (at end : ℕ) : Type 0 where
   pub name : ℕ
   pub args : Exprs
-  pub is : e ≡ Call name args
   pub called : getD ws (at + 1) 0 ≡ wordOf 2 name
   pub listed : getD ws (at + 2) 0 ≡ wordOf 1 (many args)
   pub small : name < 16777216
   pub few : many args < 16777216
   pub there : StandsAll ws n (at + 3) args end
+
+module _ {ws : List ℕ} {n : Strings} {at end : ℕ} (C : Called ws n at end) where
+  -- the word after the head has the name
+  pub name-is : payOf (getD ws (at + 1) 0) ≡ C .name
+  name-is = ap payOf (C .called) ∙ pay-is 2 (C .name) (C .small)
+
+  -- the word after that has the number of members
+  pub many-is : many (C .args) ≡ payOf (getD ws (at + 2) 0)
+  many-is = sym (ap payOf (C .listed) ∙ pay-is 1 (many (C .args)) (C .few))
+
+  -- these three words are inside
+  pub head-inside : at + 3 ≤ length ws
+  head-inside = let s = C .there in omega (arith, s .wrote .span, s .wrote .inside)
+
+-- a call: its name, its list's head, and its arguments
+pub record InCall (ws : List ℕ) (n : Strings) (at : ℕ) (e : Expr) (end : ℕ) : Type 0 where
+  pub parts : Called ws n at end
+  pub is : e ≡ Call (parts .name) (parts .args)
 
 -- 21: a name, a list's head, and the arguments
 pub in-call : {ws : List ℕ} {n : Strings} {at : ℕ} {e : Expr} {end : ℕ} → kindOf (getD ws at 0) ≡ 21 → Stands ws n at e end → InCall ws n at e end
@@ -105,7 +122,7 @@ in-call {ws} {n} {at} {e} {end} q s = go e (sym (kind-of s) ∙ q) (s .wrote) (s
         let h = wrote-first (g .rest) in
         let p : at + 1 + 1 ≡ at + 2 = omega arith in
         let r : at + 1 + 1 + 1 ≡ at + 3 = omega arith in
-        record { name = x; args = es; is = refl; called = g .is; listed = ap (λ (i : ℕ). getD ws i 0) (sym p) ∙ h .is; small = v .0 .fits; few = v .1; there = record { wrote = subst (λ (i : ℕ). Wrote ws i (wordsAll es) end) r (h .rest); valid = v .2 } }
+        record { parts = record { name = x; args = es; called = g .is; listed = ap (λ (i : ℕ). getD ws i 0) (sym p) ∙ h .is; small = v .0 .fits; few = v .1; there = record { wrote = subst (λ (i : ℕ). Wrote ws i (wordsAll es) end) r (h .rest); valid = v .2 } }; is = refl }
     go (Field e x) k w v = absurd (omega (arith, k))
     go (Paren e) k w v = absurd (omega (arith, k))
 

@@ -5,10 +5,10 @@ use Prim.Native.Nat.{ℕ, _+_, _*_, _≤_, _<_}
 use native.Mathlib.Omega.{arith}
 use lib.ListN.{length, take, drop}
 use lib.Seq.{take-at, drop-at}
+use Rattle.words.specs.Each.{Each}
 use Rattle.table.specs.Rows.{Row, width, Table, Holds, insertAll, remove}
 use Rattle.table.specs.Answers.{Removed}
 use Rattle.table.specs.Buffers.{removed-holds}
-use Rattle.table.specs.Each.{Each}
 use Rattle.table.specs.Images.{holds-fits}
 use Rattle.runs.specs.Runs.{rowOf, firstRun, Runs, Keeps, TakenOut}
 use Rattle.runs.specs.Places.{rows-filled, each-of, each-all}

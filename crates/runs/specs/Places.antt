@@ -7,8 +7,9 @@ use native.Mathlib.Nat.{le-of-suc-le-suc, not-suc-le-zero}
 use lib.ListN.{length, take, drop, getD}
 use lib.Seq.{getD-take, getD-drop, take-at, drop-at, drop-drop}
 use Rattle.words.specs.Word.{flatten}
+use Rattle.words.specs.Each.{Each}
 use Rattle.table.specs.Rows.{Row, width, insert, insertAll, Wide, Filled, rowsOf, zeros}
-use Rattle.table.specs.Each.{Each, each-insert}
+use Rattle.table.specs.Each.{each-insert}
 use Rattle.table.specs.Images.{holds-words}
 use Rattle.runs.specs.Runs.{rowOf}
 

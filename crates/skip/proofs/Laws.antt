@@ -11,7 +11,7 @@ use Rattle.words.specs.Word.{wordOf, pick, kindOf, payOf}
 use Rattle.expr.specs.Expr.{Strings, Literal, Integer, Long, Single, Float, Text, Expr, Exprs, Lit, Var, Elem, Unary, Binary, Call, Field, Paren, none, more, many, words, wordsAll, wordsL, Valid, Valids, kindE, kindL}
 use Rattle.expr.specs.Stands.{Wrote, Stands, StandsAll}
 use Rattle.expr.proofs.Laws.{got-17}
-use Rattle.expr.proofs.Parts.{wrote-none, wrote-cat, wrote-first, wrote-left, wrote-right}
+use Rattle.expr.proofs.Parts.{wrote-none, wrote-at, wrote-cat, wrote-first, wrote-left, wrote-right}
 use Rattle.expr.proofs.Nodes.{node, within, kind-of, in-lit, in-elem, in-unary, in-binary, in-field}
 use Rattle.skip.specs.Shape.{SomeExpr, literalWords, front, children, back, Shaped}
 use Rattle.skip.specs.declared.Shape.{Shape}
@@ -64,9 +64,6 @@ pub record Inside (ws : List ℕ) (n : Strings) (at : ℕ) (e : Expr) (end : ℕ
   pub to : mid + back e ≡ end
 
 module _ (ws : List ℕ) (n : Strings) where
-  from : {at at′ : ℕ} {xs : List ℕ} {end : ℕ} → at ≡ at′ → Wrote ws at xs end → Wrote ws at′ xs end
-  from p w = rw p at w
-
   -- no children: the words before them are all
   alone : (at long end : ℕ) → at + long ≡ end → end ≤ length ws → StandsAll ws n (at + long) none end
   unfolding wordsAll Valids
@@ -86,17 +83,17 @@ module _ (ws : List ℕ) (n : Strings) where
       record { mid = end; items = alone at 2 end p (w .inside); to = omega arith }
   inside-of (Elem x es) at end w v =
       let r = wrote-first (wrote-first (wrote-first w .rest) .rest) .rest in
-      record { mid = end; items = record { wrote = from (omega arith) r; valid = v .2 }; to = omega arith }
+      record { mid = end; items = record { wrote = wrote-at (omega arith) r; valid = v .2 }; to = omega arith }
   inside-of (Unary o e) at end w v =
       let r = wrote-first (wrote-first w .rest) .rest in
-      record { mid = end; items = one-child e (from (omega arith) r) (v .1); to = omega arith }
+      record { mid = end; items = one-child e (wrote-at (omega arith) r) (v .1); to = omega arith }
   inside-of (Binary o l r) at end w v =
       let t = wrote-first (wrote-first w .rest) .rest in
       let b = wrote-right (words l) t in
-      record { mid = end; items = record { wrote = from (omega arith) (wrote-cat (wrote-left (words l) (words r) t) (wrote-cat b (wrote-none ws end (w .inside)))); valid = (v .1, (v .2, tt)) }; to = omega arith }
+      record { mid = end; items = record { wrote = wrote-at (omega arith) (wrote-cat (wrote-left (words l) (words r) t) (wrote-cat b (wrote-none ws end (w .inside)))); valid = (v .1, (v .2, tt)) }; to = omega arith }
   inside-of (Call x es) at end w v =
       let r = wrote-first (wrote-first (wrote-first w .rest) .rest) .rest in
-      record { mid = end; items = record { wrote = from (omega arith) r; valid = v .2 }; to = omega arith }
+      record { mid = end; items = record { wrote = wrote-at (omega arith) r; valid = v .2 }; to = omega arith }
   inside-of (Field e x) at end w v =
       let r = wrote-first w .rest in
       let a = wrote-left (words e) (wordOf 2 x ∷ []) r in

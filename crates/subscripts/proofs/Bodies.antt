@@ -11,13 +11,13 @@ use Rattle.expr.specs.Expr.{Expr}
 use Rattle.tree.specs.Sorts.{Sorts, stmt, nil, _&_, body}
 use Rattle.tree.specs.Tree.{one, row, rows, Tree, done, cons, none, more, count}
 use Rattle.tree.specs.Stands.{Stands, SomeTree}
-use Rattle.tree.proofs.Nodes.{in-list}
+use Rattle.tree.proofs.Nodes.{cons-last, in-list}
 use Rattle.subscripts.specs.Subscripts.{orElse, subscriptCount}
 use Rattle.subscripts.specs.Code.{useOf, SeeksStmt}
 use Rattle.subscripts.specs.declared.Use.{Use}
 use Rattle.subscripts.specs.declared.Sought.{Sought}
 use Rattle.subscripts.proofs.Expressions.{orElse-none}
-use Rattle.subscripts.proofs.Lists.{cons-last, foldRows, ListRead, list-start, list-next, list-step, list-done, list-found}
+use Rattle.subscripts.proofs.Lists.{foldRows, ListRead, list-start, list-next, list-step, list-done, list-found}
 use Rattle.subscripts.proofs.Statements.{usedIn}
 
 -- ---- whether a use is found

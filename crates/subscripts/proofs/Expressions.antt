@@ -29,6 +29,11 @@ pub unused : useOf (record { found = false; count = 0 }) ≡ nothing
 unfolding useOf
 unused = refl
 
+-- where both answers are none, so is the answer
+pub pick-none : (b : Bool) → pick {A = Option ℕ} b nothing nothing ≡ nothing
+pick-none true = refl
+pick-none false = refl
+
 -- a use of a name, where it is the one that is looked for
 pub named-yes : (f name n : ℕ) → f ≡ name → useOf (record { found = true; count = n }) ≡ pick (eqb f name) (some n) nothing
 unfolding useOf

@@ -9,12 +9,12 @@ use Rattle.words.specs.Word.{wordOf, kindOf, payOf}
 use Rattle.expr.specs.Expr.{Expr, Lit, Var, Elem, Unary, Binary, Call, Field, Paren, kindE}
 use Rattle.expr.specs.Stands.{Wrote}
 use Rattle.expr.specs.Stands as W
-use Rattle.expr.proofs.Parts.{wrote-first, wrote-left, wrote-right, kind-is}
+use Rattle.expr.proofs.Parts.{wrote-first, kind-is}
 use Rattle.expr.proofs.Nodes.{kind-of, within}
-use Rattle.tree.specs.Sorts.{Sort, Sorts, expr, nil, _&_, opt, many, PrintItem}
+use Rattle.tree.specs.Sorts.{Sorts, expr, nil, _&_, opt, many, PrintItem}
 use Rattle.tree.specs.Tree.{strings, Shape, one, row, rows, Tree, word, value, list, part, this, that, done, cons, none, more, count, wordsT, Right}
 use Rattle.tree.specs.Stands.{Stands, SomeTree}
-use Rattle.tree.proofs.Nodes.{InList, in-list, in-more}
+use Rattle.tree.proofs.Nodes.{cons-last, value-there, InList, in-list, in-more}
 use Rattle.skip.specs.Shape.{SomeExpr}
 use Rattle.views.specs.Uses.{own}
 use Rattle.subscripts.specs.Subscripts.{orElse, firstOf, inExpr}
@@ -25,35 +25,9 @@ use Rattle.subscripts.proofs.Expressions.{orElse-assoc, orElse-none, fi
 
 -- ---- the parts of a row
 
-module _ {ws ns : List ℕ} {n : ℕ} where
-  -- the first field stands where the row stands
-  pub cons-left : {s : Sort} {ss : Sorts} {v : Tree Expr (one s)} {t : Tree Expr (row ss)} {a end : ℕ} → Stands ws ns n a (cons v t) end → Stands ws ns n a v (a + length (wordsT v))
-  unfolding wordsT Right
-  cons-left {v = v} {t} h = record { wrote = wrote-left (wordsT v) (wordsT t) (h .wrote); valid = h .valid .0 }
-
-  -- the other fields stand after its words
-  pub cons-right : {s : Sort} {ss : Sorts} {v : Tree Expr (one s)} {t : Tree Expr (row ss)} {a end : ℕ} → Stands ws ns n a (cons v t) end → Stands ws ns n (a + length (wordsT v)) t end
-  unfolding wordsT Right
-  cons-right {v = v} h = record { wrote = wrote-right (wordsT v) (h .wrote); valid = h .valid .1 }
-
-  -- a row of one field is this field
-  pub cons-last : {s : Sort} {v : Tree Expr (one s)} {a end : ℕ} → Stands ws ns n a (cons v done) end → Stands ws ns n a v end
-  unfolding wordsT Right
-  cons-last {v = v} h = let w = h .wrote in record { wrote = rw (append-nil (wordsT v)) at w; valid = h .valid .0 }
-
-  -- a group is its row
-  pub part-row : {ss : Sorts} {r : Tree Expr (row ss)} {a end : ℕ} → Stands ws ns n a (part r) end → Stands ws ns n a r end
-  unfolding wordsT Right
-  part-row h = record { wrote = h .wrote; valid = h .valid }
-
-  -- the same place under another name
-  pub moved : {i : Shape} {v : Tree Expr i} {a a′ end : ℕ} → a ≡ a′ → Stands ws ns n a v end → Stands ws ns n a′ v end
-  moved q h = rw q at h
-
-  -- an expression in a statement, as an expression
-  pub value-there : {e : Expr} {a end : ℕ} → Stands ws ns n a (value e) end → W.Stands ws (strings ns n) a e end
-  unfolding wordsT Right
-  value-there h = record { wrote = h .wrote; valid = h .valid }
+-- the same tree, its place told otherwise
+pub moved : {ws ns : List ℕ} {n : ℕ} {i : Shape} {v : Tree Expr i} {a a′ end : ℕ} → a ≡ a′ → Stands ws ns n a v end → Stands ws ns n a′ v end
+moved q h = rw q at h
 
 -- a row of one expression
 own-one : (name : ℕ) (e : Expr) → firstOf (inExpr name) (own (cons (value e) done)) ≡ inExpr name e

@@ -2,7 +2,7 @@
 use Prim.Native.Nat.{ℕ, _+_, _<_, _≤_}
 use native.Mathlib.Omega.{arith}
 use mathlib.Core.Path.{_≡_, refl, sym, ap, ap₂, subst, _∙_}
-use mathlib.Core.Bool.{Bool, true, false, _&&_, false≢true}
+use mathlib.Core.Bool.{Bool, true, false, not, _&&_, false≢true}
 use mathlib.Mathlib.Data.Bool.Basic.{and-elim-left, and-elim-right}
 use mathlib.Core.List.{List, [], _∷_, _++_}
 use mathlib.Core.Option.{Option, none as nothing, some}
@@ -10,24 +10,28 @@ use lib.Dec.{eqb, ltb}
 use lib.ListN.{length, getD}
 use borrow.Author.Tests.{le-leb, lt-leb, ne-eqb, eqb-true, eqb-false, ltb-true, ltb-false}
 use Rattle.words.specs.Word.{kindOf, payOf}
+use Rattle.words.specs.Each.{tuple}
 use Rattle.expr.specs.Expr.{Expr}
 use Rattle.expr.specs.Stands as W
 use Rattle.expr.proofs.Parts.{wrote-first, pay-is}
 use Rattle.expr.proofs.Steps.{past}
-use Rattle.tree.specs.Sorts.{Sort, leaf, expr, stmt, many, group, either, never, Sorts, nil, _&_, opt, exprs, quoted, PrintItem, LValue as LValueRow, Kind, sorts, numberOf, kindAt, kinds, label, labelName, let′, print, input, lineInput, if, for, while, doLoop, goto, gosub, return, onGoto, onGosub, dim, declare, shared, static, redim, sub, function, call, midAssign, swap, const, exitLoop, exitProc, optionBase, typeDef, fieldAssign, data′, read, defType, beep, erase, raiseError, onError, resume, locate, color, randomize, restore, cls, selectCase, end′, stop, open′, close, width, field′, setField, getPut, lock}
+use Rattle.tree.specs.Sorts.{Sort, leaf, expr, stmt, many, group, either, never, Sorts, nil, _&_, opt, exprs, quoted, PrintItem, LValue as LValueRow, Kind, sorts, numberOf, kindAt, kinds, let′, print, input, lineInput, swap, read}
+use Rattle.tree.specs.KindLaws.{noneOf, same-kinds}
 use Rattle.tree.specs.Tree.{strings, Shape, one, row, rows, Tree, word, value, Stmt, list, part, this, that, done, cons, none, more, wordsT, Right}
 use Rattle.tree.specs.Stands.{Stands, SomeTree}
+use Rattle.tree.proofs.Nodes.{cons-left, cons-right, cons-last, part-row, value-there}
 use Rattle.skip.specs.Shape.{SomeExpr}
 use Rattle.plans.proofs.Walk.{head-kind, of-number, fields}
 use Rattle.views.specs.View.{LValue, lvalue, optional, expressions, items}
 use Rattle.views.specs.Uses.{own, plain, uses}
+use Rattle.views.specs.KindLaws.{targetKinds, uses-plain}
 use Rattle.subscripts.specs.Subscripts.{orElse, firstOf, inExpr, inLvalue, inStmt, subscriptCount}
 use Rattle.subscripts.specs.Code.{useOf, SeeksExpr, SeeksOwn, IndexedAt, SeeksIndexed, SeeksTarget, SeeksTargets, KindAt, SeeksStmt, targeted}
 use Rattle.subscripts.specs.declared.Use.{Use}
 use Rattle.subscripts.specs.declared.Sought.{Sought}
 use Rattle.subscripts.specs.declared.Target.{Target}
 use Rattle.subscripts.proofs.Expressions.{orElse-none, firstOf-append}
-use Rattle.subscripts.proofs.Lists.{cons-left, cons-right, cons-last, part-row, moved, value-there}
+use Rattle.subscripts.proofs.Lists.{moved}
 
 -- the use of a name in an expression
 abbrev pub usedIn : ℕ → Expr → Option ℕ
@@ -443,58 +447,5 @@ read-kind k t a b c d e = go (eqb k 96) refl
 
 -- they have no such targets, and their expressions stand in the words' order
 pub plain-uses : (k : Kind) (r : Tree Expr (row (sorts k))) → targeted (64 + numberOf k) ≡ false → uses k r ≡ plain r
-unfolding targeted numberOf uses
-plain-uses label r z = refl
-plain-uses labelName r z = refl
-plain-uses let′ r z = absurd (false≢true (sym z))
-plain-uses print r z = absurd (false≢true (sym z))
-plain-uses input r z = absurd (false≢true (sym z))
-plain-uses lineInput r z = absurd (false≢true (sym z))
-plain-uses if r z = refl
-plain-uses for r z = refl
-plain-uses while r z = refl
-plain-uses doLoop r z = refl
-plain-uses goto r z = refl
-plain-uses gosub r z = refl
-plain-uses return r z = refl
-plain-uses onGoto r z = refl
-plain-uses onGosub r z = refl
-plain-uses dim r z = refl
-plain-uses declare r z = refl
-plain-uses shared r z = refl
-plain-uses static r z = refl
-plain-uses redim r z = refl
-plain-uses sub r z = refl
-plain-uses function r z = refl
-plain-uses call r z = refl
-plain-uses midAssign r z = refl
-plain-uses swap r z = absurd (false≢true (sym z))
-plain-uses const r z = refl
-plain-uses exitLoop r z = refl
-plain-uses exitProc r z = refl
-plain-uses optionBase r z = refl
-plain-uses typeDef r z = refl
-plain-uses fieldAssign r z = refl
-plain-uses data′ r z = refl
-plain-uses read r z = absurd (false≢true (sym z))
-plain-uses defType r z = refl
-plain-uses beep r z = refl
-plain-uses erase r z = refl
-plain-uses raiseError r z = refl
-plain-uses onError r z = refl
-plain-uses resume r z = refl
-plain-uses locate r z = refl
-plain-uses color r z = refl
-plain-uses randomize r z = refl
-plain-uses restore r z = refl
-plain-uses cls r z = refl
-plain-uses selectCase r z = refl
-plain-uses end′ r z = refl
-plain-uses stop r z = refl
-plain-uses open′ r z = refl
-plain-uses close r z = refl
-plain-uses width r z = refl
-plain-uses field′ r z = refl
-plain-uses setField r z = refl
-plain-uses getPut r z = refl
-plain-uses lock r z = refl
+unfolding tuple kinds noneOf targetKinds targeted numberOf
+plain-uses k r z = uses-plain k (same-kinds (λ k. Bool) (noneOf targetKinds) (λ k. not (targeted (64 + numberOf k))) refl k ∙ ap not z) r

@@ -2,7 +2,6 @@
 use Prim.Native.Nat.{ℕ, _+_, _<_, _≤_}
 use native.Mathlib.Omega.{arith}
 use mathlib.Core.Path.{_≡_, refl, sym, ap, _∙_}
-use mathlib.Core.Bool.{Bool, true, false}
 use mathlib.Core.List.{List, [], _++_, append-nil}
 use mathlib.Core.Option.{Option, none as nothing, some}
 use lib.Dec.{eqb}
@@ -14,7 +13,7 @@ use Rattle.expr.proofs.Parts.{wrote-first, pay-is}
 use Rattle.tree.specs.Sorts.{expr, nil, _&_, opt, exprs, named, many as manySort, LValue as LValueRow}
 use Rattle.tree.specs.Tree.{strings, one, row, rows, Tree, word, value, list, part, this, that, done, cons, none, more, count, wordsT, Right}
 use Rattle.tree.specs.Stands.{Stands, SomeTree}
-use Rattle.tree.proofs.Nodes.{InList, in-list}
+use Rattle.tree.proofs.Nodes.{cons-left, cons-right, cons-last, InList, in-list}
 use Rattle.plans.proofs.Members.{members, many-members, members-there}
 use Rattle.views.specs.View.{lvalue, optional, expressions, expression, items, rowsOf}
 use Rattle.views.specs.Uses.{own}
@@ -23,7 +22,8 @@ use Rattle.subscripts.specs.Code.{useOf, SomeExprs, SeeksExprs, IndexedA
 use Rattle.subscripts.specs.declared.Use.{Use}
 use Rattle.subscripts.specs.declared.Sought.{Sought}
 use Rattle.subscripts.specs.declared.Target.{Target}
-use Rattle.subscripts.proofs.Lists.{cons-left, cons-right, cons-last, moved, foldRows, ownOf, own-rows, ListRead, list-start, list-next, list-step, list-done}
+use Rattle.subscripts.proofs.Expressions.{pick-none}
+use Rattle.subscripts.proofs.Lists.{moved, foldRows, ownOf, own-rows, ListRead, list-start, list-next, list-step, list-done}
 
 -- ---- a list of expressions in a row
 
@@ -81,12 +81,8 @@ module _ {ws : List ℕ} {at : ℕ} where
   unfolding wordsT own firstOf inLvalue indexed optional
   indexed-absent {name} {u} {w} z p q = record { gives = λ ns n is end s. go ns n is end s }
     where
-      unused : (b : Bool) → nothing ≡ pick {A = Option ℕ} b nothing nothing
-      unused true = refl
-      unused false = refl
-
       go : (ns : List ℕ) (n : ℕ) (is : Tree Expr (one (opt (exprs & nil)))) (end : ℕ) → Stands ws ns n (at + 1) is end → (useOf u ≡ inLvalue name (record { name = payOf (getD ws at 0); indices = optional expressions is })) × (useOf w ≡ firstOf (inExpr name) (own is)) × (at + 2 ≡ end)
-      go ns n (this done) end s = (p ∙ unused (eqb (payOf (getD ws at 0)) name), q, omega (arith, s .wrote .span))
+      go ns n (this done) end s = (p ∙ sym (pick-none (eqb (payOf (getD ws at 0)) name)), q, omega (arith, s .wrote .span))
       go ns n (that (part (cons (list rs) done))) end s = let f = wrote-first (s .wrote) in absurd (omega (arith, f .is, z))
 
   -- the target's own count, and what the indices have

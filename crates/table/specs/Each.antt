@@ -1,4 +1,4 @@
--- A fact of each of a list. Of each row it stays when rows go in and out, and it is so of the row that a key finds. Assumes nothing.
+-- A fact of each of a list is so at every place. Of each row it stays when rows go in and out, and it is so of the row that a key finds. Assumes nothing.
 use Prim.Native.Nat.{ℕ, zero, suc, _≤_, _<_}
 use mathlib.Core.Path.{_≡_, refl, sym, ap, _∙_, subst}
 use mathlib.Core.Bool.{Bool, true, false}
@@ -11,13 +11,9 @@ use lib.Dec.{eqb}
 use lib.ListN.{length, getD}
 use borrow.Author.Tests.{eqb-true}
 use Rattle.words.specs.Word.{pick}
+use Rattle.words.specs.Each.{Each}
 use Rattle.table.specs.Rows.{Row, key, find, insert, remove, Wide}
 use Rattle.table.specs.Laws.{order₃, zone, insert-lt, insert-eq, insert-gt, remove-low, remove-in, remove-high}
-
--- P holds of each element
-unfoldable pub Each : {A : Type 0} → (A → Type 0) → List A → Type 0
-Each P [] = Unit {0}
-Each P (x ∷ xs) = P x × Each P xs
 
 -- it holds of the element at a place within the list
 pub each-at : {A : Type 0} (P : A → Type 0) (d : A) (xs : List A) → Each P xs → (i : ℕ) → i < length xs → P (getD xs i d)

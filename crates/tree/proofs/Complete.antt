@@ -12,6 +12,7 @@ use lib.Dec.{ltb, leb, eqb, lit≤, lit<}
 use borrow.Author.Tests.{lt-ltb, le-leb, eq-eqb, ne-eqb, eqb-true, ltb-true}
 use Rattle.expr.specs.Expr.{Expr, Lit, Var, Elem, Unary, Binary, Call, Field, Paren, words, depth, Valid, kindE}
 use Rattle.words.specs.Word.{wordOf, pick, kindOf, payOf}
+use Rattle.words.specs.Each.{tuple}
 use Rattle.expr.specs.Got.{Got, got, wrong, deep, bind}
 use Rattle.expr.specs.Reader.{leafAt, exprAt}
 use Rattle.expr.specs.Stands.{Wrote, Stands}
@@ -19,7 +20,8 @@ use Rattle.expr.proofs.Laws.{pick-true}
 use Rattle.expr.proofs.Parts.{First, wrote-first, wrote-left, wrote-right, kind-is, pay-is, wrote-none, ends}
 use Rattle.expr.proofs.Complete.{complete, put-leaf}
 use Rattle.expr.proofs.Nodes.{kind-of}
-use Rattle.tree.specs.Sorts.{Leaf, Sort, leaf, expr, stmt, many, group, either, never, Sorts, nil, _&_, Kind, sorts, kinds, kindAt, numberOf, label, labelName, let′, print, input, lineInput, if, for, while, doLoop, goto, gosub, return, onGoto, onGosub, dim, declare, shared, static, redim, sub, function, call, midAssign, swap, const, exitLoop, exitProc, optionBase, typeDef, fieldAssign, data′, read, defType, beep, erase, raiseError, onError, resume, locate, color, randomize, restore, cls, selectCase, end′, stop, open′, close, width, field′, setField, getPut, lock}
+use Rattle.tree.specs.Sorts.{Leaf, Sort, leaf, expr, stmt, many, group, either, never, Sorts, nil, _&_, Kind, sorts, kinds, kindAt, numberOf}
+use Rattle.tree.specs.KindLaws.{kind-number, same-kinds, number-small}
 use Rattle.tree.specs.Tree.{strings, Shape, one, row, rows, Tree, word, value, Stmt, list, part, this, that, done, cons, none, more, count, kindL, okL, between, wordsT, depthT, Right}
 use Rattle.tree.specs.Reader.{wordAt, neverAt, isAt, stmtHead, rowsAt, fieldAt, rowAt, restAt, stmtAt, programAt}
 use Rattle.tree.proofs.Sound.{is-got}
@@ -76,177 +78,8 @@ is-false false f = refl
 
 -- every statement kind is clear
 pub clear-kind : (k : Kind) → clearR (sorts k) ≡ true
-unfolding sorts clear clearR may mayR
-clear-kind label = refl
-clear-kind labelName = refl
-clear-kind let′ = refl
-clear-kind print = refl
-clear-kind input = refl
-clear-kind lineInput = refl
-clear-kind if = refl
-clear-kind for = refl
-clear-kind while = refl
-clear-kind doLoop = refl
-clear-kind goto = refl
-clear-kind gosub = refl
-clear-kind return = refl
-clear-kind onGoto = refl
-clear-kind onGosub = refl
-clear-kind dim = refl
-clear-kind declare = refl
-clear-kind shared = refl
-clear-kind static = refl
-clear-kind redim = refl
-clear-kind sub = refl
-clear-kind function = refl
-clear-kind call = refl
-clear-kind midAssign = refl
-clear-kind swap = refl
-clear-kind const = refl
-clear-kind exitLoop = refl
-clear-kind exitProc = refl
-clear-kind optionBase = refl
-clear-kind typeDef = refl
-clear-kind fieldAssign = refl
-clear-kind data′ = refl
-clear-kind read = refl
-clear-kind defType = refl
-clear-kind beep = refl
-clear-kind erase = refl
-clear-kind raiseError = refl
-clear-kind onError = refl
-clear-kind resume = refl
-clear-kind locate = refl
-clear-kind color = refl
-clear-kind randomize = refl
-clear-kind restore = refl
-clear-kind cls = refl
-clear-kind selectCase = refl
-clear-kind end′ = refl
-clear-kind stop = refl
-clear-kind open′ = refl
-clear-kind close = refl
-clear-kind width = refl
-clear-kind field′ = refl
-clear-kind setField = refl
-clear-kind getPut = refl
-clear-kind lock = refl
-
--- every statement's head is a statement's kind
-pub number-small : (k : Kind) → numberOf k < 54
-unfolding numberOf
-number-small label = lit< tt
-number-small labelName = lit< tt
-number-small let′ = lit< tt
-number-small print = lit< tt
-number-small input = lit< tt
-number-small lineInput = lit< tt
-number-small if = lit< tt
-number-small for = lit< tt
-number-small while = lit< tt
-number-small doLoop = lit< tt
-number-small goto = lit< tt
-number-small gosub = lit< tt
-number-small return = lit< tt
-number-small onGoto = lit< tt
-number-small onGosub = lit< tt
-number-small dim = lit< tt
-number-small declare = lit< tt
-number-small shared = lit< tt
-number-small static = lit< tt
-number-small redim = lit< tt
-number-small sub = lit< tt
-number-small function = lit< tt
-number-small call = lit< tt
-number-small midAssign = lit< tt
-number-small swap = lit< tt
-number-small const = lit< tt
-number-small exitLoop = lit< tt
-number-small exitProc = lit< tt
-number-small optionBase = lit< tt
-number-small typeDef = lit< tt
-number-small fieldAssign = lit< tt
-number-small data′ = lit< tt
-number-small read = lit< tt
-number-small defType = lit< tt
-number-small beep = lit< tt
-number-small erase = lit< tt
-number-small raiseError = lit< tt
-number-small onError = lit< tt
-number-small resume = lit< tt
-number-small locate = lit< tt
-number-small color = lit< tt
-number-small randomize = lit< tt
-number-small restore = lit< tt
-number-small cls = lit< tt
-number-small selectCase = lit< tt
-number-small end′ = lit< tt
-number-small stop = lit< tt
-number-small open′ = lit< tt
-number-small close = lit< tt
-number-small width = lit< tt
-number-small field′ = lit< tt
-number-small setField = lit< tt
-number-small getPut = lit< tt
-number-small lock = lit< tt
-
--- the kind at a kind's number is that kind
-pub kind-number : (k : Kind) → kindAt (numberOf k) ≡ k
-unfolding numberOf kindAt kinds
-kind-number label = refl
-kind-number labelName = refl
-kind-number let′ = refl
-kind-number print = refl
-kind-number input = refl
-kind-number lineInput = refl
-kind-number if = refl
-kind-number for = refl
-kind-number while = refl
-kind-number doLoop = refl
-kind-number goto = refl
-kind-number gosub = refl
-kind-number return = refl
-kind-number onGoto = refl
-kind-number onGosub = refl
-kind-number dim = refl
-kind-number declare = refl
-kind-number shared = refl
-kind-number static = refl
-kind-number redim = refl
-kind-number sub = refl
-kind-number function = refl
-kind-number call = refl
-kind-number midAssign = refl
-kind-number swap = refl
-kind-number const = refl
-kind-number exitLoop = refl
-kind-number exitProc = refl
-kind-number optionBase = refl
-kind-number typeDef = refl
-kind-number fieldAssign = refl
-kind-number data′ = refl
-kind-number read = refl
-kind-number defType = refl
-kind-number beep = refl
-kind-number erase = refl
-kind-number raiseError = refl
-kind-number onError = refl
-kind-number resume = refl
-kind-number locate = refl
-kind-number color = refl
-kind-number randomize = refl
-kind-number restore = refl
-kind-number cls = refl
-kind-number selectCase = refl
-kind-number end′ = refl
-kind-number stop = refl
-kind-number open′ = refl
-kind-number close = refl
-kind-number width = refl
-kind-number field′ = refl
-kind-number setField = refl
-kind-number getPut = refl
-kind-number lock = refl
+unfolding tuple kinds sorts clear clearR may mayR
+clear-kind = same-kinds (λ k. Bool) (λ k. clearR (sorts k)) (λ k. true) refl
 
 between-is : (a b x : ℕ) → a ≤ x → x < b → between a b x ≡ true
 between-is a b x h k = simp (le-leb a x h, lt-ltb x b k)

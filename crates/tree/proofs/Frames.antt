@@ -21,7 +21,7 @@ use Rattle.tree.specs.Reader.{wordAt, rowsAt, fieldAt, rowAt, stmtAt, pr
 use Rattle.tree.specs.Frames.{Past, Into, Refused, TooDeep, toldOf, restOf, againOf, fieldStep, frameAt, Goes, past, into, refused, deep as low, Turned, goes, same}
 use Rattle.tree.specs.declared.Frame.{Frame}
 use Rattle.tree.specs.declared.Turn.{Turn}
-use Rattle.tree.proofs.Steps.{then-read, is-1, is-9, is-10, row-none, row-more, row-one, rows-none, rows-more, expr-arm, leaf-arm, stmt-arm, many-go}
+use Rattle.tree.proofs.Steps.{then-read, is-own, row-none, row-more, row-one, rows-none, rows-more, expr-arm, leaf-arm, stmt-arm, many-go}
 
 -- ---- fields in one number
 
@@ -137,11 +137,11 @@ module _ (ws ns : List ℕ) (n : ℕ) where
 
   -- the number 9 is an expression, 1 a name
   field-9 : (left at : ℕ) → fieldStep ws ns n left (sortAt 9) at ≡ stepOf (exprAt ws (strings ns n) left at)
-  field-9 left at = ap (λ (s : Sort). fieldStep ws ns n left s at) (is-9 refl) ∙ sym (expr-arm ws ns n _ _ at refl)
+  field-9 left at = ap (λ (s : Sort). fieldStep ws ns n left s at) (is-own 9 refl refl) ∙ sym (expr-arm ws ns n _ _ at refl)
 
   field-1 : (left at : ℕ) → fieldStep ws ns n left (sortAt 1) at ≡ stepOf (nameAt ws ns at)
   unfolding wordAt nameAt
-  field-1 left at = sym (leaf-arm ws ns n _ _ 1 _ at (is-1 refl) refl)
+  field-1 left at = sym (leaf-arm ws ns n _ _ 1 _ at (is-own 1 refl refl) refl)
 
   -- the field 9 is an expression
   pub frame-9 : (left at : ℕ) → frameAt ws ns n (record { fields = 9; row = 0; times = 0; left = left }) at ≡ stepOf (exprAt ws (strings ns n) left at)
@@ -265,7 +265,7 @@ one-field ws ns n k left at a b e q = e ∙ ap (λ (x : Frame). frameAt ws ns n 
 pub stmt-is : (ws ns : List ℕ) (n left at : ℕ) {f : Frame} {s : Step} → s ≡ frameAt ws ns n f at → f ≡ record { fields = 10; row = 0; times = 0; left = left } → s ≡ stepOf (stmtAt ws ns n left at)
 stmt-is ws ns n left at e q =
     one-field ws ns n 10 left at (omega arith) (omega arith) e q
-    ∙ ap (λ (x : Sort). fieldStep ws ns n left x at) (is-10 refl)
+    ∙ ap (λ (x : Sort). fieldStep ws ns n left x at) (is-own 10 refl refl)
     ∙ sym (stmt-arm ws ns n _ _ at refl)
 
 -- a body is the list of the rows number 4

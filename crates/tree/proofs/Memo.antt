@@ -21,7 +21,7 @@ use Rattle.tree.specs.Frames.{failedOf, toldOf, fieldStep, frameAt, Turn
 use Rattle.tree.specs.declared.Frame.{Frame}
 use Rattle.tree.specs.declared.Turn.{Turn}
 use Rattle.tree.specs.Memo.{Remembers, EndsAt, Recalled, Remembered, Noted, Keeps, Past}
-use Rattle.tree.proofs.Steps.{is-10, stmt-arm}
+use Rattle.tree.proofs.Steps.{is-own, stmt-arm}
 use Rattle.tree.proofs.Sound.{stmt-sound}
 use Rattle.tree.proofs.Machine.{past-is, into-is, failed-is, told-past, told-failed, copied}
 use Rattle.tree.proofs.Complete.{clear, completes, one-tree}
@@ -86,7 +86,7 @@ noted-one q m = record { gives = λ ws ns n R E. m .gives ws ns n R (E q) }
 pub field-ends : (ws ns : List ℕ) (n left at sort : ℕ) {c : Cursor} → fieldStep ws ns n left (sortAt sort) at ≡ Read c → sort ≡ 10 → EndsAt ws ns n at (c .at)
 unfolding EndsAt clear
 field-ends ws ns n left at sort {c} e q v end S =
-    let f : Read c ≡ stepOf (stmtAt ws ns n left at) = sym e ∙ ap (λ (x : Sort). fieldStep ws ns n left x at) (is-10 q) ∙ sym (stmt-arm ws ns n _ _ at refl) in
+    let f : Read c ≡ stepOf (stmtAt ws ns n left at) = sym e ∙ ap (λ (x : Sort). fieldStep ws ns n left x at) (is-own 10 q refl) ∙ sym (stmt-arm ws ns n _ _ at refl) in
     let g = read (stmtAt ws ns n left at) f refl in
     let F = stmt-sound ws ns n left at (g .0) (c .at) (g .1) in
     one-tree ws ns n v (g .0) at end (c .at) refl (S .valid) (F .valid) (S .wrote) (F .wrote) .1

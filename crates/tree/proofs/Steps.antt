@@ -14,7 +14,7 @@ use borrow.Author.Tests.{lt-ltb, le-ltb, le-leb, lt-leb, eq-eqb, ne-eqb, ltb-tru
 use Rattle.expr.specs.Expr.{Expr}
 use Rattle.words.specs.Word.{wordOf, pick, kindOf, payOf}
 use Rattle.expr.specs.Got.{Got, got, wrong, deep, bind}
-use Rattle.expr.specs.Reader.{leafAt, exprAt}
+use Rattle.expr.specs.Reader.{leafAt, nameAt, exprAt}
 use Rattle.expr.specs.Answer.{stepOf, then}
 use Rattle.expr.specs.declared.Cursor.{Cursor}
 use Rattle.expr.specs.declared.Step.{Step}
@@ -165,85 +165,23 @@ size-step r i k e z = ap sizeR (decode-go (codes r) i (λ y. z (e ∙ y)) ∙ ap
 
 -- ---- fields
 
--- the sort of number 0 has no values
-pub is-0 : {k : ℕ} → k ≡ 0 → sortAt k ≡ never
-unfolding sortAt singles
-is-0 e = ap sortAt e
+-- a name as expressions read it
+pub name-word : (ws ns : List ℕ) (at : ℕ) {r : Step} → r ≡ stepOf (nameAt ws ns at) → r ≡ stepOf (wordAt ws 2 (λ (x : ℕ). eqb (getD ns x 0) 1) at)
+unfolding nameAt wordAt
+name-word ws ns at e = e
 
--- 1 is a name
-pub is-1 : {k : ℕ} → k ≡ 1 → sortAt k ≡ named
-unfolding sortAt singles
-is-1 e = ap sortAt e
+-- the sorts that have a number of their own; a choice of variants but TypeRef as the rows of the table give it
+abbrev pub ownSorts : List Sort
+ownSorts = never ∷ named ∷ quoted ∷ flag ∷ whole ∷ letter ∷ oneOf 4 ∷ oneOf 5 ∷ oneOf 18 ∷ expr ∷ stmt ∷ chain 48 (take 2 (drop 22 allRows)) ∷ TypeRef ∷ chain 32 (take 3 (drop 30 allRows)) ∷ chain 36 (take 3 (drop 33 allRows)) ∷ chain 52 (take 3 (drop 36 allRows)) ∷ []
 
--- 2 is any string
-pub is-2 : {k : ℕ} → k ≡ 2 → sortAt k ≡ quoted
-unfolding sortAt singles
-is-2 e = ap sortAt e
+singles-are : singles ≡ ownSorts
+unfolding allRows chain parts singles
+singles-are = refl
 
--- 3 is a flag
-pub is-3 : {k : ℕ} → k ≡ 3 → sortAt k ≡ flag
-unfolding sortAt singles
-is-3 e = ap sortAt e
-
--- 4 is a whole number
-pub is-4 : {k : ℕ} → k ≡ 4 → sortAt k ≡ whole
-unfolding sortAt singles
-is-4 e = ap sortAt e
-
--- 5 is a letter
-pub is-5 : {k : ℕ} → k ≡ 5 → sortAt k ≡ letter
-unfolding sortAt singles
-is-5 e = ap sortAt e
-
--- 6 is a file mode
-pub is-6 : {k : ℕ} → k ≡ 6 → sortAt k ≡ oneOf 4
-unfolding sortAt singles
-is-6 e = ap sortAt e
-
--- 7 is a data type
-pub is-7 : {k : ℕ} → k ≡ 7 → sortAt k ≡ oneOf 5
-unfolding sortAt singles
-is-7 e = ap sortAt e
-
--- 8 is a binary operator
-pub is-8 : {k : ℕ} → k ≡ 8 → sortAt k ≡ oneOf 18
-unfolding sortAt singles
-is-8 e = ap sortAt e
-
--- 9 is an expression
-pub is-9 : {k : ℕ} → k ≡ 9 → sortAt k ≡ expr
-unfolding sortAt singles
-is-9 e = ap sortAt e
-
--- 10 is a statement
-pub is-10 : {k : ℕ} → k ≡ 10 → sortAt k ≡ stmt
-unfolding sortAt singles
-is-10 e = ap sortAt e
-
--- 11 is a `GotoTarget`: the heads 48 and 49, with the rows from 22 on
-pub is-11 : {k : ℕ} → k ≡ 11 → sortAt k ≡ chain 48 (take 2 (drop 22 allRows))
-unfolding sortAt singles chain allRows parts
-is-11 e = ap sortAt e
-
--- 12 is a `TypeRef`
-pub is-12 : {k : ℕ} → k ≡ 12 → sortAt k ≡ TypeRef
-unfolding sortAt singles chain allRows parts
-is-12 e = ap sortAt e
-
--- 13 is a `PrintItem`: the heads 32 to 34, with the rows from 30 on
-pub is-13 : {k : ℕ} → k ≡ 13 → sortAt k ≡ chain 32 (take 3 (drop 30 allRows))
-unfolding sortAt singles chain allRows parts
-is-13 e = ap sortAt e
-
--- 14 is a `CaseClause`: the heads 36 to 38, with the rows from 33 on
-pub is-14 : {k : ℕ} → k ≡ 14 → sortAt k ≡ chain 36 (take 3 (drop 33 allRows))
-unfolding sortAt singles chain allRows parts
-is-14 e = ap sortAt e
-
--- 15 is a `ResumeTarget`: the heads 52 to 54, with the rows from 36 on
-pub is-15 : {k : ℕ} → k ≡ 15 → sortAt k ≡ chain 52 (take 3 (drop 36 allRows))
-unfolding sortAt singles chain allRows parts
-is-15 e = ap sortAt e
+-- a number below 16 is that of a sort with a number of its own: the sort in the list at that place
+pub is-own : (i : ℕ) {k : ℕ} → k ≡ i → ltb i 16 ≡ true → sortAt k ≡ getD ownSorts i never
+unfolding sortAt
+is-own i e h = ap sortAt e ∙ rw h (ap (λ (l : List Sort). getD l i never) singles-are)
 
 -- 16 to 63 are options of a row
 pub sort-opt : (s : ℕ) → 16 ≤ s → s < 64 → sortAt s ≡ opt (rowOf (s - 16))

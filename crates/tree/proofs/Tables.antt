@@ -10,36 +10,14 @@ use lib.ListN.{length, getD, List·getD-append, List·getD-eq-default}
 use lib.Seq.{getD-append-add}
 use lib.Dec.{ltb}
 use borrow.Author.Tests.{ltb-true}
-use types.Run.{OneOf}
-use Rattle.expr.proofs.Steps.{past}
+use Rattle.words.specs.Laws.{PastArms, past-arms}
 use Rattle.tree.specs.Codes.{partCodes, stmtCodes, codes, joined, pack}
 
 -- ---- past the last row
 
--- what a `match` tells where none of its arms 0 to n - 1 was taken
-unfoldable pub Past : ℕ → ℕ → Type 0
-Past zero k = Unit
-Past (suc n) k = Past n k × (OneOf (n ∷ []) k → ⊥)
-
--- past arms 0 to n - 1: it is at least n
-pub beyond : (n k : ℕ) → Past n k → n ≤ k
-unfolding Past
-beyond zero k p = omega arith
-beyond (suc n) k p = past n k (beyond n k (p .0)) (p .1)
-
--- the same, of its arms a to a + n - 1
-unfoldable pub PastFrom : ℕ → ℕ → ℕ → Type 0
-PastFrom a zero k = Unit
-PastFrom a (suc n) k = PastFrom a n k × (OneOf ((a + n) ∷ []) k → ⊥)
-
-beyond-from : (a n k : ℕ) → a ≤ k → PastFrom a n k → a + n ≤ k
-unfolding PastFrom
-beyond-from a zero k h p = omega arith
-beyond-from a (suc n) k h p = omega (arith, past (a + n) k (beyond-from a n k h (p .0)) (p .1))
-
 -- past the last row the answer is 0
-pub no-row : (ls : List (List ℕ)) (a n r : ℕ) → length ls ≡ a + n → a ≤ r → PastFrom a n r → 0 ≡ pack (getD ls r [])
-no-row ls a n r e h p = sym (ap pack (List·getD-eq-default ls [] (omega (arith, e, beyond-from a n r h p))))
+pub no-row : (ls : List (List ℕ)) (a n r : ℕ) → length ls ≡ a + n → a ≤ r → PastArms a n r → 0 ≡ pack (getD ls r [])
+no-row ls a n r e h p = sym (ap pack (List·getD-eq-default ls [] (omega (arith, e, past-arms a n r h p))))
 
 -- what the arm of row n answers
 pub arm : (ls : List (List ℕ)) (n : ℕ) {r x : ℕ} → r ≡ n → x ≡ pack (getD ls n []) → x ≡ pack (getD ls r [])

@@ -327,29 +327,6 @@ fn mark(c: Cursor, words: &[u32], kind: u32, from: u32, below: u32) -> Step
     Step::Wrong(at)
 }
 
-// the number of a string that is a name
-fn name(c: Cursor, words: &[u32], names: &[u8]) -> Step
-    ensures { λ r. ⌜ r ≡ stepOf (wordAt (now (words .entry)) 2 (λ (x : ℕ). eqb (getD (now (names .entry)) x 0) 1) (c .at)) ⌝ }
-{
-    let at = c.at;
-    if words.len() <= at {
-        return Step::Wrong(words.len());
-    }
-    let w = words[at];
-    let k = w / 16777216;
-    if k != 2 {
-        return Step::Wrong(at);
-    }
-    let p = (w % 16777216) as usize;
-    if names.len() <= p {
-        return Step::Wrong(at);
-    }
-    if names[p] == 1 {
-        return Step::Read(Cursor { at: at + 1 });
-    }
-    Step::Wrong(at)
-}
-
 // where no word is right
 fn nowhere(c: Cursor, words: &[u32]) -> Step
     ensures { λ r. ⌜ r ≡ stepOf (neverAt (now (words .entry)) {A = ℕ} (c .at)) ⌝ }
@@ -378,7 +355,7 @@ fn type_ref(c: Cursor, words: &[u32], names: &[u8], n: u32, left: usize) -> Step
     match k {
         40..=43 => Step::Read(next),
         44 => mark(next, words, 4, 0, 16777216),
-        45 => name(next, words, names),
+        45 => next.name(words, names),
         _ => Step::Wrong(at),
     }
 }
@@ -616,7 +593,7 @@ fn look(c: Cursor, words: &[u32], names: &[u8], n: u32, left: usize, sort: u8) -
 {
     match sort {
         0 => told(nowhere(c, words)),
-        1 => told(name(c, words, names)),
+        1 => told(c.name(words, names)),
         2 => told(mark(c, words, 2, 0, n)),
         3 => told(mark(c, words, 3, 0, 2)),
         4 => told(mark(c, words, 4, 0, 16777216)),

@@ -3,4 +3,5 @@ pub mod View
 pub mod Uses
 pub mod Strip
 pub mod Build
+pub mod KindLaws
 pub mod Over

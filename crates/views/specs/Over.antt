@@ -2,10 +2,13 @@
 use mathlib.Core.Path.{_≡_, refl, sym, ap, ap₂, _∙_}
 use mathlib.Core.List.{List, [], _∷_, _++_, map}
 use mathlib.Core.Option.{Option, none as absent, some}
-use Rattle.tree.specs.Sorts.{Sorts, nil, _&_, expr, opt, many, exprs, LValue as LValueRow, Kind, sorts, label, labelName, let′, print, input, lineInput, if, for, while, doLoop, goto, gosub, return, onGoto, onGosub, dim, declare, shared, static, redim, sub, function, call, midAssign, swap, const, exitLoop, exitProc, optionBase, typeDef, fieldAssign, data′, read, defType, beep, erase, raiseError, onError, resume, locate, color, randomize, restore, cls, selectCase, end′, stop, open′, close, width, field′, setField, getPut, lock}
+use Rattle.words.specs.Each.{Each}
+use Rattle.tree.specs.Sorts.{Sorts, nil, _&_, expr, opt, many, exprs, LValue as LValueRow, Kind, sorts, let′, print, input, lineInput, swap, read}
 use Rattle.tree.specs.Tree.{Shape, one, row, rows, Tree, word, value, Stmt, list, part, this, that, done, cons, none, more, over}
 use Rattle.views.specs.View.{LValue, lvalue, optional, rowsOf, items, expression, expressions}
+use Rattle.tree.specs.KindLaws.{by-kind}
 use Rattle.views.specs.Uses.{own, Uses, plain, uses}
+use Rattle.views.specs.KindLaws.{targetKinds, uses-plain}
 
 module _ {E F : Type 0} (g : E → F) where
   -- ---- expressions, targets
@@ -87,60 +90,35 @@ module _ {E F : Type 0} (g : E → F) where
   unfolding plain overUses
   plain-over r = both refl (own-over r)
 
+  -- what is to be shown of a kind
+  abbrev Over : Kind → Type 0
+  Over k = (r : Tree E (row (sorts k))) → uses k (over g r) ≡ overUses (uses k r)
+
+  let-over : Over let′
+  unfolding sorts uses over overUses overTarget
+  let-over (cons (word x) (cons is e)) = both (ap (λ (o : Option (List F)). record { name = x; indices = o } ∷ []) (indices-over is)) (own-two is e)
+
+  print-over : Over print
+  unfolding sorts uses over overUses
+  print-over (cons file (cons its (cons (word newline) (cons using′ (cons (word write) done))))) = both refl (ap₂ _++_ (own-over file) (own-two using′ its) ∙ sym (map-append (own file) (own using′ ++ own its)))
+
+  input-over : Over input
+  unfolding sorts uses over overUses
+  input-over (cons prompt (cons (word query) (cons vars (cons file done)))) = both (items-over vars) (own-two file vars)
+
+  lineInput-over : Over lineInput
+  unfolding sorts uses over overUses
+  lineInput-over (cons prompt (cons (part var) (cons file done))) = both (ap (λ (v : LValue F). v ∷ []) (lvalue-over var)) (own-two file var)
+
+  swap-over : Over swap
+  unfolding sorts uses over overUses
+  swap-over (cons (part a) (cons (part b) done)) = both (ap₂ (λ (v w : LValue F). v ∷ w ∷ []) (lvalue-over a) (lvalue-over b)) (own-two a b)
+
+  read-over : Over read
+  unfolding sorts uses over overUses
+  read-over (cons vars done) = both (items-over vars) (own-over vars)
+
   -- what a statement uses under g is what it uses, each by g
   pub uses-over : (k : Kind) (r : Tree E (row (sorts k))) → uses k (over g r) ≡ overUses (uses k r)
-  unfolding sorts uses over overUses overTarget
-  uses-over label r = plain-over r
-  uses-over labelName r = plain-over r
-  uses-over let′ (cons (word x) (cons is e)) = both (ap (λ (o : Option (List F)). record { name = x; indices = o } ∷ []) (indices-over is)) (own-two is e)
-  uses-over print (cons file (cons its (cons (word newline) (cons using′ (cons (word write) done))))) = both refl (ap₂ _++_ (own-over file) (own-two using′ its) ∙ sym (map-append (own file) (own using′ ++ own its)))
-  uses-over input (cons prompt (cons (word query) (cons vars (cons file done)))) = both (items-over vars) (own-two file vars)
-  uses-over lineInput (cons prompt (cons (part var) (cons file done))) = both (ap (λ (v : LValue F). v ∷ []) (lvalue-over var)) (own-two file var)
-  uses-over if r = plain-over r
-  uses-over for r = plain-over r
-  uses-over while r = plain-over r
-  uses-over doLoop r = plain-over r
-  uses-over goto r = plain-over r
-  uses-over gosub r = plain-over r
-  uses-over return r = plain-over r
-  uses-over onGoto r = plain-over r
-  uses-over onGosub r = plain-over r
-  uses-over dim r = plain-over r
-  uses-over declare r = plain-over r
-  uses-over shared r = plain-over r
-  uses-over static r = plain-over r
-  uses-over redim r = plain-over r
-  uses-over sub r = plain-over r
-  uses-over function r = plain-over r
-  uses-over call r = plain-over r
-  uses-over midAssign r = plain-over r
-  uses-over swap (cons (part a) (cons (part b) done)) = both (ap₂ (λ (v w : LValue F). v ∷ w ∷ []) (lvalue-over a) (lvalue-over b)) (own-two a b)
-  uses-over const r = plain-over r
-  uses-over exitLoop r = plain-over r
-  uses-over exitProc r = plain-over r
-  uses-over optionBase r = plain-over r
-  uses-over typeDef r = plain-over r
-  uses-over fieldAssign r = plain-over r
-  uses-over data′ r = plain-over r
-  uses-over read (cons vars done) = both (items-over vars) (own-over vars)
-  uses-over defType r = plain-over r
-  uses-over beep r = plain-over r
-  uses-over erase r = plain-over r
-  uses-over raiseError r = plain-over r
-  uses-over onError r = plain-over r
-  uses-over resume r = plain-over r
-  uses-over locate r = plain-over r
-  uses-over color r = plain-over r
-  uses-over randomize r = plain-over r
-  uses-over restore r = plain-over r
-  uses-over cls r = plain-over r
-  uses-over selectCase r = plain-over r
-  uses-over end′ r = plain-over r
-  uses-over stop r = plain-over r
-  uses-over open′ r = plain-over r
-  uses-over close r = plain-over r
-  uses-over width r = plain-over r
-  uses-over field′ r = plain-over r
-  uses-over setField r = plain-over r
-  uses-over getPut r = plain-over r
-  uses-over lock r = plain-over r
+  unfolding Each targetKinds
+  uses-over k = by-kind Over targetKinds (let-over, (print-over, (input-over, (lineInput-over, (swap-over, (read-over, tt)))))) k (λ o r. uses-plain k o (over g r) ∙ plain-over r ∙ ap overUses (sym (uses-plain k o r)))

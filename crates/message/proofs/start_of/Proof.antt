@@ -1,7 +1,8 @@
 -- start_of: each start is the length of the templates before, by computation; the rest is past the last (`start-past`).
 use mathlib.Core.Path.{refl}
+use Rattle.words.specs.Laws.{PastArms}
 use Rattle.words.specs.Word.{flatten}
-use Rattle.message.proofs.Laws.{Beyond, start-past}
+use Rattle.message.proofs.Laws.{start-past}
 use Rattle.message.specs.Message.{templates}
 use Rattle.message.specs.Table.{run, table}
 use Rattle.text.specs.Text.{ascii}
@@ -125,7 +126,7 @@ unfolding table run templates ascii flatten
 returns-29 c = rw (c .match .keys29) refl
 
 returns-30 : tie.Need-returns-30
-unfolding Beyond
+unfolding PastArms
 returns-30 c = start-past (c .before .args .code) (c .match .rest)
 
 pub start-of-spec : {M : Type 1} → statement M

@@ -1,6 +1,7 @@
 -- text_of: each row begins with its code's template, by computation; past the last there is none (`no-text`).
 use mathlib.Core.Path.{refl}
-use Rattle.message.proofs.Laws.{Beyond, no-text}
+use Rattle.words.specs.Laws.{PastArms}
+use Rattle.message.proofs.Laws.{no-text}
 use Rattle.message.specs.Message.{templates}
 use Rattle.message.specs.Table.{run, table}
 use Rattle.text.specs.Text.{ascii}
@@ -215,7 +216,7 @@ unfolding table run templates ascii
 returns-29 c = rw (c .before .match .keys29) refl
 
 returns-30 : tie.Need-returns-30
-unfolding Beyond
+unfolding PastArms
 returns-30 c = no-text (c .before .before .args .code) _ (c .before .match .rest)
 
 pub text-of-spec : {M : Type 1} → statement M

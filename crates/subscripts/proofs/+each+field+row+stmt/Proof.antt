@@ -1,13 +1,13 @@
 -- The cycle of `field`, `stmt`, `each` and `row`: each cites the laws of `Walk`. The measure is the words left from the reading place, and
 -- behind them the size of the sort. Assumes nothing.
-use mathlib.Core.Path.{sym, ap, _∙_}
+use mathlib.Core.Path.{refl, sym, ap, _∙_}
 use native.Mathlib.Omega.{arith}
 use borrow.Author.Needs.{needs}
 use lib.ListN.{length, drop, getD}
 use Rattle.words.specs.Word.{kindOf}
 use Rattle.tree.specs.Tree.{one}
 use Rattle.tree.specs.Codes.{codes, decode, sortAt, rowOf}
-use Rattle.tree.proofs.Steps.{sizeS, sizeR, size-start, size-step, small-row, is-9, is-10}
+use Rattle.tree.proofs.Steps.{sizeS, sizeR, size-start, size-step, small-row, is-own}
 use Rattle.plans.proofs.Walk.{of-some, to-some, of-some-rows, to-some-rows, some-as, walks-as, open-fits, open-rows, open-done, WalkedRows, rows-start, next-row, rows-done, WalkedRow, row-start, next-field, row-stop, row-full, head-range, fields-there}
 use Rattle.subscripts.specs.Code.{Counted}
 use Rattle.subscripts.proofs.Walk.{counted-none, each-step, field-step, value-some, value-walked, stmt-walked, stmt-done}
@@ -119,22 +119,22 @@ each-returns : (t : ℕ) → each-lts.Need-returns (K-each t) (each-at t) each.P
 each-returns t c = rows-done (c .before .loop .inv) (c .loop-test .left)
 
 field-expr-requires : (t : ℕ) → field-lts.Need-expr-requires (K-field t) (field-at t) field.Post
-field-expr-requires t c κs = value-some (some-as (ap one (is-9 (c .if1 .taken))) (c .before .before .pre .1 .0))
+field-expr-requires t c κs = value-some (some-as (ap one (is-own 9 (c .if1 .taken) refl)) (c .before .before .pre .1 .0))
 
 field-no-use-requires : (t : ℕ) → field-lts.Need-no-use-requires (K-field t) (field-at t) field.Post
 field-no-use-requires t c κs = search needs
 
 field-returns : (t : ℕ) → field-lts.Need-returns (K-field t) (field-at t) field.Post
-field-returns t c = walks-as (ap one (is-9 (c .before .before .before .if1 .taken))) (value-walked (c .before .before .expr .ensures) (c .no-use .ensures))
+field-returns t c = walks-as (ap one (is-own 9 (c .before .before .before .if1 .taken) refl)) (value-walked (c .before .before .expr .ensures) (c .no-use .ensures))
 
 field-stmt-requires : (t : ℕ) → field-lts.Need-stmt-requires (K-field t) (field-at t) field.Post
-field-stmt-requires t c κs = (omega (arith, c .before .before .before .pre .0), some-as (ap one (is-10 (c .if2 .taken))) (c .before .before .before .pre .1 .0))
+field-stmt-requires t c κs = (omega (arith, c .before .before .before .pre .0), some-as (ap one (is-own 10 (c .if2 .taken) refl)) (c .before .before .before .pre .1 .0))
 
 field-no-use-requires-2 : (t : ℕ) → field-lts.Need-no-use-requires-2 (K-field t) (field-at t) field.Post
 field-no-use-requires-2 t c κs = search needs
 
 field-returns-2 : (t : ℕ) → field-lts.Need-returns-2 (K-field t) (field-at t) field.Post
-field-returns-2 t c = walks-as (ap one (is-10 (c .before .before .before .if2 .taken))) (stmt-walked (c .before .before .stmt .ensures) (c .no-use2 .ensures))
+field-returns-2 t c = walks-as (ap one (is-own 10 (c .before .before .before .if2 .taken) refl)) (stmt-walked (c .before .before .stmt .ensures) (c .no-use2 .ensures))
 
 field-plan-for-requires : (t : ℕ) → field-lts.Need-plan-for-requires (K-field t) (field-at t) field.Post
 field-plan-for-requires t c κs = (c .before .before .before .pre .1 .0, c .before .before .before .pre .1 .1, c .before .if1 .left, c .if2 .left)

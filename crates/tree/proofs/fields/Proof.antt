@@ -1,6 +1,7 @@
 -- `fields`: each arm's row is the definition's, by computation; the others are `later_fields`'s. Assumes nothing.
+use Rattle.words.specs.Laws.{PastArms, beyond}
 use Rattle.tree.specs.Codes.{stmtCodes}
-use Rattle.tree.proofs.Tables.{Past, beyond, arm}
+use Rattle.tree.proofs.Tables.{arm}
 use borrow.Author.Needs.{needs}
 use Rattle.tree.proofs.fields.Statement.{statement}
 use Rattle.tree.proofs.fields.Tie as tie
@@ -276,7 +277,7 @@ unfolding stmtCodes
 returns-27 c = arm stmtCodes 26 (c .before .before .match .keys27) (c .six27 .ensures)
 
 later-fields-requires : tie.Need-later-fields-requires
-unfolding Past
+unfolding PastArms
 later-fields-requires c κs = beyond 27 (c .before .args .kind) (c .match .rest)
 
 returns-28 : tie.Need-returns-28

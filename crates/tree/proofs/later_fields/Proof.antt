@@ -1,6 +1,7 @@
 -- `later_fields`: each arm's row is the definition's, by computation; past the last arm there is none. Assumes nothing.
+use Rattle.words.specs.Laws.{PastArms}
 use Rattle.tree.specs.Codes.{stmtCodes}
-use Rattle.tree.proofs.Tables.{PastFrom, no-row, arm}
+use Rattle.tree.proofs.Tables.{no-row, arm}
 use mathlib.Core.Path.{refl}
 use borrow.Author.Needs.{needs}
 use Rattle.tree.proofs.later_fields.Statement.{statement}
@@ -277,7 +278,7 @@ unfolding stmtCodes
 returns-27 c = arm stmtCodes 53 (c .before .before .match .keys27) (c .six27 .ensures)
 
 returns-28 : tie.Need-returns-28
-unfolding PastFrom stmtCodes
+unfolding PastArms stmtCodes
 returns-28 c = no-row stmtCodes 27 27 (c .before .args .kind) refl (c .before .pre) (c .match .rest)
 
 pub later-fields-spec : {M : Type 1} → statement M

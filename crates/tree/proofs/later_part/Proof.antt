@@ -1,6 +1,7 @@
 -- `later_part`: each arm's row is the definition's, by computation; past the last arm there is none. Assumes nothing.
+use Rattle.words.specs.Laws.{PastArms}
 use Rattle.tree.specs.Codes.{partCodes}
-use Rattle.tree.proofs.Tables.{PastFrom, no-row, arm}
+use Rattle.tree.proofs.Tables.{no-row, arm}
 use mathlib.Core.Path.{refl}
 use borrow.Author.Needs.{needs}
 use Rattle.tree.proofs.later_part.Statement.{statement}
@@ -197,7 +198,7 @@ unfolding partCodes
 returns-19 c = arm partCodes 38 (c .before .before .match .keys19) (c .six19 .ensures)
 
 returns-20 : tie.Need-returns-20
-unfolding PastFrom partCodes
+unfolding PastArms partCodes
 returns-20 c = no-row partCodes 20 19 (c .before .args .row) refl (c .before .pre) (c .match .rest)
 
 pub later-part-spec : {M : Type 1} → statement M

@@ -1,10 +1,10 @@
 -- `look`: by the number of the sort. Assumes nothing.
 use mathlib.Core.Path.{refl, sym}
 use mathlib.Core.Logic.{inr}
+use Rattle.words.specs.Laws.{PastArms, beyond}
 use Rattle.tree.specs.Sorts.{name, text, mark}
 use Rattle.tree.specs.Frames.{goes}
-use Rattle.tree.proofs.Steps.{is-0, is-1, is-2, is-3, is-4, is-5, is-6, is-7, is-8, is-9, is-10, is-11, is-12, is-13, is-14, is-15, sort-opt, sort-many, sort-group, leaf-arm, never-arm, group-arm}
-use Rattle.tree.proofs.Tables.{Past, beyond}
+use Rattle.tree.proofs.Steps.{name-word, is-own, sort-opt, sort-many, sort-group, leaf-arm, never-arm, group-arm}
 use Rattle.tree.proofs.Frames.{told-goes, row-same, look-arm}
 use borrow.Author.Needs.{needs}
 use Rattle.tree.proofs.look.Statement.{statement}
@@ -89,7 +89,7 @@ choice-requires-4 : tie.Need-choice-requires-4
 choice-requires-4 c κs = search needs
 
 sub-optional : tie.Need-sub-optional
-unfolding Past
+unfolding PastArms
 sub-optional c = beyond 16 _ (c .before .match .rest)
 
 optional-requires : tie.Need-optional-requires
@@ -108,55 +108,55 @@ one-row-requires : tie.Need-one-row-requires
 one-row-requires c κs = search needs
 
 returns : tie.Need-returns
-returns c = look-arm _ _ _ _ (is-0 (c .before .before .match .keys1)) (goes (told-goes _ _ _ _ (never-arm _ _ _ _ _ _ (c .before .nowhere .ensures)) (c .told .ensures)))
+returns c = look-arm _ _ _ _ (is-own 0 (c .before .before .match .keys1) refl) (goes (told-goes _ _ _ _ (never-arm _ _ _ _ _ _ (c .before .nowhere .ensures)) (c .told .ensures)))
 
 returns-2 : tie.Need-returns-2
-returns-2 c = goes (told-goes _ _ _ _ (leaf-arm _ _ _ _ _ _ name _ (is-1 (c .before .before .match .keys2)) (c .before .name .ensures)) (c .told2 .ensures))
+returns-2 c = goes (told-goes _ _ _ _ (leaf-arm _ _ _ _ _ _ name _ (is-own 1 (c .before .before .match .keys2) refl) (name-word _ _ _ (c .before .name .ensures))) (c .told2 .ensures))
 
 returns-3 : tie.Need-returns-3
-returns-3 c = goes (told-goes _ _ _ _ (leaf-arm _ _ _ _ _ _ text _ (is-2 (c .before .before .match .keys3)) (c .before .mark .ensures)) (c .told3 .ensures))
+returns-3 c = goes (told-goes _ _ _ _ (leaf-arm _ _ _ _ _ _ text _ (is-own 2 (c .before .before .match .keys3) refl) (c .before .mark .ensures)) (c .told3 .ensures))
 
 returns-4 : tie.Need-returns-4
-returns-4 c = goes (told-goes _ _ _ _ (leaf-arm _ _ _ _ _ _ (mark 3 0 2) _ (is-3 (c .before .before .match .keys4)) (c .before .mark2 .ensures)) (c .told4 .ensures))
+returns-4 c = goes (told-goes _ _ _ _ (leaf-arm _ _ _ _ _ _ (mark 3 0 2) _ (is-own 3 (c .before .before .match .keys4) refl) (c .before .mark2 .ensures)) (c .told4 .ensures))
 
 returns-5 : tie.Need-returns-5
-returns-5 c = goes (told-goes _ _ _ _ (leaf-arm _ _ _ _ _ _ (mark 4 0 16777216) _ (is-4 (c .before .before .match .keys5)) (c .before .mark3 .ensures)) (c .told5 .ensures))
+returns-5 c = goes (told-goes _ _ _ _ (leaf-arm _ _ _ _ _ _ (mark 4 0 16777216) _ (is-own 4 (c .before .before .match .keys5) refl) (c .before .mark3 .ensures)) (c .told5 .ensures))
 
 returns-6 : tie.Need-returns-6
-returns-6 c = goes (told-goes _ _ _ _ (leaf-arm _ _ _ _ _ _ (mark 7 65 91) _ (is-5 (c .before .before .match .keys6)) (c .before .mark4 .ensures)) (c .told6 .ensures))
+returns-6 c = goes (told-goes _ _ _ _ (leaf-arm _ _ _ _ _ _ (mark 7 65 91) _ (is-own 5 (c .before .before .match .keys6) refl) (c .before .mark4 .ensures)) (c .told6 .ensures))
 
 returns-7 : tie.Need-returns-7
-returns-7 c = goes (told-goes _ _ _ _ (leaf-arm _ _ _ _ _ _ (mark 9 0 4) _ (is-6 (c .before .before .match .keys7)) (c .before .mark5 .ensures)) (c .told7 .ensures))
+returns-7 c = goes (told-goes _ _ _ _ (leaf-arm _ _ _ _ _ _ (mark 9 0 4) _ (is-own 6 (c .before .before .match .keys7) refl) (c .before .mark5 .ensures)) (c .told7 .ensures))
 
 returns-8 : tie.Need-returns-8
-returns-8 c = goes (told-goes _ _ _ _ (leaf-arm _ _ _ _ _ _ (mark 9 0 5) _ (is-7 (c .before .before .match .keys8)) (c .before .mark6 .ensures)) (c .told8 .ensures))
+returns-8 c = goes (told-goes _ _ _ _ (leaf-arm _ _ _ _ _ _ (mark 9 0 5) _ (is-own 7 (c .before .before .match .keys8) refl) (c .before .mark6 .ensures)) (c .told8 .ensures))
 
 returns-9 : tie.Need-returns-9
-returns-9 c = goes (told-goes _ _ _ _ (leaf-arm _ _ _ _ _ _ (mark 9 0 18) _ (is-8 (c .before .before .match .keys9)) (c .before .mark7 .ensures)) (c .told9 .ensures))
+returns-9 c = goes (told-goes _ _ _ _ (leaf-arm _ _ _ _ _ _ (mark 9 0 18) _ (is-own 8 (c .before .before .match .keys9) refl) (c .before .mark7 .ensures)) (c .told9 .ensures))
 
 returns-10 : tie.Need-returns-10
-returns-10 c = look-arm _ _ _ _ (is-9 (c .before .match .keys10)) (goes (c .expression .ensures))
+returns-10 c = look-arm _ _ _ _ (is-own 9 (c .before .match .keys10) refl) (goes (c .expression .ensures))
 
 returns-11 : tie.Need-returns-11
-returns-11 c = look-arm _ _ _ _ (is-10 (c .before .match .keys11)) (goes (c .statement .ensures _ _))
+returns-11 c = look-arm _ _ _ _ (is-own 10 (c .before .match .keys11) refl) (goes (c .statement .ensures _ _))
 
 returns-12 : tie.Need-returns-12
-returns-12 c = look-arm _ _ _ _ (is-11 (c .before .match .keys12)) (goes (c .choice .ensures _ _))
+returns-12 c = look-arm _ _ _ _ (is-own 11 (c .before .match .keys12) refl) (goes (c .choice .ensures _ _))
 
 returns-13 : tie.Need-returns-13
-returns-13 c = look-arm _ _ _ _ (is-12 (c .before .before .match .keys13)) (goes (told-goes _ _ _ _ (c .before .type-ref .ensures) (c .told10 .ensures)))
+returns-13 c = look-arm _ _ _ _ (is-own 12 (c .before .before .match .keys13) refl) (goes (told-goes _ _ _ _ (c .before .type-ref .ensures) (c .told10 .ensures)))
 
 returns-14 : tie.Need-returns-14
-returns-14 c = look-arm _ _ _ _ (is-13 (c .before .match .keys14)) (goes (c .choice2 .ensures _ _))
+returns-14 c = look-arm _ _ _ _ (is-own 13 (c .before .match .keys14) refl) (goes (c .choice2 .ensures _ _))
 
 returns-15 : tie.Need-returns-15
-returns-15 c = look-arm _ _ _ _ (is-14 (c .before .match .keys15)) (goes (c .choice3 .ensures _ _))
+returns-15 c = look-arm _ _ _ _ (is-own 14 (c .before .match .keys15) refl) (goes (c .choice3 .ensures _ _))
 
 returns-16 : tie.Need-returns-16
-returns-16 c = look-arm _ _ _ _ (is-15 (c .before .match .keys16)) (goes (c .choice4 .ensures _ _))
+returns-16 c = look-arm _ _ _ _ (is-own 15 (c .before .match .keys16) refl) (goes (c .choice4 .ensures _ _))
 
 returns-17 : tie.Need-returns-17
-unfolding Past
+unfolding PastArms
 returns-17 c = look-arm _ _ _ _ (sort-opt _ (beyond 16 _ (c .before .before .match .rest)) (c .before .if1 .taken)) (c .optional .ensures _ _)
 
 returns-18 : tie.Need-returns-18

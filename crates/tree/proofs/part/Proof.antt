@@ -1,6 +1,7 @@
 -- `part`: each arm's row is the definition's, by computation; the others are `later_part`'s. Assumes nothing.
+use Rattle.words.specs.Laws.{PastArms, beyond}
 use Rattle.tree.specs.Codes.{partCodes}
-use Rattle.tree.proofs.Tables.{Past, beyond, arm}
+use Rattle.tree.proofs.Tables.{arm}
 use borrow.Author.Needs.{needs}
 use Rattle.tree.proofs.part.Statement.{statement}
 use Rattle.tree.proofs.part.Tie as tie
@@ -206,7 +207,7 @@ unfolding partCodes
 returns-20 c = arm partCodes 19 (c .before .before .match .keys20) (c .six20 .ensures)
 
 later-part-requires : tie.Need-later-part-requires
-unfolding Past
+unfolding PastArms
 later-part-requires c κs = beyond 20 (c .before .args .row) (c .match .rest)
 
 returns-21 : tie.Need-returns-21

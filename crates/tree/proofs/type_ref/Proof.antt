@@ -1,14 +1,13 @@
 -- `tree::type_ref` meets its contract: each head of a type is an alternative of the definition. Assumes nothing.
 use mathlib.Core.Path.{sym, _∙_}
 use native.Mathlib.Omega.{arith}
-use Rattle.tree.proofs.Steps.{type-end, type-no, type-plain, type-length, type-name}
+use Rattle.tree.proofs.Steps.{type-end, type-no, type-plain, type-length, type-name, name-word}
 use borrow.Author.Needs.{needs}
 use Rattle.tree.proofs.type_ref.Statement.{statement}
 use Rattle.tree.proofs.type_ref.Tie as tie
 use Rattle.tree.proofs.type_ref.Reads as reads
 use Rattle.tree.proofs.type_ref.Lts as lts
 use Rattle.tree.proofs.mark.Reads as mark-reads
-use Rattle.tree.proofs.name.Reads as name-reads
 
 -- src/lib.rt:209:9
 returns : tie.Need-returns
@@ -44,7 +43,7 @@ returns-3 c = type-length _ _ _ _ _ _ (omega arith) (c .before .before .if2 .lef
 
 -- src/lib.rt:204:1
 returns-4 : tie.Need-returns-4
-returns-4 c = type-name _ _ _ _ _ _ (omega arith) (c .before .before .if2 .left) (c .before .match .keys2) (c .name .ensures)
+returns-4 c = type-name _ _ _ _ _ _ (omega arith) (c .before .before .if2 .left) (c .before .match .keys2) (name-word _ _ _ (c .name .ensures))
 
 -- src/lib.rt:204:1
 returns-5 : tie.Need-returns-5

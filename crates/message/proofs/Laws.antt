@@ -226,9 +226,22 @@ row-fits c s e t p q h =
     omega (arith, k, row-length c s e p q)
 
 -- past the last code there is no template
-pub no-text : (c : ℕ) (t : List ℕ) → Beyond 29 c → take (length (getD table c [])) t ≡ getD table c []
-no-text c t h =
-    let l : 29 ≤ c = beyond 29 c h in
+-- what a `match` tells where none of its arms a to a + n - 1 was taken
+unfoldable pub BeyondFrom : ℕ → ℕ → ℕ → Type 0
+BeyondFrom a zero c = Unit {0}
+BeyondFrom a (suc n) c = BeyondFrom a n c × (c ≡ a + n → ⊥)
+
+pub beyond-from : (a n c : ℕ) → a ≤ c → BeyondFrom a n c → a + n ≤ c
+unfolding BeyondFrom
+beyond-from a zero c h b = omega arith
+beyond-from a (suc n) c h b =
+    let l : a + n ≤ c = beyond-from a n c h (b .0) in
+    let k : c ≡ a + n → ⊥ = b .1 in
+    omega arith
+
+pub no-text : (c : ℕ) (t : List ℕ) → 20 ≤ c → BeyondFrom 20 9 c → take (length (getD table c [])) t ≡ getD table c []
+no-text c t h b =
+    let l : 29 ≤ c = beyond-from 20 9 c h b in
     let e : getD table c [] ≡ [] = List·getD-eq-default table [] (omega (arith, many)) in
     rw e
 

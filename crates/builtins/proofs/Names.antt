@@ -12,9 +12,8 @@ use lib.ListN.{length, drop, getD, replicate, List·getD-append, drop-of-length-
 use lib.Seq.{drop-cons, getD-append-add}
 use borrow.Author.Tests.{leb-true, eq-eqb, ne-eqb, eqb-true}
 use Rattle.words.specs.Word.{pick, flatten}
-use Rattle.table.specs.Laws.{pick-true, pick-false}
 use Rattle.text.specs.Text.{ascii}
-use Rattle.lookup.specs.Builtins.{Builtin, takes, builtins, same, entryOf, builtin, cellsOf, cells, nameAt, lengthFits, mayBe}
+use Rattle.builtins.specs.Builtins.{Builtin, takes, builtins, same, entryOf, builtin, cellsOf, cells, nameAt, lengthFits, mayBe}
 
 -- ---- the entries
 
@@ -169,10 +168,10 @@ module _ (name : List ℕ) (i : ℕ) (h : i < 55) where
       ∙ ap (λ (k : ℕ). pick (same name (nameAt i)) (some (getD builtins i absent)) (entryOf name (drop k builtins))) (sym (add-one i))
 
   pub entry-here : same name (nameAt i) ≡ true → entryOf name (drop i builtins) ≡ some (entryAt i)
-  entry-here e = entry-step ∙ pick-true (some (entryAt i)) (entryOf name (drop (i + 1) builtins)) e
+  entry-here e = entry-step ∙ ap (λ (t : Bool). pick t (some (entryAt i)) (entryOf name (drop (i + 1) builtins))) e
 
   pub entry-next : same name (nameAt i) ≡ false → entryOf name (drop i builtins) ≡ entryOf name (drop (i + 1) builtins)
-  entry-next e = entry-step ∙ pick-false (some (entryAt i)) (entryOf name (drop (i + 1) builtins)) e
+  entry-next e = entry-step ∙ ap (λ (t : Bool). pick t (some (entryAt i)) (entryOf name (drop (i + 1) builtins))) e
 
 pub entry-end : (name : List ℕ) (i : ℕ) → 55 ≤ i → entryOf name (drop i builtins) ≡ none
 unfolding entryOf

@@ -4,6 +4,7 @@
 // A case is its label, the entry and three numbers, the string bytes, ends, tree words, erased names, rows, diagnostics and output. All are words of 32 bits,
 // little-endian, but label and string bytes; each part but the four words of the entry begins with its length.
 use analyse::Given;
+use builtins::Arguments;
 use collection::Sizes;
 use collisions::Collided;
 use evaluate::Answer as Evaluated;
@@ -18,7 +19,6 @@ use leaves::Taking;
 use leaves::TypedAs;
 use libc::STDIN_FILENO;
 use libc::STDOUT_FILENO;
-use lookup::Arguments;
 use lookup::Array;
 use lookup::Declared;
 use lookup::Typed;

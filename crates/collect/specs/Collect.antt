@@ -23,7 +23,7 @@ use Rattle.fold.specs.Value.{literalKind, lowOf, highOf}
 use Rattle.table.specs.Rows.{Row, find}
 use Rattle.entries.specs.Entries.{entryKey, rowWord, has, lineRow, labelRow, typeRow, fieldRow, constRow, arrayRow, typedVarRow, procRow, paramRow, dimSharedRow, sharedRow, staticRow, staticProcRow, defFnRow, unrankedRow, optionBaseRow, replaceType, replaceProc}
 use Rattle.lookup.specs.Lookup.{typeWords, fromSuffix, fromTypeRef}
-use Rattle.lookup.specs.Builtins.{isSome, isBuiltin}
+use Rattle.builtins.specs.Builtins.{isSome, isBuiltin}
 use Rattle.subscripts.specs.Subscripts.{subscriptCount}
 use Rattle.steps.specs.State.{State, running, Step, _⨾_, nothing, when, asking, each, stop, change, enter, push}
 use Rattle.collect.specs.Diagnostics.{duplicateLine, duplicateLabel, typeDefined, typeInside, fieldTwice, containsItself, fieldUndefined, optionBaseTwice, optionBaseLate, constDefined, constOverflow, notConstant, itemsOutside, dimSharedInside, suffixDiffers, undefinedType, declaredTwice, noDimension, arrayTwice, otherRank, fixedParam, fixedResult, procInside, procDefined, paramUndefined, arrayAndProc, arrayAndBuiltin}

@@ -17,7 +17,7 @@ use Rattle.fold.specs.Fold as F
 use Rattle.table.specs.Rows.{Row, find, insert, insertAll, remove, replace, key}
 use Rattle.lookup.specs.Lookup as L
 use Rattle.text.specs.Text.{ascii}
-use Rattle.lookup.specs.Builtins as N
+use Rattle.builtins.specs.Builtins as N
 use Rattle.consteval.specs.ConstEval.{literal, constEval}
 use Rattle.collect.specs.Seen.{Seen, see}
 use Rattle.steps.specs.State as T

@@ -16,7 +16,7 @@ use Rattle.strings.specs.Open.{entryOf, Answers}
 use Rattle.strings.specs.Table.{sound, namesOf}
 use Rattle.table.specs.Rows.{Row, noteWidth, zeros, image, rowsOf, find, Filled}
 use Rattle.entries.specs.Entries.{entryKey}
-use Rattle.lookup.specs.Builtins.{isBuiltin}
+use Rattle.builtins.specs.Builtins.{isBuiltin}
 use Rattle.runs.specs.Laws.{holds-keeps}
 use Rattle.lent.specs.Lent.{checked, lentRows}
 use Rattle.lent.specs.LentLaws.{checked-sound}

@@ -22,10 +22,10 @@ use Rattle.runs.specs.Places.{row-word}
 use Rattle.table.specs.declared.Found.{Found}
 use Rattle.table.specs.declared.Found.the-variants.{At, Nothing}
 use Rattle.entries.specs.Entries.{entryKey}
-use Rattle.lookup.specs.Answers.{argumentsOf}
-use Rattle.lookup.specs.Builtins.{Builtin, builtin, isBuiltin, isSome}
-use Rattle.lookup.specs.declared.Arguments.{Arguments}
-use Rattle.lookup.specs.declared.Arguments.the-variants.{Unknown, Takes}
+use Rattle.builtins.specs.Answers.{argumentsOf}
+use Rattle.builtins.specs.Builtins.{Builtin, builtin, isBuiltin, isSome}
+use Rattle.builtins.specs.declared.Arguments.{Arguments}
+use Rattle.builtins.specs.declared.Arguments.the-variants.{Unknown, Takes}
 use Rattle.consteval.specs.EvalLaws.{Words32}
 use Rattle.steps.specs.State.{State, running, stopped, Step, when, asking, each}
 use Rattle.steps.specs.declared.Counts.{Counts}

@@ -12,7 +12,7 @@ use Rattle.strings.specs.Name.{between, inner, suffix, rest, isName}
 use Rattle.strings.specs.Table.{startOf, stringAt, marksBelow, namesOf}
 use Rattle.table.specs.Rows.{Row, key, find, image, rowsOf}
 use Rattle.entries.specs.Entries.{arrayRow, procRow}
-use Rattle.lookup.specs.Builtins.{takes, builtins, same, entryOf, builtin, isBuiltin}
+use Rattle.builtins.specs.Builtins.{takes, builtins, same, entryOf, builtin, isBuiltin}
 use Rattle.lent.specs.Rules.{scopeOk, typeOk, constOk, wordOk, wordsOk, kindOk, rowOk}
 use Rattle.lent.specs.Lent.{allZero, endedAt, scan, checked, lentRows}
 use Rattle.steps.specs.State.{fits, asking, each, push}

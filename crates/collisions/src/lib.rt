@@ -1,7 +1,7 @@
 // `check_name_collisions`: each array in row order that has a procedure's or a builtin's name.
+use builtins::Arguments;
 use leaves::Gate;
 use lent::Checked;
-use lookup::Arguments;
 use steps::Counts;
 use table::Found;
 use words::Refusal;
@@ -11,7 +11,7 @@ ghost use mathlib.Core.List.{List};
 ghost use Prim.Native.Nat.{ℕ, _+_, _*_, _≤_, _<_};
 ghost use lib.ListN.{length, getD};
 ghost use Rattle.strings.specs.Table.{sound, stringAt, namesOf};
-ghost use Rattle.lookup.specs.Builtins.{isBuiltin};
+ghost use Rattle.builtins.specs.Builtins.{isBuiltin};
 ghost use Rattle.lent.specs.Rules.{isMarked};
 ghost use Rattle.table.specs.Rows.{width};
 ghost use Rattle.steps.specs.Held.{Fit};

@@ -26,7 +26,7 @@ use Rattle.steps.specs.Compose.{Stays, notes-does, rows-does, nothing-does, sam
 use Rattle.steps.specs.RowSteps.{rows-each-none, rows-each-next}
 use Rattle.collect.specs.Diagnostics.{suffixDiffers, undefinedType, declaredTwice, noDimension, otherRank, dimSharedInside}
 use Rattle.collect.specs.Seen.{Seen, see}
-use Rattle.lookup.specs.Builtins.{isSome}
+use Rattle.builtins.specs.Builtins.{isSome}
 use Rattle.collect.specs.Collect.{given, lastOf, disagrees, isRecord, anySome, member, differs, undefined, declaredAs, redeclared, declaredArray, declared, sharedAll, dimShared}
 use Rattle.parts.specs.Parts.{NameAt}
 use Rattle.parts.specs.Names.{name-at}

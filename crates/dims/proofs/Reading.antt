@@ -19,7 +19,7 @@ use Rattle.tree.proofs.Nodes.{cons-last, value-there}
 use Rattle.skip.specs.Shape.{SomeExpr}
 use Rattle.views.specs.View.{optional, items, expression, expressions, lower, declarator, asType, headOf, argOf}
 use Rattle.collect.specs.Seen.{Seen, see}
-use Rattle.lookup.specs.Builtins.{isSome}
+use Rattle.builtins.specs.Builtins.{isSome}
 use Rattle.collect.specs.Collect.{anySome}
 use Rattle.parts.specs.declared.TypeAt.{TypeAt}
 use Rattle.parts.specs.Parts.{AsTypeIs}

@@ -19,7 +19,7 @@ use Rattle.steps.specs.State.{each, when, enter}
 use Rattle.steps.specs.declared.Counts.{Counts}
 use Rattle.steps.specs.Held.{Fit, Sized, Does, Rows}
 use Rattle.collect.specs.Seen.{Seen, see}
-use Rattle.lookup.specs.Builtins.{isSome}
+use Rattle.builtins.specs.Builtins.{isSome}
 use Rattle.collect.specs.Collect.{given, lastOf, disagrees, isRecord, anySome, member, declaredAs, declaredArray, declared, dimShared}
 use Rattle.collect.specs.Code.{SomeStmt, Named}
 use Rattle.dims.specs.declared.Bound.{Bound}

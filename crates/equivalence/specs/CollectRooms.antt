@@ -14,7 +14,7 @@ use Rattle.fold.specs.declared.Fold.{Fold}
 use Rattle.fold.specs.declared.Fold.the-variants.{Is, Overflow, NotConstant}
 use Rattle.table.specs.Rows.{Row, find}
 use Rattle.entries.specs.Entries.{entryKey, has}
-use Rattle.lookup.specs.Builtins.{isBuiltin}
+use Rattle.builtins.specs.Builtins.{isBuiltin}
 use Rattle.subscripts.specs.Subscripts.{subscriptCount}
 use Rattle.steps.specs.State.{State, running, Step, enter}
 use Rattle.collect.specs.Seen.{Seen, see}

@@ -24,7 +24,7 @@ module _ (ws : List ℕ) where
       (pick (eqb (kindOf (getD ws at 0)) k) (pick (ltb (payOf (getD ws at 0)) n) (got (payOf (getD ws at 0)) (at + 1)) (wrong at)) (wrong at))
       (wrong (length ws))
 
-  -- the number of a name (`nameAt` of lookup/specs/Builtins.antt is a builtin's name)
+  -- the number of a name (`nameAt` of builtins/specs/Builtins.antt is a builtin's name)
   unfoldable pub nameAt : List ℕ → ℕ → Got ℕ
   nameAt ns at =
       pick (ltb at (length ws))

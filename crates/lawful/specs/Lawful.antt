@@ -38,7 +38,7 @@ use Rattle.consteval.specs.EvalLaws.{Words32}
 use Rattle.consteval.specs.RowLaws.{consts-enter}
 use Rattle.subscripts.specs.Subscripts.{indexed, subscriptCount}
 use Rattle.steps.specs.State.{running, Step, fits}
-use Rattle.lookup.specs.Builtins.{isSome, isBuiltin}
+use Rattle.builtins.specs.Builtins.{isSome, isBuiltin}
 use Rattle.collect.specs.Seen.{Seen, see}
 use Rattle.collect.specs.Collect as C
 use Rattle.collect.specs.Collect.{Given, Proc, FieldInfo, RecordInfo, hasField, withField, typeRejected, rejected, fieldRows, paramRows, marked, constOf}

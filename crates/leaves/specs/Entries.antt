@@ -12,7 +12,7 @@ use Rattle.strings.specs.Table.{sound, namesOf}
 use Rattle.table.specs.Rows.{Row, width, rowsOf, Holds}
 use Rattle.lookup.specs.Lookup.{TypeRef, ArrayInfo}
 use Rattle.lookup.specs.Answers.{typed, array, class}
-use Rattle.lookup.specs.declared.Arguments.{Arguments}
+use Rattle.builtins.specs.declared.Arguments.{Arguments}
 use Rattle.leaves.specs.Leaves.{admits}
 use Rattle.leaves.specs.declared.Question.{Question}
 use Rattle.leaves.specs.declared.Question.the-variants.{InProc, InScope, OfType}

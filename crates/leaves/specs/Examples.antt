@@ -14,8 +14,8 @@ use Rattle.table.specs.Rows.{width, key, find, zeros, rowsOf}
 use Rattle.lent.specs.Rules.{scopeOk, typeOk, constOk, wordOk, wordsOk, kindOk, rowOk}
 use Rattle.lent.specs.Lent.{allZero, endedAt, scan, checked, lentRows}
 use Rattle.lookup.specs.Lookup.{shares, visible, typedVar, lookupArray, fromSuffix, classOf, declaredType}
-use Rattle.lookup.specs.Builtins.{takes, builtins, same, entryOf, builtin}
-use Rattle.lookup.specs.declared.Arguments.the-variants.{Unknown}
+use Rattle.builtins.specs.Builtins.{takes, builtins, same, entryOf, builtin}
+use Rattle.builtins.specs.declared.Arguments.the-variants.{Unknown}
 use Rattle.leaves.specs.Leaves.{admits, ruled, asked, lastByte, sharesAt, typeWordsAt, lookupArrayAt, declaredTypeAt, builtinAt}
 
 -- the bytes of the three strings

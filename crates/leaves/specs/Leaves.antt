@@ -12,9 +12,9 @@ use Rattle.table.specs.Rows.{Row}
 use Rattle.lent.specs.Rules.{isMarked, scopeOk, typeOk}
 use Rattle.lent.specs.Lent.{lentRows}
 use Rattle.lookup.specs.Lookup.{TypeRef, ArrayInfo, shares, isStatic, typeWords, typedVar, typedVarIn, lookupArray, declaredType}
-use Rattle.lookup.specs.Builtins.{builtin}
-use Rattle.lookup.specs.Answers.{argumentsOf}
-use Rattle.lookup.specs.declared.Arguments.{Arguments}
+use Rattle.builtins.specs.Builtins.{builtin}
+use Rattle.builtins.specs.Answers.{argumentsOf}
+use Rattle.builtins.specs.declared.Arguments.{Arguments}
 use Rattle.leaves.specs.declared.Question.{Question}
 use Rattle.leaves.specs.declared.Question.the-variants.{InProc, InScope, OfType}
 

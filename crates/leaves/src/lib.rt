@@ -1,6 +1,6 @@
 // The leaves of document 01 over a lent string table and lent rows. Each entry gives 5, 1, 6, 11 in this order, or what `lookup` gives.
+use builtins::Arguments;
 use lent::Checked;
-use lookup::Arguments;
 use lookup::Array;
 use lookup::Declared;
 use lookup::Typed;
@@ -12,8 +12,8 @@ ghost use Rattle.words.specs.Told.{gives};
 ghost use Rattle.strings.specs.Open.{Answers};
 ghost use Rattle.strings.specs.Table.{sound, stringAt, namesOf};
 ghost use Rattle.lent.specs.Rules.{isMarked};
-ghost use Rattle.lookup.specs.Builtins.{builtin as builtinOf};
-ghost use Rattle.lookup.specs.Answers.{argumentsOf};
+ghost use Rattle.builtins.specs.Builtins.{builtin as builtinOf};
+ghost use Rattle.builtins.specs.Answers.{argumentsOf};
 ghost use Rattle.leaves.specs.Leaves.{sized as sizedOf, admits as admitsOf, ruled as ruledOf, lastByte, sharesAt, isStaticAt, typeWordsAt, typedVarAt, typedVarInAt, lookupArrayAt, declaredTypeAt, builtinAt};
 ghost use Rattle.leaves.specs.Entries.{tellRows, tellFlag, tellCount, tellType, tellArray, tellClass, tellTaking, tellGate, Passes, Judged, Ready};
 
@@ -261,5 +261,5 @@ pub fn spelled(bytes: &[u8], ends: &[u32], name: u32) -> Arguments
     let i = name as usize;
     let a = strings::start(ends, i);
     let e = ends[i] as usize;
-    lookup::builtin(&bytes[a..e])
+    builtins::builtin(&bytes[a..e])
 }

@@ -1,7 +1,6 @@
 -- What the answers of the lookups mean. These are definitions.
 use mathlib.Core.Option.{Option, none, some}
 use Prim.Native.Nat.{ℕ}
-use Rattle.lookup.specs.Builtins.{Builtin}
 use Rattle.lookup.specs.Lookup.{TypeRef, ArrayInfo}
 use Rattle.lookup.specs.declared.Typed.{Typed}
 use Rattle.lookup.specs.declared.Typed.the-variants.{Untyped, As}
@@ -9,8 +8,6 @@ use Rattle.lookup.specs.declared.Array.{Array}
 use Rattle.lookup.specs.declared.Array.the-variants.{NoArray, Info}
 use Rattle.lookup.specs.declared.Declared.{Declared}
 use Rattle.lookup.specs.declared.Declared.the-variants.{Record, Class}
-use Rattle.lookup.specs.declared.Arguments.{Arguments}
-use Rattle.lookup.specs.declared.Arguments.the-variants.{Unknown, Takes}
 
 -- a type, or none
 abbrev pub typed : Typed → Option TypeRef
@@ -26,8 +23,3 @@ array (Info rank line lower) = some (record { rank = rank; line = line; lower = 
 abbrev pub class : Declared → Option ℕ
 class Record = none
 class (Class position) = some position
-
--- the least and most arguments of a builtin
-abbrev pub argumentsOf : Option Builtin → Arguments
-argumentsOf none = Unknown
-argumentsOf (some b) = Takes (b .least) (b .most)

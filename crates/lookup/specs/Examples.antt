@@ -8,8 +8,6 @@ use Prim.Native.Nat.{ℕ}
 use Rattle.table.specs.Rows.{Row, key, find}
 use Rattle.entries.specs.Entries.{typeRow, arrayRow, typedVarRow, dimSharedRow, sharedRow, staticRow, staticProcRow, defFnRow}
 use Rattle.lookup.specs.Lookup.{shares, isStatic, typeWords, TypeRef, ArrayInfo, visible, typedVar, typedVarIn, lookupArray, fromSuffix, fromTypeRef, classOf, declaredType}
-use Rattle.text.specs.Text.{ascii}
-use Rattle.lookup.specs.Builtins.{takes, builtins, same, entryOf, builtin, isBuiltin}
 
 -- the rows that are asked
 pub rows : List Row
@@ -77,14 +75,3 @@ pub classes :
     × (declaredType rows 90 0 9 ≡ some 3)
 unfolding rows declaredType classOf fromSuffix fromTypeRef typedVar visible shares find key
 classes = (refl, refl, refl, refl, refl, refl, refl, refl)
-
--- whole names, with their suffix
-pub names :
-    (builtin (ascii "MID$") ≡ some (takes "MID$" 2 3))
-    × (builtin (ascii "TIMER") ≡ some (takes "TIMER" 0 1))
-    × (isBuiltin (ascii "MID") ≡ false)
-    × (isBuiltin (ascii "ABS%") ≡ false)
-    × (isBuiltin (ascii "AB") ≡ false)
-    × (isBuiltin [] ≡ false)
-unfolding builtin isBuiltin entryOf builtins takes ascii same
-names = (refl, refl, refl, refl, refl, refl)

@@ -11,7 +11,7 @@ use lib.Dec.{eqb}
 use lib.ListN.{length, take, drop, getD, set, length-append, length-take, length-drop, List·getD-eq-default}
 use lib.Seq.{sets, take-suc, take-add, getD-drop, take-all, take-take, take-nil, drop-nil, drop-drop, drop-append-add, take-append-seam, length-take-le}
 use Rattle.words.specs.Word.{flatten}
-use Rattle.words.specs.Laws.{PastArms, beyond}
+use Rattle.words.specs.Laws.{PastArms, past-arms, beyond}
 use Rattle.text.specs.Text.{ascii, decimal}
 use Rattle.text.specs.Wrote.{Wrote}
 use Rattle.text.specs.Laws.{nothing, then, same, fits, copied-more}
@@ -227,9 +227,9 @@ row-fits c s e t p q h =
     omega (arith, k, row-length c s e p q)
 
 -- past the last code there is no template
-pub no-text : (c : ℕ) (t : List ℕ) → PastArms 0 29 c → take (length (getD table c [])) t ≡ getD table c []
-no-text c t h =
-    let l : 29 ≤ c = beyond 29 c h in
+pub no-text : (c : ℕ) (t : List ℕ) → 20 ≤ c → PastArms 20 9 c → take (length (getD table c [])) t ≡ getD table c []
+no-text c t h b =
+    let l : 29 ≤ c = past-arms 20 9 c h b in
     let e : getD table c [] ≡ [] = List·getD-eq-default table [] (omega (arith, many)) in
     rw e
 

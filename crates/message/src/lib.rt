@@ -27,76 +27,90 @@ pub struct Diag {
     pub note: u32,
 }
 
-// The templates by their codes, each with blanks behind it; there is no code 0. A row of 128 bytes is moved in eight wide steps.
-const TEXTS: [[u8; 128]; 29] = [
-    [b' '; 128],
-    *b"duplicate line number #                                                                                                         ",
-    *b"duplicate label '@'                                                                                                             ",
-    *b"TYPE '@' is already defined\nN previous definition is on line ^                                                                  ",
-    *b"TYPE '@' must be defined at module level                                                                                        ",
-    *b"field '@' is declared twice in TYPE '&'                                                                                         ",
-    *b"TYPE '@' cannot contain itself                                                                                                  ",
-    *b"field '@' uses undefined TYPE '&'                                                                                               ",
-    *b"OPTION BASE may appear only once                                                                                                ",
-    *b"OPTION BASE must come before any DIM                                                                                            ",
-    *b"'@' is already defined                                                                                                          ",
-    *b"Overflow: CONST '@' does not fit its type                                                                                       ",
-    *b"CONST '@' must have a constant value                                                                                            ",
-    *b"$ belongs inside a SUB or FUNCTION                                                                                              ",
-    *b"DIM SHARED belongs at module level; inside a procedure, use SHARED                                                              ",
-    *b"'@' is declared AS a different type than its name's suffix                                                                      ",
-    *b"undefined TYPE '@'                                                                                                              ",
-    *b"'@' is already declared                                                                                                         ",
-    *b"array '@' needs at least one dimension                                                                                          ",
-    *b"array '@' is already declared                                                                                                   ",
-    *b"REDIM PRESERVE of '@' must keep its # dimension%; only the last one's upper bound may change                                    ",
-    *b"REDIM of '@' must keep its # dimension%                                                                                         ",
-    *b"parameter '@' of '&' is declared AS STRING * #, but a parameter must be a variable-length string\nN declare it @ AS STRING       ",
-    *b"the result of '@' is declared AS STRING * #, but a FUNCTION's result must be a variable-length string\nN declare it AS STRING    ",
-    *b"'@' cannot be defined inside another procedure                                                                                  ",
-    *b"'@' is already defined\nN previous definition is on line ^                                                                       ",
-    *b"parameter '@' uses undefined TYPE '&'                                                                                           ",
-    *b"'@' is declared both as an array and as a !\nN the ! is on line ^                                                                ",
-    *b"'@' is the name of a built-in function and cannot also be an array                                                              ",
-];
-
-// The row of a code. The table is read at literal places only: so the compiler stores the one row, where a table that is read
-// at a computed place is stored whole.
+// The template of a code with blanks behind it; there is no code 0. A row of 128 bytes is moved in eight wide steps. Each is a literal of
+// its own: so the compiler stores the one row, where a table that is read at a computed place is stored whole.
 fn text_of(code: usize) -> [u8; 128]
     ensures { λ r. ⌜ take (length (getD table code [])) r ≡ getD table code [] ⌝ }
 {
-    let t = TEXTS;
     match code {
-        0 => t[0],
-        1 => t[1],
-        2 => t[2],
-        3 => t[3],
-        4 => t[4],
-        5 => t[5],
-        6 => t[6],
-        7 => t[7],
-        8 => t[8],
-        9 => t[9],
-        10 => t[10],
-        11 => t[11],
-        12 => t[12],
-        13 => t[13],
-        14 => t[14],
-        15 => t[15],
-        16 => t[16],
-        17 => t[17],
-        18 => t[18],
-        19 => t[19],
-        20 => t[20],
-        21 => t[21],
-        22 => t[22],
-        23 => t[23],
-        24 => t[24],
-        25 => t[25],
-        26 => t[26],
-        27 => t[27],
-        28 => t[28],
-        _ => t[0],
+        0 => [b' '; 128],
+        1 =>
+            *b"duplicate line number #                                                                                                         ",
+        2 =>
+            *b"duplicate label '@'                                                                                                             ",
+        3 =>
+            *b"TYPE '@' is already defined\nN previous definition is on line ^                                                                  ",
+        4 =>
+            *b"TYPE '@' must be defined at module level                                                                                        ",
+        5 =>
+            *b"field '@' is declared twice in TYPE '&'                                                                                         ",
+        6 =>
+            *b"TYPE '@' cannot contain itself                                                                                                  ",
+        7 =>
+            *b"field '@' uses undefined TYPE '&'                                                                                               ",
+        8 =>
+            *b"OPTION BASE may appear only once                                                                                                ",
+        9 =>
+            *b"OPTION BASE must come before any DIM                                                                                            ",
+        _ => later_text(code),
+    }
+}
+
+// the templates from 10 on
+fn later_text(code: usize) -> [u8; 128]
+    requires { ⌜ 10 ≤ code ⌝ }
+    ensures { λ r. ⌜ take (length (getD table code [])) r ≡ getD table code [] ⌝ }
+{
+    match code {
+        10 =>
+            *b"'@' is already defined                                                                                                          ",
+        11 =>
+            *b"Overflow: CONST '@' does not fit its type                                                                                       ",
+        12 =>
+            *b"CONST '@' must have a constant value                                                                                            ",
+        13 =>
+            *b"$ belongs inside a SUB or FUNCTION                                                                                              ",
+        14 =>
+            *b"DIM SHARED belongs at module level; inside a procedure, use SHARED                                                              ",
+        15 =>
+            *b"'@' is declared AS a different type than its name's suffix                                                                      ",
+        16 =>
+            *b"undefined TYPE '@'                                                                                                              ",
+        17 =>
+            *b"'@' is already declared                                                                                                         ",
+        18 =>
+            *b"array '@' needs at least one dimension                                                                                          ",
+        19 =>
+            *b"array '@' is already declared                                                                                                   ",
+        _ => last_text(code),
+    }
+}
+
+// the templates from 20 on
+fn last_text(code: usize) -> [u8; 128]
+    requires { ⌜ 20 ≤ code ⌝ }
+    ensures { λ r. ⌜ take (length (getD table code [])) r ≡ getD table code [] ⌝ }
+{
+    match code {
+        20 =>
+            *b"REDIM PRESERVE of '@' must keep its # dimension%; only the last one's upper bound may change                                    ",
+        21 =>
+            *b"REDIM of '@' must keep its # dimension%                                                                                         ",
+        22 =>
+            *b"parameter '@' of '&' is declared AS STRING * #, but a parameter must be a variable-length string\nN declare it @ AS STRING       ",
+        23 =>
+            *b"the result of '@' is declared AS STRING * #, but a FUNCTION's result must be a variable-length string\nN declare it AS STRING    ",
+        24 =>
+            *b"'@' cannot be defined inside another procedure                                                                                  ",
+        25 =>
+            *b"'@' is already defined\nN previous definition is on line ^                                                                       ",
+        26 =>
+            *b"parameter '@' uses undefined TYPE '&'                                                                                           ",
+        27 =>
+            *b"'@' is declared both as an array and as a !\nN the ! is on line ^                                                                ",
+        28 =>
+            *b"'@' is the name of a built-in function and cannot also be an array                                                              ",
+        _ => [b' '; 128],
     }
 }
 

@@ -20,7 +20,7 @@ abbrev pub byRef : Option Row → Bool
 byRef none = false
 byRef (some r) = isScalar (getD r 3 0) (getD r 4 0)  -- row 136's words 3 and 4: marks, type's head
 
--- `is_some` (the one of lookup/specs/Builtins.antt, for arrays)
+-- `is_some` (the one of builtins/specs/Builtins.antt, for arrays)
 abbrev pub isSome : Option ArrayInfo → Bool
 isSome none = false
 isSome (some a) = true

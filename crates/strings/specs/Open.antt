@@ -24,7 +24,7 @@ pub record Said (bytes ends : List ℕ) (v : Verdict) : Type 0 where
   pub is : v ≡ verdictOf at (sound bytes ends)
 
 -- How every entry begins: 5 where something is over its size, then 1, whose place is `at`, then the rest of its checks and its work.
--- (`entryOf` of lookup/specs/Builtins.antt finds a builtin.)
+-- (`entryOf` of builtins/specs/Builtins.antt finds a builtin.)
 unfoldable pub entryOf : {A : Type 0} → (sized : Bool) → (at : ℕ) → List ℕ → List ℕ → Told A → Told A
 entryOf sized at bytes ends t = unless sized 5 0 (unless (sound bytes ends) 1 at t)
 

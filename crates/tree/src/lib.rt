@@ -92,48 +92,6 @@ const FIELDS: [[u8; 6]; 54] = [
     [9, 35, 3, 0, 0, 0],
 ];
 
-const PARTS: [[u8; 6]; 39] = [
-    [9, 0, 0, 0, 0, 0],
-    [64, 0, 0, 0, 0, 0],
-    [1, 0, 0, 0, 0, 0],
-    [1, 17, 66, 0, 0, 0],
-    [10, 0, 0, 0, 0, 0],
-    [68, 0, 0, 0, 0, 0],
-    [2, 0, 0, 0, 0, 0],
-    [11, 0, 0, 0, 0, 0],
-    [12, 0, 0, 0, 0, 0],
-    [16, 0, 0, 0, 0, 0],
-    [1, 17, 73, 24, 0, 0],
-    [1, 3, 3, 24, 0, 0],
-    [1, 3, 24, 0, 0, 0],
-    [1, 12, 0, 0, 0, 0],
-    [9, 115, 0, 0, 0, 0],
-    [2, 3, 0, 0, 0, 0],
-    [5, 5, 0, 0, 0, 0],
-    [13, 0, 0, 0, 0, 0],
-    [14, 0, 0, 0, 0, 0],
-    [9, 16, 0, 0, 0, 0],
-    [82, 0, 0, 0, 0, 0],
-    [36, 68, 0, 0, 0, 0],
-    [4, 0, 0, 0, 0, 0],
-    [1, 0, 0, 0, 0, 0],
-    [0, 0, 0, 0, 0, 0],
-    [0, 0, 0, 0, 0, 0],
-    [0, 0, 0, 0, 0, 0],
-    [0, 0, 0, 0, 0, 0],
-    [4, 0, 0, 0, 0, 0],
-    [1, 0, 0, 0, 0, 0],
-    [9, 0, 0, 0, 0, 0],
-    [0, 0, 0, 0, 0, 0],
-    [0, 0, 0, 0, 0, 0],
-    [9, 0, 0, 0, 0, 0],
-    [9, 9, 0, 0, 0, 0],
-    [8, 9, 0, 0, 0, 0],
-    [0, 0, 0, 0, 0, 0],
-    [0, 0, 0, 0, 0, 0],
-    [11, 0, 0, 0, 0, 0],
-];
-
 // six numbers in one, in base 256, the first lowest
 fn join(a: u8, b: u8, c: u8, d: u8, e: u8, f: u8) -> u64
     ensures { λ r. ⌜ r ≡ joined a b c d e f ⌝ }
@@ -149,68 +107,66 @@ fn six(f: [u8; 6]) -> u64
     join(f[0], f[1], f[2], f[3], f[4], f[5])
 }
 
-// A row of `PARTS` in one number, 0 past the last. The table is read at literal places only: so the compiler can hold the
-// answers in read-only memory, where a table that is read at a computed place is stored anew at every call.
+// The fields of a part in one number, 0 past the last part.
 fn part(row: usize) -> u64
     ensures { λ r. ⌜ r ≡ pack (getD partCodes row []) ⌝ }
 {
-    let t = PARTS;
     match row {
-        0 => six(t[0]),
-        1 => six(t[1]),
-        2 => six(t[2]),
-        3 => six(t[3]),
-        4 => six(t[4]),
-        5 => six(t[5]),
-        6 => six(t[6]),
-        7 => six(t[7]),
-        8 => six(t[8]),
-        9 => six(t[9]),
-        10 => six(t[10]),
-        11 => six(t[11]),
-        12 => six(t[12]),
-        13 => six(t[13]),
-        14 => six(t[14]),
-        15 => six(t[15]),
-        16 => six(t[16]),
-        17 => six(t[17]),
-        18 => six(t[18]),
-        19 => six(t[19]),
+        0 => join(9, 0, 0, 0, 0, 0),
+        1 => join(64, 0, 0, 0, 0, 0),
+        2 => join(1, 0, 0, 0, 0, 0),
+        3 => join(1, 17, 66, 0, 0, 0),
+        4 => join(10, 0, 0, 0, 0, 0),
+        5 => join(68, 0, 0, 0, 0, 0),
+        6 => join(2, 0, 0, 0, 0, 0),
+        7 => join(11, 0, 0, 0, 0, 0),
+        8 => join(12, 0, 0, 0, 0, 0),
+        9 => join(16, 0, 0, 0, 0, 0),
+        10 => join(1, 17, 73, 24, 0, 0),
+        11 => join(1, 3, 3, 24, 0, 0),
+        12 => join(1, 3, 24, 0, 0, 0),
+        13 => join(1, 12, 0, 0, 0, 0),
+        14 => join(9, 115, 0, 0, 0, 0),
+        15 => join(2, 3, 0, 0, 0, 0),
+        16 => join(5, 5, 0, 0, 0, 0),
+        17 => join(13, 0, 0, 0, 0, 0),
+        18 => join(14, 0, 0, 0, 0, 0),
+        19 => join(9, 16, 0, 0, 0, 0),
         _ => later_part(row),
     }
 }
 
-// the rows of `PARTS` from 20 on
+// the parts from 20 on
 fn later_part(row: usize) -> u64
     requires { ⌜ 20 ≤ row ⌝ }
     ensures { λ r. ⌜ r ≡ pack (getD partCodes row []) ⌝ }
 {
-    let t = PARTS;
     match row {
-        20 => six(t[20]),
-        21 => six(t[21]),
-        22 => six(t[22]),
-        23 => six(t[23]),
-        24 => six(t[24]),
-        25 => six(t[25]),
-        26 => six(t[26]),
-        27 => six(t[27]),
-        28 => six(t[28]),
-        29 => six(t[29]),
-        30 => six(t[30]),
-        31 => six(t[31]),
-        32 => six(t[32]),
-        33 => six(t[33]),
-        34 => six(t[34]),
-        35 => six(t[35]),
-        36 => six(t[36]),
-        37 => six(t[37]),
-        38 => six(t[38]),
+        20 => join(82, 0, 0, 0, 0, 0),
+        21 => join(36, 68, 0, 0, 0, 0),
+        22 => join(4, 0, 0, 0, 0, 0),
+        23 => join(1, 0, 0, 0, 0, 0),
+        24 => join(0, 0, 0, 0, 0, 0),
+        25 => join(0, 0, 0, 0, 0, 0),
+        26 => join(0, 0, 0, 0, 0, 0),
+        27 => join(0, 0, 0, 0, 0, 0),
+        28 => join(4, 0, 0, 0, 0, 0),
+        29 => join(1, 0, 0, 0, 0, 0),
+        30 => join(9, 0, 0, 0, 0, 0),
+        31 => join(0, 0, 0, 0, 0, 0),
+        32 => join(0, 0, 0, 0, 0, 0),
+        33 => join(9, 0, 0, 0, 0, 0),
+        34 => join(9, 9, 0, 0, 0, 0),
+        35 => join(8, 9, 0, 0, 0, 0),
+        36 => join(0, 0, 0, 0, 0, 0),
+        37 => join(0, 0, 0, 0, 0, 0),
+        38 => join(11, 0, 0, 0, 0, 0),
         _ => 0,
     }
 }
 
-// A row of `FIELDS`, in the same way: the fields of a kind of statement.
+// A row of `FIELDS` in one number, 0 past the last: the fields of a kind of statement. The table is read at literal places only: so the
+// compiler can hold the answers in read-only memory, where a table that is read at a computed place is stored anew at every call.
 fn fields(kind: usize) -> u64
     ensures { λ r. ⌜ r ≡ pack (getD stmtCodes kind []) ⌝ }
 {

@@ -11,8 +11,8 @@ use Rattle.words.specs.Refusals.{refused}
 use Rattle.strings.specs.Open.{Answers}
 use Rattle.strings.specs.Table.{stringAt, namesOf}
 use Rattle.lent.specs.Rules.{isMarked}
-use Rattle.lookup.specs.Builtins.{builtin}
-use Rattle.lookup.specs.Answers.{argumentsOf}
+use Rattle.builtins.specs.Builtins.{builtin}
+use Rattle.builtins.specs.Answers.{argumentsOf}
 use Rattle.leaves.specs.Leaves.{sized, builtinAt}
 use Rattle.leaves.specs.Entries.{tellGate, Passes}
 use Rattle.leaves.specs.declared.Gate.{Gate}

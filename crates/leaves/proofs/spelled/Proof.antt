@@ -4,8 +4,8 @@ use Prim.Native.Nat.{ℕ, _-_}
 use native.Mathlib.Omega.{arith}
 use lib.ListN.{take, drop, getD}
 use Rattle.strings.specs.Table.{stringAt}
-use Rattle.lookup.specs.Builtins.{builtin}
-use Rattle.lookup.specs.Answers.{argumentsOf}
+use Rattle.builtins.specs.Builtins.{builtin}
+use Rattle.builtins.specs.Answers.{argumentsOf}
 use Rattle.leaves.proofs.Laws.{Spelled, spelled}
 use borrow.Author.Needs.{needs}
 use Rattle.leaves.proofs.spelled.Statement.{statement}

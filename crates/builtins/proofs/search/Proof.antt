@@ -3,12 +3,12 @@ use mathlib.Core.Path.{_≡_, refl, sym, ap, _∙_}
 use Prim.Native.Nat.{ℕ, _-_, _≤_}
 use native.Mathlib.Omega.{arith}
 use lib.ListN.{drop}
-use Rattle.lookup.specs.Builtins.{builtins, entryOf, builtin}
-use Rattle.lookup.specs.Answers.{argumentsOf}
-use Rattle.lookup.proofs.Names.{entryAt, cell-least, cell-most, entry-here, entry-next, entry-end}
-use Rattle.lookup.specs.declared.Arguments.the-variants.{Takes}
-use Rattle.lookup.proofs.search.Statement.{statement}
-use Rattle.lookup.proofs.search.Tie as tie
+use Rattle.builtins.specs.Builtins.{builtins, entryOf, builtin}
+use Rattle.builtins.specs.Answers.{argumentsOf}
+use Rattle.builtins.proofs.Names.{entryAt, cell-least, cell-most, entry-here, entry-next, entry-end}
+use Rattle.builtins.specs.declared.Arguments.the-variants.{Takes}
+use Rattle.builtins.proofs.search.Statement.{statement}
+use Rattle.builtins.proofs.search.Tie as tie
 
 abbrev Inv-loop : tie.InvT-loop
 Inv-loop name table i₀ i = (i ≤ 55) × (builtin name ≡ entryOf name (drop i builtins))

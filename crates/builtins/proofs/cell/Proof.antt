@@ -4,12 +4,12 @@ use mathlib.Core.List.{List}
 use Prim.Native.Nat.{ℕ, _+_, _*_}
 use native.Mathlib.Omega.{arith}
 use lib.ListN.{length, getD}
-use Rattle.lookup.proofs.Names.{flat-length, cell-at}
+use Rattle.builtins.proofs.Names.{flat-length, cell-at}
 use borrow.Author.Needs.{needs}
-use Rattle.lookup.proofs.cell.Statement.{statement}
-use Rattle.lookup.proofs.cell.Tie as tie
-use Rattle.lookup.proofs.cell.Reads as reads
-use Rattle.lookup.proofs.cell.Lts as lts
+use Rattle.builtins.proofs.cell.Statement.{statement}
+use Rattle.builtins.proofs.cell.Tie as tie
+use Rattle.builtins.proofs.cell.Reads as reads
+use Rattle.builtins.proofs.cell.Lts as lts
 
 -- src/lib.rt:304:11
 mul-result : tie.Need-mul-result

@@ -1,10 +1,10 @@
 -- `may_be` by its tests, in turn: the length, then what the first byte asks of it. Assumes nothing.
 use mathlib.Core.Path.{_∙_}
 use borrow.Author.Tests.{le-leb, lt-leb}
-use Rattle.lookup.specs.Builtins.{mayBe}
+use Rattle.builtins.specs.Builtins.{mayBe}
 use borrow.Author.Needs.{needs}
-use Rattle.lookup.proofs.may_be.Statement.{statement}
-use Rattle.lookup.proofs.may_be.Tie as tie
+use Rattle.builtins.proofs.may_be.Statement.{statement}
+use Rattle.builtins.proofs.may_be.Tie as tie
 
 returns : tie.Need-returns
 unfolding mayBe

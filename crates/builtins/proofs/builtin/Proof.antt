@@ -3,12 +3,12 @@ use mathlib.Core.Path.{refl, sym, ap, _∙_}
 use borrow.Author.Tests.{not-true}
 use Rattle.words.specs.Word.{flatten}
 use Rattle.text.specs.Text.{ascii}
-use Rattle.lookup.specs.Builtins.{cells, builtins, takes, cellsOf}
-use Rattle.lookup.specs.Answers.{argumentsOf}
-use Rattle.lookup.proofs.Names.{no-builtin}
+use Rattle.builtins.specs.Builtins.{cells, builtins, takes, cellsOf}
+use Rattle.builtins.specs.Answers.{argumentsOf}
+use Rattle.builtins.proofs.Names.{no-builtin}
 use borrow.Author.Needs.{needs}
-use Rattle.lookup.proofs.builtin.Statement.{statement}
-use Rattle.lookup.proofs.builtin.Tie as tie
+use Rattle.builtins.proofs.builtin.Statement.{statement}
+use Rattle.builtins.proofs.builtin.Tie as tie
 
 may-be-requires : tie.Need-may-be-requires
 may-be-requires c κs = search needs

@@ -12,9 +12,8 @@ use lib.ListN.{length, drop, getD, replicate, List·getD-append, drop-of-length-
 use lib.Seq.{drop-cons, getD-append-add}
 use borrow.Author.Tests.{leb-true, eq-eqb, ne-eqb, eqb-true}
 use Rattle.words.specs.Word.{pick, flatten}
-use Rattle.table.specs.Laws.{pick-true, pick-false}
 use Rattle.text.specs.Text.{ascii}
-use Rattle.lookup.specs.Builtins.{Builtin, takes, builtins, same, entryOf, builtin, cellsOf, cells, nameAt, lengthFits, mayBe}
+use Rattle.builtins.specs.Builtins.{Builtin, takes, builtins, same, entryOf, builtin, cellsOf, cells, nameAt, lengthFits, mayBe}
 
 -- ---- the entries
 
@@ -185,11 +184,11 @@ module _ (name : List ℕ) (i : ℕ) (h : i < 55) where
 
   -- builtin i has the name: it is the one
   pub entry-here : same name (nameAt i) ≡ true → entryOf name (drop i builtins) ≡ some (entryAt i)
-  entry-here e = entry-step ∙ pick-true (some (entryAt i)) (entryOf name (drop (i + 1) builtins)) e
+  entry-here e = entry-step ∙ ap (λ (t : Bool). pick t (some (entryAt i)) (entryOf name (drop (i + 1) builtins))) e
 
   -- it has another: those after it are searched
   pub entry-next : same name (nameAt i) ≡ false → entryOf name (drop i builtins) ≡ entryOf name (drop (i + 1) builtins)
-  entry-next e = entry-step ∙ pick-false (some (entryAt i)) (entryOf name (drop (i + 1) builtins)) e
+  entry-next e = entry-step ∙ ap (λ (t : Bool). pick t (some (entryAt i)) (entryOf name (drop (i + 1) builtins))) e
 
 -- past the last there is none
 pub entry-end : (name : List ℕ) (i : ℕ) → 55 ≤ i → entryOf name (drop i builtins) ≡ none

@@ -1,10 +1,10 @@
 -- `length_fits` by cases. Assumes nothing.
 use mathlib.Core.Path.{_∙_}
 use borrow.Author.Tests.{ne-eqb}
-use Rattle.lookup.specs.Builtins.{lengthFits}
+use Rattle.builtins.specs.Builtins.{lengthFits}
 use borrow.Author.Needs.{needs}
-use Rattle.lookup.proofs.length_fits.Statement.{statement}
-use Rattle.lookup.proofs.length_fits.Tie as tie
+use Rattle.builtins.proofs.length_fits.Statement.{statement}
+use Rattle.builtins.proofs.length_fits.Tie as tie
 
 is-either-requires : tie.Need-is-either-requires
 is-either-requires c κs = search needs

@@ -3,10 +3,10 @@ use mathlib.Core.Path.{_≡_, refl, sym, _∙_}
 use Prim.Native.Nat.{_-_, _≤_}
 use native.Mathlib.Omega.{arith}
 use lib.ListN.{length, drop, getD}
-use Rattle.lookup.specs.Builtins.{same, nameAt}
-use Rattle.lookup.proofs.Names.{cell-length, name-short, cell-byte, same-length, same-more, same-no, same-end}
-use Rattle.lookup.proofs.is_named.Statement.{statement}
-use Rattle.lookup.proofs.is_named.Tie as tie
+use Rattle.builtins.specs.Builtins.{same, nameAt}
+use Rattle.builtins.proofs.Names.{cell-length, name-short, cell-byte, same-length, same-more, same-no, same-end}
+use Rattle.builtins.proofs.is_named.Statement.{statement}
+use Rattle.builtins.proofs.is_named.Tie as tie
 
 abbrev Inv-loop : tie.InvT-loop
 Inv-loop name table i n j₀ j = (j ≤ n) × (same name (nameAt i) ≡ same (drop j name) (drop j (nameAt i)))

@@ -1,7 +1,7 @@
 -- `is_either` by its two tests, in turn. Assumes nothing.
 use borrow.Author.Tests.{eq-eqb, ne-eqb}
-use Rattle.lookup.proofs.is_either.Statement.{statement}
-use Rattle.lookup.proofs.is_either.Tie as tie
+use Rattle.builtins.proofs.is_either.Statement.{statement}
+use Rattle.builtins.proofs.is_either.Tie as tie
 
 returns : tie.Need-returns
 returns c = simp (eq-eqb _ _ (c .if1 .taken))

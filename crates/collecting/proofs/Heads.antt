@@ -1,21 +1,25 @@
 -- A statement by its head word: which one it is, and that those of no arm of the match do nothing. Assumes nothing.
 use Prim.Native.Nat.{ℕ, _+_, _-_, _≤_}
 use native.Mathlib.Omega.{arith}
-use mathlib.Core.Path.{_≡_, refl, sym, subst}
+use mathlib.Core.Path.{_≡_, refl, sym, ap, subst}
+use mathlib.Core.Bool.{true}
 use mathlib.Core.List.{List}
 use mathlib.Core.Option.{some}
 use lib.ListN.{length, getD}
+use borrow.Author.Tests.{ne-eqb}
 use Rattle.words.specs.Word.{kindOf}
 use Rattle.expr.specs.Expr.{Expr}
-use Rattle.tree.specs.Sorts.{stmt, Kind, sorts, kindAt, numberOf, label, labelName, let′, print, input, lineInput, if, for, while, doLoop, goto, gosub, return, onGoto, onGosub, dim, declare, shared, static, redim, sub, function, call, midAssign, swap, const, exitLoop, exitProc, optionBase, typeDef, fieldAssign, data′, read, defType, beep, erase, raiseError, onError, resume, locate, color, randomize, restore, cls, selectCase, end′, stop, open′, close, width, field′, setField, getPut, lock}
+use Rattle.tree.specs.Sorts.{stmt, Kind, sorts, kindAt, numberOf}
+use Rattle.tree.specs.KindLaws.{noneOf}
 use Rattle.tree.specs.Tree.{one, row, Tree, Stmt, depthT, over}
 use Rattle.tree.specs.Stands.{Stands}
-use Rattle.views.specs.View.{view}
+use Rattle.views.specs.View.{View, view}
+use Rattle.views.specs.KindLaws.{viewKinds, view-other}
 use Rattle.steps.specs.State.{State}
 use Rattle.steps.specs.Held.{Fit}
 use Rattle.steps.specs.Compose.{same, nothing-does}
 use Rattle.steps.specs.declared.Counts.{Counts}
-use Rattle.collect.specs.Seen.{see}
+use Rattle.collect.specs.Seen.{Seen, see}
 use Rattle.collect.specs.Collect.{Given, given, statement}
 use Rattle.collect.specs.Code.{Collects}
 use Rattle.procedures.specs.Post.{StmtTo}
@@ -56,63 +60,14 @@ pub record Quiet (j : ℕ) : Type 0 where
   pub no-optionBase : j ≡ 28 → ⊥
   pub no-typeDef : j ≡ 29 → ⊥
 
+none-shown : (k : Kind) → Quiet (numberOf k) → noneOf viewKinds k ≡ true
+unfolding noneOf viewKinds numberOf
+none-shown k q = rw (ne-eqb (numberOf k) 0 (q .no-label), ne-eqb (numberOf k) 1 (q .no-labelName), ne-eqb (numberOf k) 15 (q .no-dim), ne-eqb (numberOf k) 17 (q .no-shared), ne-eqb (numberOf k) 18 (q .no-static), ne-eqb (numberOf k) 19 (q .no-redim), ne-eqb (numberOf k) 20 (q .no-sub), ne-eqb (numberOf k) 21 (q .no-function), ne-eqb (numberOf k) 25 (q .no-const), ne-eqb (numberOf k) 28 (q .no-optionBase), ne-eqb (numberOf k) 29 (q .no-typeDef)) refl
+
 -- a statement of such a kind leaves the state
 pub quiet : (G : Given) (scope line : ℕ) (k : Kind) (r : Tree Expr (row (sorts k))) → Quiet (numberOf k) → (st : State) → st ≡ statement G scope line (view k (over see r)) st
-unfolding sorts view statement numberOf
-quiet G scope line label r q st = absurd (q .no-label refl)
-quiet G scope line labelName r q st = absurd (q .no-labelName refl)
-quiet G scope line let′ r q st = refl
-quiet G scope line print r q st = refl
-quiet G scope line input r q st = refl
-quiet G scope line lineInput r q st = refl
-quiet G scope line if r q st = refl
-quiet G scope line for r q st = refl
-quiet G scope line while r q st = refl
-quiet G scope line doLoop r q st = refl
-quiet G scope line goto r q st = refl
-quiet G scope line gosub r q st = refl
-quiet G scope line return r q st = refl
-quiet G scope line onGoto r q st = refl
-quiet G scope line onGosub r q st = refl
-quiet G scope line dim r q st = absurd (q .no-dim refl)
-quiet G scope line declare r q st = refl
-quiet G scope line shared r q st = absurd (q .no-shared refl)
-quiet G scope line static r q st = absurd (q .no-static refl)
-quiet G scope line redim r q st = absurd (q .no-redim refl)
-quiet G scope line sub r q st = absurd (q .no-sub refl)
-quiet G scope line function r q st = absurd (q .no-function refl)
-quiet G scope line call r q st = refl
-quiet G scope line midAssign r q st = refl
-quiet G scope line swap r q st = refl
-quiet G scope line const r q st = absurd (q .no-const refl)
-quiet G scope line exitLoop r q st = refl
-quiet G scope line exitProc r q st = refl
-quiet G scope line optionBase r q st = absurd (q .no-optionBase refl)
-quiet G scope line typeDef r q st = absurd (q .no-typeDef refl)
-quiet G scope line fieldAssign r q st = refl
-quiet G scope line data′ r q st = refl
-quiet G scope line read r q st = refl
-quiet G scope line defType r q st = refl
-quiet G scope line beep r q st = refl
-quiet G scope line erase r q st = refl
-quiet G scope line raiseError r q st = refl
-quiet G scope line onError r q st = refl
-quiet G scope line resume r q st = refl
-quiet G scope line locate r q st = refl
-quiet G scope line color r q st = refl
-quiet G scope line randomize r q st = refl
-quiet G scope line restore r q st = refl
-quiet G scope line cls r q st = refl
-quiet G scope line selectCase r q st = refl
-quiet G scope line end′ r q st = refl
-quiet G scope line stop r q st = refl
-quiet G scope line open′ r q st = refl
-quiet G scope line close r q st = refl
-quiet G scope line width r q st = refl
-quiet G scope line field′ r q st = refl
-quiet G scope line setField r q st = refl
-quiet G scope line getPut r q st = refl
-quiet G scope line lock r q st = refl
+unfolding statement
+quiet G scope line k r q st = ap (λ (v : View Seen). statement G scope line v st) (sym (view-other k (none-shown k q) (over see r)))
 
 -- so nothing needs to be done for it
 pub nothing-said : {ws ns : List ℕ} {n : ℕ} {bytes ends erased : List ℕ} {scope at : ℕ} {s : Counts} {b d : List ℕ} → Fit s (length b) (length d) → Quiet (kindOf (getD ws at 0) - 64) → Stated ws ns n bytes ends erased scope at s s b d b d

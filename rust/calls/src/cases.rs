@@ -51,7 +51,7 @@ const OVER_ROWS: [Entry; 12] = [
 const DIRT: u32 = 0xdead_beef;
 
 /// A word of a kind that is none.
-const WRONG: u32 = 99 << 24 | 1;
+const WRONG: u32 = 200 << 24 | 1;
 const LITERAL: [u32; 3] = [16 << 24, 24 << 24, 5];
 const PAREN: u32 = 23 << 24;
 const LOOP: u32 = 73 << 24;
@@ -63,6 +63,7 @@ pub fn all() -> Vec<Case> {
     pairs_of_causes(&mut to);
     sizes(&mut to);
     places(&mut to);
+    whole_trees(&mut to);
     depths(&mut to);
     rules(&mut to);
     orders_and_tails(&mut to);
@@ -75,6 +76,7 @@ pub fn all() -> Vec<Case> {
     collisions(&mut to);
     collecting(&mut to);
     resolving(&mut to);
+    gaps(&mut to);
     analysing(&mut to);
     to
 }
@@ -344,6 +346,40 @@ fn places(to: &mut Vec<Case>) {
     raw.tree = vec![DIRT, 16 << 24, 27 << 24, 0, 0x7ff0_0000, DIRT];
     for entry in [Entry::ReadExpression, Entry::Expression, Entry::ConstEval] {
         to.push(Case::new(format!("infinite, {entry:?}"), entry, &[1], &raw));
+    }
+}
+
+// ---- R-REF-03: no words, an early end, words over and a wrong word, in the entries that take a whole tree
+
+fn whole_trees(to: &mut Vec<Case>) {
+    let raw = program("(program (Let line=3 name=A value=5) (Cls line=4))");
+    let size = raw.tree.len();
+    let mut trees: Vec<(String, Vec<u32>)> = (0..size)
+        .map(|n| (format!("{n} of {size} words"), raw.tree[..n].to_vec()))
+        .collect();
+    for over in [vec![0], vec![CLS], vec![WRONG], vec![DIRT; 3]] {
+        let label = format!("{} words over, {:x}", over.len(), over[0]);
+        trees.push((label, [raw.tree.clone(), over].concat()));
+    }
+    // wrong everywhere but as the Integer's value, which any word is
+    for at in 0..size {
+        let mut tree = raw.tree.clone();
+        tree[at] = WRONG;
+        trees.push((format!("{WRONG:x} at {at}"), tree));
+    }
+    for (label, tree) in trees {
+        for entry in [
+            Entry::Accept,
+            Entry::SubscriptCount,
+            Entry::Collect,
+            Entry::ResolveArrayAccesses,
+            Entry::Analyse,
+        ] {
+            let mut case = right(format!("{label}, {entry:?}"), entry, &raw);
+            case.raw.tree = tree.clone();
+            case.out = vec![DIRT; size + 4];
+            to.push(case);
+        }
     }
 }
 
@@ -1058,6 +1094,22 @@ fn collecting(to: &mut Vec<Case>) {
     }
 }
 
+/// Where they stand in a program of a LET and a CALL, and how long they are: the value of the first, and the list of the second's arguments.
+fn value_and_list(raw: &Raw) -> [(Entry, usize, usize); 2] {
+    let strings = raw.strings().expect("a right table");
+    let at = 4;
+    let (_, end) = oracle::codec::expression_at(&raw.tree, at, &strings).expect("the value");
+    let call = (end..raw.tree.len())
+        .find(|at| oracle::codec::statement_at(&raw.tree, *at, &strings).is_ok())
+        .expect("the CALL")
+        + 2;
+    let (_, past) = oracle::codec::expressions_at(&raw.tree, call, &strings).expect("its list");
+    [
+        (Entry::ResolveExpr, at, end - at),
+        (Entry::ResolveArgs, call, past - call),
+    ]
+}
+
 // ---- R-REF-08, R-RES-10: outputs of each length about the tree's, with many parentheses, dirty behind what is written
 
 fn resolving(to: &mut Vec<Case>) {
@@ -1088,19 +1140,7 @@ fn resolving(to: &mut Vec<Case>) {
             to.push(case);
         }
     }
-    // the value of the first statement, and the list of the CALL's arguments
-    let strings = raw.strings().expect("a right table");
-    let at = 4;
-    let (_, end) = oracle::codec::expression_at(&raw.tree, at, &strings).expect("the value");
-    let call = (end..size)
-        .find(|at| oracle::codec::statement_at(&raw.tree, *at, &strings).is_ok())
-        .expect("the CALL")
-        + 2;
-    let (_, past) = oracle::codec::expressions_at(&raw.tree, call, &strings).expect("its list");
-    for (entry, at, size) in [
-        (Entry::ResolveExpr, at, end - at),
-        (Entry::ResolveArgs, call, past - call),
-    ] {
+    for (entry, at, size) in value_and_list(&raw) {
         for scope in [0, n("S") + 1, n("F") + 1] {
             for name in [n("F"), n("A"), n("X")] {
                 for length in size - 1..size + 3 {
@@ -1111,6 +1151,81 @@ fn resolving(to: &mut Vec<Case>) {
                     case.out = vec![DIRT; length];
                     to.push(case);
                 }
+            }
+        }
+    }
+}
+
+// ---- R-RES-02: the parameter is found by its ordinal, and only where the procedure has its row 135
+
+fn gaps(to: &mut Vec<Case>) {
+    const F: u32 = 1;
+    let procedure = row(135, F, &[0, 1, 9]);
+    // a parameter of F under this ordinal, by reference but for its mark
+    let marked = |ordinal, mark| row(136, F, &[ordinal, F, mark]);
+    let param = |ordinal| marked(ordinal, 0);
+    let array = row(133, F, &[0, 4, 1, 0]);
+    let tables: [(&str, Vec<Row>); 13] = [
+        ("0 and 2", vec![procedure, param(0), param(2)]),
+        ("1 and 3", vec![procedure, param(1), param(3)]),
+        ("2 alone", vec![procedure, param(2)]),
+        ("0, 3 and 7", vec![procedure, param(0), param(3), param(7)]),
+        ("4 alone", vec![procedure, param(4)]),
+        (
+            "0 and the last",
+            vec![procedure, param(0), param(16_777_215)],
+        ),
+        ("0 BYVAL and 2", vec![procedure, marked(0, 1), param(2)]),
+        (
+            "0, 2 an array and 3",
+            vec![procedure, param(0), marked(2, 2), param(3)],
+        ),
+        (
+            "0 and 2, of the names beside it 1 and 3",
+            vec![
+                row(135, F - 1, &[0, 1, 9]),
+                row(136, F - 1, &[3, F, 0]),
+                procedure,
+                param(0),
+                param(2),
+                row(135, F + 1, &[0, 1, 9]),
+                row(136, F + 1, &[1, F, 0]),
+            ],
+        ),
+        ("0 and 2 without 135", vec![param(0), param(2)]),
+        ("0 to 3 without 135", (0..4).map(param).collect()),
+        (
+            "0 and 2 without 135, beside it with",
+            vec![
+                row(135, F - 1, &[0, 1, 9]),
+                param(0),
+                param(2),
+                row(135, F + 1, &[0, 1, 9]),
+            ],
+        ),
+        (
+            "0 and 2 without 135, an array",
+            vec![array, param(0), param(2)],
+        ),
+    ];
+    for pairs in [1, 2] {
+        let put = |name: &str| "(Paren ".repeat(pairs) + name + &")".repeat(pairs);
+        let args = ["W", "X", "Y", "Z"].map(put).join(" ");
+        let raw = program(&format!(
+            "(strings \"E\" \"G\")
+            (program (Let line=1 name=X value=(FnCall name=F args=[{args}])) (Call line=2 name=F args=[{args}]))"
+        ));
+        assert_eq!(number(&raw, "F"), F);
+        let size = raw.tree.len();
+        let places = value_and_list(&raw);
+        let whole = [(Entry::ResolveArrayAccesses, 0, size)];
+        for (label, rows) in &tables {
+            for (entry, at, size) in places.iter().chain(&whole) {
+                let label = format!("ordinals {label}, {pairs} pairs, {entry:?}");
+                let mut case = Case::new(label, *entry, &[0, F, *at as u32], &raw);
+                case.rows = laid(rows.clone());
+                case.out = vec![DIRT; size + 1];
+                to.push(case);
             }
         }
     }

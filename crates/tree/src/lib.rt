@@ -167,7 +167,7 @@ fn later_part(row: usize) -> u64
 
 // A row of `FIELDS` in one number, 0 past the last: the fields of a kind of statement. The table is read at literal places only: so the
 // compiler can hold the answers in read-only memory, where a table that is read at a computed place is stored anew at every call.
-fn fields(kind: usize) -> u64
+fn by_kind(kind: usize) -> u64
     ensures { λ r. ⌜ r ≡ pack (getD stmtCodes kind []) ⌝ }
 {
     let t = FIELDS;
@@ -199,12 +199,12 @@ fn fields(kind: usize) -> u64
         24 => six(t[24]),
         25 => six(t[25]),
         26 => six(t[26]),
-        _ => later_fields(kind),
+        _ => by_later_kind(kind),
     }
 }
 
 // the rows of `FIELDS` from 27 on
-fn later_fields(kind: usize) -> u64
+fn by_later_kind(kind: usize) -> u64
     requires { ⌜ 27 ≤ kind ⌝ }
     ensures { λ r. ⌜ r ≡ pack (getD stmtCodes kind []) ⌝ }
 {
@@ -248,7 +248,7 @@ fn packed(row: usize) -> u64
     if row < 39 {
         return part(row);
     }
-    fields(row - 39)
+    by_kind(row - 39)
 }
 
 // the i-th field of a row, in numbers; 0 past its end

@@ -12,11 +12,11 @@ part-requires c κs = search needs
 returns : tie.Need-returns
 returns c = c .part .ensures ∙ ap pack (codes-part (c .before .before .args .row) (c .before .if1 .taken))
 
-fields-requires : tie.Need-fields-requires
-fields-requires c κs = search needs
+by-kind-requires : tie.Need-by-kind-requires
+by-kind-requires c κs = search needs
 
 returns-2 : tie.Need-returns-2
-returns-2 c = c .fields .ensures ∙ ap pack (codes-stmt (c .before .before .args .row) (c .before .if1 .left))
+returns-2 c = c .by-kind .ensures ∙ ap pack (codes-stmt (c .before .before .args .row) (c .before .if1 .left))
 
 pub packed-spec : {M : Type 1} → statement M
-packed-spec = tie.close (tie.spec part-requires returns fields-requires returns-2)
+packed-spec = tie.close (tie.spec part-requires returns by-kind-requires returns-2)

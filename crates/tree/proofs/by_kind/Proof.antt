@@ -1,10 +1,10 @@
--- `fields`: each arm's row is the definition's, by computation; the others are `later_fields`'s. Assumes nothing.
+-- `by_kind`: each arm's row is the definition's, by computation; the others are `by_later_kind`'s. Assumes nothing.
 use Rattle.words.specs.Laws.{PastArms, beyond}
 use Rattle.tree.specs.Codes.{stmtCodes}
 use Rattle.tree.proofs.Tables.{arm}
 use borrow.Author.Needs.{needs}
-use Rattle.tree.proofs.fields.Statement.{statement}
-use Rattle.tree.proofs.fields.Tie as tie
+use Rattle.tree.proofs.by_kind.Statement.{statement}
+use Rattle.tree.proofs.by_kind.Tie as tie
 
 array-copy-out-six : tie.Need-array-copy-out-six
 array-copy-out-six c = search needs
@@ -276,15 +276,15 @@ returns-27 : tie.Need-returns-27
 unfolding stmtCodes
 returns-27 c = arm stmtCodes 26 (c .before .before .match .keys27) (c .six27 .ensures)
 
-later-fields-requires : tie.Need-later-fields-requires
+by-later-kind-requires : tie.Need-by-later-kind-requires
 unfolding PastArms
-later-fields-requires c κs = beyond 27 (c .before .args .kind) (c .match .rest)
+by-later-kind-requires c κs = beyond 27 (c .before .args .kind) (c .match .rest)
 
 returns-28 : tie.Need-returns-28
-returns-28 c = c .later-fields .ensures
+returns-28 c = c .by-later-kind .ensures
 
-pub fields-spec : {M : Type 1} → statement M
-fields-spec =
+pub by-kind-spec : {M : Type 1} → statement M
+by-kind-spec =
     tie.close
     (tie.spec
     array-copy-out-six
@@ -341,7 +341,7 @@ fields-spec =
     six-requires-26
     array-copy-out-six-27
     six-requires-27
-    later-fields-requires
+    by-later-kind-requires
     returns
     returns-2
     returns-3

@@ -1,11 +1,11 @@
--- `later_fields`: each arm's row is the definition's, by computation; past the last arm there is none. Assumes nothing.
+-- `by_later_kind`: each arm's row is the definition's, by computation; past the last arm there is none. Assumes nothing.
 use Rattle.words.specs.Laws.{PastArms}
 use Rattle.tree.specs.Codes.{stmtCodes}
 use Rattle.tree.proofs.Tables.{no-row, arm}
 use mathlib.Core.Path.{refl}
 use borrow.Author.Needs.{needs}
-use Rattle.tree.proofs.later_fields.Statement.{statement}
-use Rattle.tree.proofs.later_fields.Tie as tie
+use Rattle.tree.proofs.by_later_kind.Statement.{statement}
+use Rattle.tree.proofs.by_later_kind.Tie as tie
 
 array-copy-out-six : tie.Need-array-copy-out-six
 array-copy-out-six c = search needs
@@ -281,8 +281,8 @@ returns-28 : tie.Need-returns-28
 unfolding PastArms stmtCodes
 returns-28 c = no-row stmtCodes 27 27 (c .before .args .kind) refl (c .before .pre) (c .match .rest)
 
-pub later-fields-spec : {M : Type 1} → statement M
-later-fields-spec =
+pub by-later-kind-spec : {M : Type 1} → statement M
+by-later-kind-spec =
     tie.close
     (tie.spec
     array-copy-out-six

@@ -62,18 +62,14 @@ pub small-snoc : (fs : List FieldDecl) (f : FieldDecl) → Small fs → arg (f .
 small-snoc [] f S h = (h, tt)
 small-snoc (g ∷ gs) f S h = (S .0, small-snoc gs f (S .1) h)
 
--- the first of two lists
-pub small-left : (fs gs : List FieldDecl) → Small (fs ++ gs) → Small fs
-small-left [] gs S = tt
-small-left (f ∷ fs) gs S = (S .0, small-left fs gs (S .1))
-
--- the second
+-- the second of two lists
 pub small-right : (fs gs : List FieldDecl) → Small (fs ++ gs) → Small gs
 small-right [] gs S = S
 small-right (f ∷ fs) gs S = small-right fs gs (S .1)
 
 module _ (owner : ℕ) (rows rows′ : List Row) (A : Alike owner rows rows′) where
-  type-code-alike : (h a : ℕ) → a < 16777216 → typeCode rows′ owner h a ≡ typeCode rows owner h a
+  -- a type's code
+  pub type-code-alike : (h a : ℕ) → a < 16777216 → typeCode rows′ owner h a ≡ typeCode rows owner h a
   unfolding typeCode
   type-code-alike h a s = go (eqb h 45) (eqb a owner) refl
     where
@@ -87,8 +83,7 @@ module _ (owner : ℕ) (rows rows′ : List Row) (A : Alike owner rows rows′) 
   said-alike x [] S = refl
   said-alike x (f ∷ fs) S = rw (type-code-alike (head (f .ty)) (arg (f .ty)) (S .0), said-alike x fs (S .1)) refl
 
-  -- a field's code
-  pub code-alike : (before : List FieldDecl) (name h a : ℕ) → Small before → a < 16777216 → codeOf rows′ owner before name h a ≡ codeOf rows owner before name h a
+  code-alike : (before : List FieldDecl) (name h a : ℕ) → Small before → a < 16777216 → codeOf rows′ owner before name h a ≡ codeOf rows owner before name h a
   unfolding codeOf
   code-alike before name h a S s = rw (said-alike name before S, type-code-alike h a s) refl
 

@@ -20,32 +20,34 @@ use Rattle.steps.specs.State.{State, running}
 use Rattle.steps.specs.declared.Counts.{Counts}
 use Rattle.steps.specs.Held.{Held}
 use Rattle.collect.specs.Collect.{FieldInfo}
-use Rattle.types.specs.Types.{SomeFields, FieldIs, Upto, codeOf, fieldCode, sized, sizedBy, looks, checks, total, keptFields, Looks, Checks}
+use Rattle.types.specs.Types.{SomeFields, FieldIs, Below, Marks, fieldCode, sized, sizedBy, looks, checks, total, keptFields, Codes, Looks, Checks}
 use Rattle.types.specs.declared.FieldAt.{FieldAt}
 use Rattle.types.specs.declared.Kept.{Kept}
-use Rattle.types.proofs.Walk.{next-of, Rest, rest-all, rest-next, rest-before, rest-none}
+use Rattle.types.proofs.Marks.{marks-none, marks-code, marks-next}
+use Rattle.types.proofs.Walk.{next-of, next-name, Rest, rest-all, rest-next, rest-none}
 
 -- between two fields: the state, and that what is left leads to the same end, with the same words and as many kept
-pub record Mid (N D : ℕ) (rows notes : List Row) (line owner : ℕ) (fs : List FieldDecl) (c : Kept) (b d : List ℕ) (before after : List FieldDecl) : Type 0 where
+pub record Mid (N D : ℕ) (rows notes : List Row) (line owner : ℕ) (fs : List FieldDecl) (c : Kept) (b d seen : List ℕ) (before after : List FieldDecl) : Type 0 where
   pub state : State
   pub held : Held N D state (c .counts) b d
+  pub marks : Marks 1 rows owner before seen
   pub left : checks D rows line owner (c .words) before after state ≡ checks D rows line owner 0 [] fs (running rows notes)
   pub size : total rows owner (c .words) before after ≡ total rows owner 0 [] fs
   pub many : c .fields + length (keptFields rows owner (c .words) before after) ≡ length (keptFields rows owner 0 [] fs)
 
 -- after i fields of v, under whatever rows the run began with
-pub record CheckingAt (ws ns : List ℕ) (m : ℕ) (v : Tree Expr (manyRows FieldRow)) (end line owner : ℕ) (s : Counts) (b d₀ : List ℕ) (c : Kept) (a i : ℕ) (d : List ℕ) : Type 0 where
+pub record CheckingAt (ws ns : List ℕ) (m : ℕ) (v : Tree Expr (manyRows FieldRow)) (end line owner : ℕ) (s : Counts) (b d₀ : List ℕ) (c : Kept) (a i : ℕ) (d seen : List ℕ) : Type 0 where
   pub past : Rest ws ns m v end a i
-  pub mid : (N D : ℕ) (rows notes : List Row) → Held N D (running rows notes) s b d₀ → Mid N D rows notes line owner (rowsOf fieldDecl v) c b d (past .before) (rowsOf fieldDecl (past .rest))
+  pub mid : (N D : ℕ) (rows notes : List Row) → Held N D (running rows notes) s b d₀ → Mid N D rows notes line owner (rowsOf fieldDecl v) c b d seen (past .before) (rowsOf fieldDecl (past .rest))
 
 -- the same of whatever fields stand there, and the counts fit
-pub record Checking (ws : List ℕ) (at n line owner : ℕ) (s : Counts) (b d₀ : List ℕ) (c : Kept) (a i : ℕ) (d : List ℕ) : Type 0 where
+pub record Checking (ws : List ℕ) (at n line owner : ℕ) (s : Counts) (b d₀ : List ℕ) (c : Kept) (a i : ℕ) (d seen : List ℕ) : Type 0 where
   pub fit : c .counts .notes * noteWidth ≤ length d
   pub kept : c .counts .rows ≡ s .rows
   pub few : c .words ≤ 65535
   pub fields : c .fields ≤ i
   pub upto : i ≤ n
-  pub walked : (ns : List ℕ) (m : ℕ) (v : Tree Expr (manyRows FieldRow)) (end : ℕ) → Stands ws ns m at v end → n ≤ count v → CheckingAt ws ns m v end line owner s b d₀ c a i d
+  pub walked : (ns : List ℕ) (m : ℕ) (v : Tree Expr (manyRows FieldRow)) (end : ℕ) → Stands ws ns m at v end → n ≤ count v → CheckingAt ws ns m v end line owner s b d₀ c a i d seen
 
 -- neither below nor above: all n
 pub all-of : (i n : ℕ) → i ≤ n → (i < n → ⊥) → i ≡ n
@@ -84,41 +86,39 @@ module _ (D : ℕ) (rows : List Row) (line owner w w′ code name h a : ℕ) (be
   kept-step k k′ ek =
       rw (ek, ew, ec, eh, ea) (one-kept (eqb (fieldCode rows owner before f) 0) k (record { name = f .name; word = w; ty = f .ty }) (keptFields rows owner (sizedBy rows owner w before f) (before ++ (f ∷ [])) tail))
 
--- the code of the field there, as its tree has it
-pub code-there : {ws ns : List ℕ} {m : ℕ} {v : Tree Expr (manyRows FieldRow)} {end a i : ℕ} (at owner : ℕ) (rows : List Row) (f : FieldAt) (code : ℕ) (p : Rest ws ns m v end a i) (g : FieldDecl)
-    → f .name ≡ g .name → f .head ≡ head (g .ty) → f .arg ≡ arg (g .ty) → Stands ws ns m at v end → Upto ws at i (λ fs. code ≡ codeOf rows owner fs (f .name) (f .head) (f .arg)) → code ≡ fieldCode rows owner (p .before) g
-code-there {ws} {ns} {m} {v} {end} {a} {i} at owner rows f code p g en eh ea S U =
-    let e : code ≡ codeOf rows owner (p .before) (f .name) (f .head) (f .arg) =
-    U .of ns m v end S (omega (arith, p .counted)) ∙ ap (λ (l : List FieldDecl). codeOf rows owner l (f .name) (f .head) (f .arg)) (rest-before p) in
-    rw (en, eh, ea) at e
-
 module _ {ws : List ℕ} {at n line owner : ℕ} {s : Counts} {b d₀ : List ℕ} where
   -- before the first all are left
-  pub checking-all : s .notes * noteWidth ≤ length d₀ → Checking ws at n line owner s b d₀ (record { counts = s; fields = 0; words = 0 }) at 0 d₀
-  checking-all h =
+  pub checking-all : {seen : List ℕ} → s .notes * noteWidth ≤ length d₀ → Below 1 seen → Checking ws at n line owner s b d₀ (record { counts = s; fields = 0; words = 0 }) at 0 d₀ seen
+  checking-all {seen} h B =
       record {
         fit = h;
         kept = refl;
         few = omega arith;
         fields = omega arith;
         upto = omega arith;
-        walked = λ ns m v end S e. record { past = rest-all S; mid = λ N D rows notes H. record { state = running rows notes; held = H; left = refl; size = refl; many = omega arith } };
+        walked = λ ns m v end S e. record { past = rest-all S; mid = λ N D rows notes H. record { state = running rows notes; held = H; marks = marks-none 1 rows owner seen B; left = refl; size = refl; many = omega arith } };
       }
 
   -- where some are left, the next field stands at a
-  pub checking-some : {c : Kept} {a i : ℕ} {d : List ℕ} → SomeFields ws at n → Checking ws at n line owner s b d₀ c a i d → i < n → SomeTree (oneRow FieldRow) ws a
-  checking-some {c} {a} {i} {d} F C h =
+  pub checking-some : {c : Kept} {a i : ℕ} {d seen : List ℕ} → SomeFields ws at n → Checking ws at n line owner s b d₀ c a i d seen → i < n → SomeTree (oneRow FieldRow) ws a
+  checking-some {c} {a} {i} {d} {seen} F C h =
       let p = C .walked (F .names) (F .strings) (F .tree) (F .end) (F .stands) (F .enough) .past in
       let q = next-of (p .rest) (omega (arith, p .counted, F .enough)) (p .there) in
       record { names = F .names; strings = F .strings; tree = q .field; end = q .mid; stands = q .here }
 
+  -- and its name's number is below 1,024
+  pub checking-name : {c : Kept} {a i : ℕ} {d seen : List ℕ} → SomeFields ws at n → Checking ws at n line owner s b d₀ c a i d seen → i < n → (f : FieldAt) → FieldIs ws a f → f .name < 1024
+  checking-name {c} {a} {i} {d} {seen} F C h f I =
+      let p = C .walked (F .names) (F .strings) (F .tree) (F .end) (F .stands) (F .enough) .past in
+      next-name (p .rest) (next-of (p .rest) (omega (arith, p .counted, F .enough)) (p .there)) (F .few) f I
+
   -- one more looked at
-  pub checking-next : {c c′ : Kept} {a i : ℕ} {d d′ : List ℕ} → Checking ws at n line owner s b d₀ c a i d → i < n → (f : FieldAt) → FieldIs ws a f → (code : ℕ)
-      → ((rows : List Row) → Keeps rows (s .rows) b → Upto ws at i (λ fs. code ≡ codeOf rows owner fs (f .name) (f .head) (f .arg)))
-      → Looks line owner code (f .name) (f .head) (f .arg) c c′ b d d′ → Checking ws at n line owner s b d₀ c′ (f .next) (i + 1) d′
-  checking-next {c} {c′} {a} {i} {d} {d′} C h f F code U L = record { fit = L .fit; kept = L .kept ∙ C .kept; few = L .few; fields = more-fields code (c .fields) (c′ .fields) i (L .more) (C .fields); upto = omega arith; walked = by }
+  pub checking-next : {c c′ : Kept} {a i : ℕ} {d d′ seen seen′ : List ℕ} → Checking ws at n line owner s b d₀ c a i d seen → i < n → (f : FieldAt) → FieldIs ws a f → f .name < length seen → (k code : ℕ)
+      → k ≡ s .rows → Codes 1 owner k (f .name) (f .head) (f .arg) code b seen seen′
+      → Looks line owner code (f .name) (f .head) (f .arg) c c′ b d d′ → Checking ws at n line owner s b d₀ c′ (f .next) (i + 1) d′ seen′
+  checking-next {c} {c′} {a} {i} {d} {d′} {seen} {seen′} C h f F within k code ek U L = record { fit = L .fit; kept = L .kept ∙ C .kept; few = L .few; fields = more-fields code (c .fields) (c′ .fields) i (L .more) (C .fields); upto = omega arith; walked = by }
     where
-      by : (ns : List ℕ) (m : ℕ) (v : Tree Expr (manyRows FieldRow)) (end : ℕ) → Stands ws ns m at v end → n ≤ count v → CheckingAt ws ns m v end line owner s b d₀ c′ (f .next) (i + 1) d′
+      by : (ns : List ℕ) (m : ℕ) (v : Tree Expr (manyRows FieldRow)) (end : ℕ) → Stands ws ns m at v end → n ≤ count v → CheckingAt ws ns m v end line owner s b d₀ c′ (f .next) (i + 1) d′ seen′
       by ns m v end S e =
           let w = C .walked ns m v end S e in
           let p = w .past in
@@ -131,11 +131,12 @@ module _ {ws : List ℕ} {at n line owner : ℕ} {s : Counts} {b d₀ : List ℕ
             mid = λ N D rows notes H.
                 let M = w .mid N D rows notes H in
                 let holds : Keeps rows (c .counts .rows) b = subst (λ (k : ℕ). Keeps rows k b) (sym (C .kept)) (H .inside .1) in
-                let ec : code ≡ fieldCode rows owner (p .before) decl = code-there at owner rows f code p decl (g .0) (g .1) (g .2) S (U rows (H .inside .1)) in
+                let ec : code ≡ fieldCode rows owner (p .before) decl = marks-code 1 rows owner (p .before) seen (M .marks) decl (f .name) (g .0) code (f .head) (f .arg) (g .1) (g .2) (U .code rows (subst (λ (j : ℕ). Keeps rows j b) (sym ek) (H .inside .1))) in
                 let ew : c′ .words ≡ sized rows (c .words) code (f .head) (f .arg) = L .size rows holds in
                 record {
                   state = looks D rows line owner (c .words) code (f .name) (f .head) (f .arg) (M .state);
                   held = L .notes rows holds .after b N D (M .state) (M .held);
+                  marks = marks-next 1 rows owner (p .before) seen (M .marks) decl (f .name) (g .0) code seen′ ec within (U .marked);
                   left = checks-step D rows line owner (c .words) (c′ .words) code (f .name) (f .head) (f .arg) (p .before) tail decl ec (g .0) (g .1) (g .2) ew (M .state)
                       ∙ ap (λ (l : List FieldDecl). checks D rows line owner (c .words) (p .before) l (M .state)) (sym (q .items)) ∙ M .left;
                   size = total-step D rows line owner (c .words) (c′ .words) code (f .name) (f .head) (f .arg) (p .before) tail decl ec (g .0) (g .1) (g .2) ew
@@ -146,9 +147,9 @@ module _ {ws : List ℕ} {at n line owner : ℕ} {s : Counts} {b d₀ : List ℕ
           }
 
   -- none is left: all were looked at
-  pub checking-done : {c : Kept} {a i : ℕ} {d : List ℕ} → Checking ws at n line owner s b d₀ c a i d → (i < n → ⊥) → Checks ws at n line owner s c b d₀ d
+  pub checking-done : {c : Kept} {a i : ℕ} {d seen : List ℕ} → Checking ws at n line owner s b d₀ c a i d seen → (i < n → ⊥) → Checks ws at n line owner s c b d₀ d
   unfolding checks total keptFields
-  checking-done {c} {a} {i} {d} C h = record { fit = C .fit; kept = C .kept; upto = omega (arith, C .fields, C .upto); after = by }
+  checking-done {c} {a} {i} {d} {seen} C h = record { fit = C .fit; kept = C .kept; upto = omega (arith, C .fields, C .upto); after = by }
     where
       last : i ≡ n
       last = all-of i n (C .upto) h

@@ -6,7 +6,7 @@ use mathlib.Core.List.{List, [], _∷_, _++_}
 use mathlib.Core.Option.{some}
 use native.Mathlib.Omega.{arith}
 use lib.Dec.{eqb}
-use lib.ListN.{length}
+use lib.ListN.{length, getD}
 use Rattle.words.specs.Word.{pick}
 use Rattle.expr.specs.Expr.{Expr}
 use Rattle.tree.specs.Sorts.{FieldDecl as FieldRow}
@@ -21,12 +21,13 @@ use Rattle.steps.specs.declared.Counts.{Counts}
 use Rattle.steps.specs.Held.{Held, Rows}
 use Rattle.steps.specs.Compose.{stays-each, stays-enter}
 use Rattle.collect.specs.Collect.{FieldInfo, fieldRows}
-use Rattle.types.specs.Types.{SomeFields, FieldIs, Upto, codeOf, fieldCode, sized, sizedBy, keptFields, KeepsField, Enters}
+use Rattle.types.specs.Types.{SomeFields, FieldIs, Below, Marks, typeCode, fieldCode, sized, sizedBy, keptFields, Codes, KeepsField, Enters}
 use Rattle.types.specs.declared.FieldAt.{FieldAt}
 use Rattle.types.specs.declared.Kept.{Kept}
-use Rattle.types.proofs.Alike.{Alike, alike-refl, alike-field, Small, small-left, small-right, code-alike, sized-alike, AlikeIn, change-alike, Entering}
-use Rattle.types.proofs.Walk.{rows-small, next-of, Rest, rest-all, rest-next, rest-none}
-use Rattle.types.proofs.Checking.{all-of, more-fields, code-there}
+use Rattle.types.proofs.Alike.{Alike, alike-refl, alike-field, Small, small-right, type-code-alike, sized-alike, AlikeIn, change-alike, Entering}
+use Rattle.types.proofs.Walk.{rows-small, next-of, next-name, Rest, rest-all, rest-next, rest-none}
+use Rattle.types.proofs.Checking.{all-of, more-fields}
+use Rattle.types.proofs.Marks.{marks-none, marks-code, marks-next}
 
 -- the rows that a run begins with
 abbrev pub rowsIn : State → List Row
@@ -34,20 +35,21 @@ rowsIn (running r n) = r
 rowsIn (stopped k) = []
 
 -- what is left to enter does the same as all of it
-abbrev pub Inside : (owner N : ℕ) → List Row → (whole : State) → (k words : ℕ) → (before after : List FieldDecl) → State → Type 0
-Inside owner N rows whole k words before after (running r n) = Alike owner rows r × (each (enter (some N)) (fieldRows owner k (keptFields rows owner words before after)) (running r n) ≡ whole)
-Inside owner N rows whole k words before after (stopped j) = stopped j ≡ whole
+abbrev pub Inside : (owner N : ℕ) → List Row → (whole : State) → (k words : ℕ) → (seen : List ℕ) → (before after : List FieldDecl) → State → Type 0
+Inside owner N rows whole k words seen before after (running r n) =
+    Alike owner rows r × (each (enter (some N)) (fieldRows owner k (keptFields rows owner words before after)) (running r n) ≡ whole) × Marks 2 rows owner before seen
+Inside owner N rows whole k words seen before after (stopped j) = stopped j ≡ whole
 
 module _ (owner N : ℕ) (rows : List Row) (whole : State) where
-  inside-of : (k words : ℕ) (before after : List FieldDecl) (st : State) → AlikeIn owner rows st
-      → each (enter (some N)) (fieldRows owner k (keptFields rows owner words before after)) st ≡ whole → Inside owner N rows whole k words before after st
-  inside-of k words before after (running r n) A e = (A, e)
-  inside-of k words before after (stopped j) A e = sym (stays-each (enter (some N)) (fieldRows owner k (keptFields rows owner words before after)) (λ row. stays-enter N row) j) ∙ e
+  inside-of : (k words : ℕ) (seen : List ℕ) (before after : List FieldDecl) (st : State) → AlikeIn owner rows st
+      → each (enter (some N)) (fieldRows owner k (keptFields rows owner words before after)) st ≡ whole → Marks 2 rows owner before seen → Inside owner N rows whole k words seen before after st
+  inside-of k words seen before after (running r n) A e M = (A, e, M)
+  inside-of k words seen before after (stopped j) A e M = sym (stays-each (enter (some N)) (fieldRows owner k (keptFields rows owner words before after)) (λ row. stays-enter N row) j) ∙ e
 
-  inside-end : (k words : ℕ) (before : List FieldDecl) (st : State) → Inside owner N rows whole k words before [] st → st ≡ whole
+  inside-end : (k words : ℕ) (seen : List ℕ) (before : List FieldDecl) (st : State) → Inside owner N rows whole k words seen before [] st → st ≡ whole
   unfolding keptFields fieldRows each
-  inside-end k words before (running r n) I = I .1
-  inside-end k words before (stopped j) I = I
+  inside-end k words seen before (running r n) I = I .1
+  inside-end k words seen before (stopped j) I = I
 
   keep-alike : (t : Bool) (i name word h a : ℕ) (st : State) → AlikeIn owner rows st → AlikeIn owner rows (each (enter (some N)) (pick t (fieldRow owner i name word h a ∷ []) []) st)
   unfolding each enter
@@ -69,80 +71,90 @@ module _ (owner N : ℕ) (rows : List Row) (whole : State) where
   keep-step k k′ w w′ code name h a before tail f st ec en eh ea ew ek = rw (ek, ew, ec, en, eh, ea) (keep-one k w f st (eqb (fieldCode rows owner before f) 0) (keptFields rows owner (sizedBy rows owner w before f) (before ++ (f ∷ [])) tail))
 
 -- before the first all are left to enter
-pub inside-start : (owner N D : ℕ) (fs : List FieldDecl) (st : State) → Inside owner N (rowsIn st) (Entering owner fs N D st) 0 0 [] fs st
+pub inside-start : (owner N D : ℕ) (fs : List FieldDecl) (seen : List ℕ) → Below 2 seen → (st : State) → Inside owner N (rowsIn st) (Entering owner fs N D st) 0 0 seen [] fs st
 unfolding asking
-inside-start owner N D fs (running r n) = (alike-refl, refl)
-inside-start owner N D fs (stopped k) = refl
+inside-start owner N D fs seen B (running r n) = (alike-refl, refl, marks-none 2 r owner seen B)
+inside-start owner N D fs seen B (stopped k) = refl
 
 -- one more field
-module _ (owner N : ℕ) (rows : List Row) (whole : State) (k k′ w w′ code name h a cnt : ℕ) (before tail : List FieldDecl) (f : FieldDecl) (b : List ℕ)
-    (B : Small before) (s : arg (f .ty) < 16777216) (en : name ≡ f .name) (eh : h ≡ head (f .ty)) (ea : a ≡ arg (f .ty)) (ek : k′ ≡ pick (eqb code 0) (k + 1) k)
-    (told : (r : List Row) → Keeps r cnt b → (code ≡ fieldCode r owner before f) × (w′ ≡ sized r w code h a)) where
+module _ (owner N : ℕ) (rows : List Row) (whole : State) (k k′ w w′ code name h a cnt : ℕ) (before tail : List FieldDecl) (f : FieldDecl) (b seen seen′ : List ℕ)
+    (s : arg (f .ty) < 16777216) (en : name ≡ f .name) (eh : h ≡ head (f .ty)) (ea : a ≡ arg (f .ty)) (ek : k′ ≡ pick (eqb code 0) (k + 1) k)
+    (within : name < length seen) (U : Codes 2 owner cnt name h a code b seen seen′) (told : (r : List Row) → Keeps r cnt b → w′ ≡ sized r w code h a) where
   -- it is entered where it is kept; the others are left
-  pub inside-next : (st : State) → ((r n : List Row) → st ≡ running r n → Keeps r cnt b) → Inside owner N rows whole k w before (f ∷ tail) st
-      → Inside owner N rows whole k′ w′ (before ++ (f ∷ [])) tail (each (enter (some N)) (pick (eqb code 0) (fieldRow owner k name w h a ∷ []) []) st)
+  pub inside-next : (st : State) → ((r n : List Row) → st ≡ running r n → Keeps r cnt b) → Inside owner N rows whole k w seen before (f ∷ tail) st
+      → Inside owner N rows whole k′ w′ seen′ (before ++ (f ∷ [])) tail (each (enter (some N)) (pick (eqb code 0) (fieldRow owner k name w h a ∷ []) []) st)
   inside-next (running r n) H I =
+      let small : a < 16777216 = omega (arith, ea, s) in
+      let type : typeCode r owner h a ≡ typeCode rows owner h a = type-code-alike owner rows r (I .0) h a small in
+      let ec : code ≡ fieldCode rows owner before f =
+      marks-code 2 rows owner before seen (I .2) f name en code h a eh ea (U .code r (H r n refl) ∙ ap (λ (t : ℕ). pick (eqb (getD seen name 0) 2) 5 t) type) in
       let q = told r (H r n refl) in
-      let ec : code ≡ fieldCode rows owner before f = q .0 ∙ code-alike owner rows r (I .0) before (f .name) (head (f .ty)) (arg (f .ty)) B s in
-      let ew₁ : w′ ≡ sized r w (fieldCode rows owner before f) (head (f .ty)) (arg (f .ty)) = rw (ec, eh, ea) at (q .1) in
+      let ew₁ : w′ ≡ sized r w (fieldCode rows owner before f) (head (f .ty)) (arg (f .ty)) = rw (ec, eh, ea) at q in
       let ew₂ : w′ ≡ sized rows w (fieldCode rows owner before f) (head (f .ty)) (arg (f .ty)) = ew₁ ∙ sized-alike owner rows r (I .0) before w (f .name) (head (f .ty)) (arg (f .ty)) s in
       let ew : w′ ≡ sized rows w code h a = rw (ec, eh, ea) ew₂ in
-      inside-of owner N rows whole k′ w′ (before ++ (f ∷ [])) tail _
+      inside-of owner N rows whole k′ w′ seen′ (before ++ (f ∷ [])) tail _
       (keep-alike owner N rows whole (eqb code 0) k name w h a (running r n) (I .0))
       (keep-step owner N rows whole k k′ w w′ code name h a before tail f (running r n) ec en eh ea ew ek ∙ I .1)
+      (marks-next 2 rows owner before seen (I .2) f name en code seen′ ec within (U .marked))
   inside-next (stopped j) H I =
-      subst (Inside owner N rows whole k′ w′ (before ++ (f ∷ [])) tail) (sym (stays-each (enter (some N)) (pick (eqb code 0) (fieldRow owner k name w h a ∷ []) []) (λ row. stays-enter N row) j)) I
+      subst (Inside owner N rows whole k′ w′ seen′ (before ++ (f ∷ [])) tail) (sym (stays-each (enter (some N)) (pick (eqb code 0) (fieldRow owner k name w h a ∷ []) []) (λ row. stays-enter N row) j)) I
 
 -- ---- the loop
 
 -- between two fields: the state, and that what is left leads to the same end
-pub record Mid (N D owner : ℕ) (st₀ : State) (fs : List FieldDecl) (c : Kept) (b d : List ℕ) (before after : List FieldDecl) : Type 0 where
+pub record Mid (N D owner : ℕ) (st₀ : State) (fs : List FieldDecl) (c : Kept) (b d seen : List ℕ) (before after : List FieldDecl) : Type 0 where
   pub state : State
   pub held : Held N D state (c .counts) b d
-  pub inside : Inside owner N (rowsIn st₀) (Entering owner fs N D st₀) (c .fields) (c .words) before after state
+  pub inside : Inside owner N (rowsIn st₀) (Entering owner fs N D st₀) (c .fields) (c .words) seen before after state
 
 -- after i fields of v, whatever state the run began with
-pub record EnteringAt (ws ns : List ℕ) (m : ℕ) (v : Tree Expr (manyRows FieldRow)) (end owner : ℕ) (s : Counts) (b₀ : List ℕ) (c : Kept) (a i : ℕ) (b : List ℕ) : Type 0 where
+pub record EnteringAt (ws ns : List ℕ) (m : ℕ) (v : Tree Expr (manyRows FieldRow)) (end owner : ℕ) (s : Counts) (b₀ : List ℕ) (c : Kept) (a i : ℕ) (b seen : List ℕ) : Type 0 where
   pub past : Rest ws ns m v end a i
-  pub mid : (d : List ℕ) (N D : ℕ) (st₀ : State) → Held N D st₀ s b₀ d → Mid N D owner st₀ (rowsOf fieldDecl v) c b d (past .before) (rowsOf fieldDecl (past .rest))
+  pub mid : (d : List ℕ) (N D : ℕ) (st₀ : State) → Held N D st₀ s b₀ d → Mid N D owner st₀ (rowsOf fieldDecl v) c b d seen (past .before) (rowsOf fieldDecl (past .rest))
 
 -- the same of whatever fields stand there, and the counts fit
-pub record EnteringMid (ws : List ℕ) (at n owner : ℕ) (s : Counts) (b₀ : List ℕ) (c : Kept) (a i : ℕ) (b : List ℕ) : Type 0 where
+pub record EnteringMid (ws : List ℕ) (at n owner : ℕ) (s : Counts) (b₀ : List ℕ) (c : Kept) (a i : ℕ) (b seen : List ℕ) : Type 0 where
   pub fit : c .counts .rows * width ≤ length b
   pub kept : c .counts .notes ≡ s .notes
   pub few : c .words ≤ 65535
   pub fields : c .fields ≤ i
   pub upto : i ≤ n
-  pub walked : (ns : List ℕ) (m : ℕ) (v : Tree Expr (manyRows FieldRow)) (end : ℕ) → Stands ws ns m at v end → n ≤ count v → EnteringAt ws ns m v end owner s b₀ c a i b
+  pub walked : (ns : List ℕ) (m : ℕ) (v : Tree Expr (manyRows FieldRow)) (end : ℕ) → Stands ws ns m at v end → n ≤ count v → EnteringAt ws ns m v end owner s b₀ c a i b seen
 
 held-rows : {N D : ℕ} {c : Counts} {b d : List ℕ} (st : State) → Held N D st c b d → (r n : List Row) → st ≡ running r n → Keeps r (c .rows) b
 held-rows {N} {D} {c} {b} {d} st H r n e = subst (λ (x : State). Held N D x c b d) e H .inside .1
 
 module _ {ws : List ℕ} {at n owner : ℕ} {s : Counts} {b₀ : List ℕ} where
   -- before the first all are left
-  pub entering-all : s .rows * width ≤ length b₀ → EnteringMid ws at n owner s b₀ (record { counts = s; fields = 0; words = 0 }) at 0 b₀
-  entering-all h =
+  pub entering-all : {seen : List ℕ} → s .rows * width ≤ length b₀ → Below 2 seen → EnteringMid ws at n owner s b₀ (record { counts = s; fields = 0; words = 0 }) at 0 b₀ seen
+  entering-all {seen} h B =
       record {
         fit = h;
         kept = refl;
         few = omega arith;
         fields = omega arith;
         upto = omega arith;
-        walked = λ ns m v end S e. record { past = rest-all S; mid = λ d N D st₀ H. record { state = st₀; held = H; inside = inside-start owner N D (rowsOf fieldDecl v) st₀ } };
+        walked = λ ns m v end S e. record { past = rest-all S; mid = λ d N D st₀ H. record { state = st₀; held = H; inside = inside-start owner N D (rowsOf fieldDecl v) seen B st₀ } };
       }
 
   -- where some are left, the next field stands at a
-  pub entering-some : {c : Kept} {a i : ℕ} {b : List ℕ} → SomeFields ws at n → EnteringMid ws at n owner s b₀ c a i b → i < n → SomeTree (oneRow FieldRow) ws a
-  entering-some {c} {a} {i} {b} F C h =
+  pub entering-some : {c : Kept} {a i : ℕ} {b seen : List ℕ} → SomeFields ws at n → EnteringMid ws at n owner s b₀ c a i b seen → i < n → SomeTree (oneRow FieldRow) ws a
+  entering-some {c} {a} {i} {b} {seen} F C h =
       let p = C .walked (F .names) (F .strings) (F .tree) (F .end) (F .stands) (F .enough) .past in
       let q = next-of (p .rest) (omega (arith, p .counted, F .enough)) (p .there) in
       record { names = F .names; strings = F .strings; tree = q .field; end = q .mid; stands = q .here }
 
+  -- and its name's number is below 1,024
+  pub entering-name : {c : Kept} {a i : ℕ} {b seen : List ℕ} → SomeFields ws at n → EnteringMid ws at n owner s b₀ c a i b seen → i < n → (f : FieldAt) → FieldIs ws a f → f .name < 1024
+  entering-name {c} {a} {i} {b} {seen} F C h f I =
+      let p = C .walked (F .names) (F .strings) (F .tree) (F .end) (F .stands) (F .enough) .past in
+      next-name (p .rest) (next-of (p .rest) (omega (arith, p .counted, F .enough)) (p .there)) (F .few) f I
+
   -- one more entered, where it is kept
-  pub entering-next : {c c′ : Kept} {a i : ℕ} {b b′ : List ℕ} → EnteringMid ws at n owner s b₀ c a i b → i < n → (f : FieldAt) → FieldIs ws a f → (code : ℕ)
-      → ((rows : List Row) → Keeps rows (c .counts .rows) b → Upto ws at i (λ fs. code ≡ codeOf rows owner fs (f .name) (f .head) (f .arg)))
-      → KeepsField owner code (f .name) (f .head) (f .arg) c c′ b b′ → EnteringMid ws at n owner s b₀ c′ (f .next) (i + 1) b′
-  entering-next {c} {c′} {a} {i} {b} {b′} C h f F code U K =
+  pub entering-next : {c c′ : Kept} {a i : ℕ} {b b′ seen seen′ : List ℕ} → EnteringMid ws at n owner s b₀ c a i b seen → i < n → (f : FieldAt) → FieldIs ws a f → f .name < length seen → (code : ℕ)
+      → Codes 2 owner (c .counts .rows) (f .name) (f .head) (f .arg) code b seen seen′
+      → KeepsField owner code (f .name) (f .head) (f .arg) c c′ b b′ → EnteringMid ws at n owner s b₀ c′ (f .next) (i + 1) b′ seen′
+  entering-next {c} {c′} {a} {i} {b} {b′} {seen} {seen′} C h f F within code U K =
       record {
         fit = K .rows .fit;
         kept = K .rows .kept ∙ C .kept;
@@ -152,7 +164,7 @@ module _ {ws : List ℕ} {at n owner : ℕ} {s : Counts} {b₀ : List ℕ} where
         walked = by;
       }
     where
-      by : (ns : List ℕ) (m : ℕ) (v : Tree Expr (manyRows FieldRow)) (end : ℕ) → Stands ws ns m at v end → n ≤ count v → EnteringAt ws ns m v end owner s b₀ c′ (f .next) (i + 1) b′
+      by : (ns : List ℕ) (m : ℕ) (v : Tree Expr (manyRows FieldRow)) (end : ℕ) → Stands ws ns m at v end → n ≤ count v → EnteringAt ws ns m v end owner s b₀ c′ (f .next) (i + 1) b′ seen′
       by ns m v end S e =
           let w = C .walked ns m v end S e in
           let p = w .past in
@@ -168,16 +180,16 @@ module _ {ws : List ℕ} {at n owner : ℕ} {s : Counts} {b₀ : List ℕ} where
                 record {
                   state = each (enter (some N)) (pick (eqb code 0) (fieldRow owner (c .fields) (f .name) (c .words) (f .head) (f .arg) ∷ []) []) (M .state);
                   held = K .rows .after d N D (M .state) (M .held);
-                  inside = inside-next owner N (rowsIn st₀) (Entering owner (rowsOf fieldDecl v) N D st₀) (c .fields) (c′ .fields) (c .words) (c′ .words) code (f .name) (f .head) (f .arg) (c .counts .rows) (p .before) tail decl b
-                      (small-left (p .before) (decl ∷ tail) small) (small-right (p .before) (decl ∷ tail) small .0) (g .0) (g .1) (g .2) (K .more)
-                      (λ r R. (code-there at owner r f code p decl (g .0) (g .1) (g .2) S (U r R), K .size r R)) (M .state) (held-rows (M .state) (M .held))
-                      (subst (λ (l : List FieldDecl). Inside owner N (rowsIn st₀) (Entering owner (rowsOf fieldDecl v) N D st₀) (c .fields) (c .words) (p .before) l (M .state)) (q .items) (M .inside));
+                  inside = inside-next owner N (rowsIn st₀) (Entering owner (rowsOf fieldDecl v) N D st₀) (c .fields) (c′ .fields) (c .words) (c′ .words) code (f .name) (f .head) (f .arg) (c .counts .rows) (p .before) tail decl b seen seen′
+                      (small-right (p .before) (decl ∷ tail) small .0) (g .0) (g .1) (g .2) (K .more)
+                      within U (K .size) (M .state) (held-rows (M .state) (M .held))
+                      (subst (λ (l : List FieldDecl). Inside owner N (rowsIn st₀) (Entering owner (rowsOf fieldDecl v) N D st₀) (c .fields) (c .words) seen (p .before) l (M .state)) (q .items) (M .inside));
                 };
           }
 
   -- none is left: all kept ones were entered
-  pub entering-done : {c : Kept} {a i : ℕ} {b : List ℕ} → EnteringMid ws at n owner s b₀ c a i b → (i < n → ⊥) → Enters ws at n owner s (c .counts) b₀ b
-  entering-done {c} {a} {i} {b} C h = record { after = by }
+  pub entering-done : {c : Kept} {a i : ℕ} {b seen : List ℕ} → EnteringMid ws at n owner s b₀ c a i b seen → (i < n → ⊥) → Enters ws at n owner s (c .counts) b₀ b
+  entering-done {c} {a} {i} {b} {seen} C h = record { after = by }
     where
       last : i ≡ n
       last = all-of i n (C .upto) h
@@ -192,7 +204,7 @@ module _ {ws : List ℕ} {at n owner : ℕ} {s : Counts} {b₀ : List ℕ} where
             after = λ d N D st H.
                 let M = w .mid d N D st H in
                 subst (λ (x : State). Held N D x (c .counts) b d)
-                (inside-end owner N (rowsIn st) (Entering owner (rowsOf fieldDecl v) N D st) (c .fields) (c .words) (w .past .before) (M .state)
-                (subst (λ (l : List FieldDecl). Inside owner N (rowsIn st) (Entering owner (rowsOf fieldDecl v) N D st) (c .fields) (c .words) (w .past .before) l (M .state)) z (M .inside)))
+                (inside-end owner N (rowsIn st) (Entering owner (rowsOf fieldDecl v) N D st) (c .fields) (c .words) seen (w .past .before) (M .state)
+                (subst (λ (l : List FieldDecl). Inside owner N (rowsIn st) (Entering owner (rowsOf fieldDecl v) N D st) (c .fields) (c .words) seen (w .past .before) l (M .state)) z (M .inside)))
                 (M .held);
           }

@@ -59,17 +59,16 @@ module _ (rows : List Row) (owner : ℕ) where
       go true q = absurd (omega arith)
       go false q = q
 
-  same-kept : (kept : List FieldInfo) (before : List FieldDecl) (f : FieldDecl) (word : ℕ) → Same kept before → fieldCode rows owner before f ≡ 0
-      → Same (kept ++ (record { name = f .name; word = word; ty = f .ty } ∷ [])) (before ++ (f ∷ []))
-  same-kept kept before f word S e x =
-      has-snoc x kept (record { name = f .name; word = word; ty = f .ty })
-      ∙ ap (λ (t : Bool). t || eqb (f .name) x) (S x)
-      ∙ ap (λ (t : Bool). said rows owner x before || t) (sym (and-true (eqb (f .name) x)) ∙ ap (λ (t : Bool). eqb (f .name) x && t) (sym (eq-eqb _ 0 (code-kept before (f .name) (head (f .ty)) (arg (f .ty)) e))))
+  -- after a kept field its name is said too
+  pub said-kept : (x : ℕ) (before : List FieldDecl) (f : FieldDecl) → fieldCode rows owner before f ≡ 0 → (said rows owner x before || eqb (f .name) x) ≡ said rows owner x (before ++ (f ∷ []))
+  said-kept x before f e =
+      ap (λ (t : Bool). said rows owner x before || t) (sym (and-true (eqb (f .name) x)) ∙ ap (λ (t : Bool). eqb (f .name) x && t) (sym (eq-eqb _ 0 (code-kept before (f .name) (head (f .ty)) (arg (f .ty)) e))))
       ∙ sym (said-snoc x before f)
 
-  same-rejected : (kept : List FieldInfo) (before : List FieldDecl) (f : FieldDecl) → Same kept before → (fieldCode rows owner before f ≡ 0 → ⊥) → Same kept (before ++ (f ∷ []))
+  -- after any other the same names are
+  pub said-rejected : (x : ℕ) (before : List FieldDecl) (f : FieldDecl) → (fieldCode rows owner before f ≡ 0 → ⊥) → said rows owner x before ≡ said rows owner x (before ++ (f ∷ []))
   unfolding codeOf
-  same-rejected kept before f S n x = S x ∙ go (said rows owner (f .name) before) refl (eqb (typeCode rows owner (head (f .ty)) (arg (f .ty))) 0) refl (eqb (f .name) x) refl ∙ sym (said-snoc x before f)
+  said-rejected x before f n = go (said rows owner (f .name) before) refl (eqb (typeCode rows owner (head (f .ty)) (arg (f .ty))) 0) refl (eqb (f .name) x) refl ∙ sym (said-snoc x before f)
     where
       go : (t : Bool) → said rows owner (f .name) before ≡ t → (u : Bool) → eqb (typeCode rows owner (head (f .ty)) (arg (f .ty))) 0 ≡ u → (v : Bool) → eqb (f .name) x ≡ v
           → said rows owner x before ≡ (said rows owner x before || hit x f)
@@ -79,6 +78,14 @@ module _ (rows : List Row) (owner : ℕ) where
       go t e u p false q = rw (q) (sym (or-false (said rows owner x before)))
       go false e false p true q = rw (p, and-false (eqb (f .name) x)) (sym (or-false (said rows owner x before)))
       go false e true p true q = absurd (n (pick-false 5 _ e ∙ eqb-true _ 0 p))
+
+  same-kept : (kept : List FieldInfo) (before : List FieldDecl) (f : FieldDecl) (word : ℕ) → Same kept before → fieldCode rows owner before f ≡ 0
+      → Same (kept ++ (record { name = f .name; word = word; ty = f .ty } ∷ [])) (before ++ (f ∷ []))
+  same-kept kept before f word S e x =
+      has-snoc x kept (record { name = f .name; word = word; ty = f .ty }) ∙ ap (λ (t : Bool). t || eqb (f .name) x) (S x) ∙ said-kept x before f e
+
+  same-rejected : (kept : List FieldInfo) (before : List FieldDecl) (f : FieldDecl) → Same kept before → (fieldCode rows owner before f ≡ 0 → ⊥) → Same kept (before ++ (f ∷ []))
+  same-rejected kept before f S n x = S x ∙ said-rejected x before f n
 
   -- what is said of a field, by its code
   type-rejected : (line field : ℕ) (t : TypeRef)

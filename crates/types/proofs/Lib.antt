@@ -2,7 +2,7 @@
 pub mod Laws
 pub mod Alike
 pub mod Walk
-pub mod Before
+pub mod Marks
 pub mod Checking
 pub mod Entering
 pub mod Whole

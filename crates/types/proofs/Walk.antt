@@ -4,8 +4,8 @@ use mathlib.Core.Path.{_≡_, refl, sym, ap, _∙_, subst}
 use mathlib.Core.List.{List, [], _∷_, _++_, append-nil}
 use native.Mathlib.Omega.{arith}
 use lib.Dec.{lit<}
-use lib.ListN.{length, getD, take, length-append}
-use lib.Seq.{append-snoc, take-at}
+use lib.ListN.{length, getD, length-append}
+use lib.Seq.{append-snoc}
 use Rattle.words.specs.Word.{payOf}
 use Rattle.expr.specs.Expr.{Expr}
 use Rattle.expr.proofs.Parts.{wrote-first, pay-is}
@@ -14,9 +14,11 @@ use Rattle.tree.specs.Tree.{Tree, one, row as oneRow, rows as manyRows, word, t
 use Rattle.tree.specs.Stands.{Stands, SomeTree}
 use Rattle.tree.proofs.Nodes.{in-more}
 use Rattle.views.specs.View.{head, arg, FieldDecl, rowsOf, typeRef, fieldDecl}
+use Rattle.lent.specs.RuleLaws.{name-below as marked-below}
 use Rattle.parts.specs.declared.TypeAt.{TypeAt}
 use Rattle.parts.specs.Parts.{TypeIs}
-use Rattle.types.specs.Types.{SomeFields, FieldIs}
+use Rattle.types.specs.Types.{FieldIs}
+use Rattle.types.specs.declared.FieldAt.{FieldAt}
 use Rattle.types.proofs.Alike.{Small}
 
 -- ---- one field
@@ -26,6 +28,7 @@ pub record FieldParts (ws ns : List ℕ) (n at : ℕ) (v : Tree Expr (oneRow Fie
   pub type : Tree Expr (one TypeSort)
   pub inside : at < length ws
   pub name-is : payOf (getD ws at 0) ≡ fieldDecl v .name
+  pub name-below : fieldDecl v .name < length ns
   pub there : Stands ws ns n (at + 1) type end
   pub type-is : typeRef type ≡ fieldDecl v .ty
 
@@ -35,7 +38,7 @@ unfolding wordsT Right fieldDecl
 field-parts {ws} {ns} {n} {at} {end} (cons (word x) (cons t done)) s =
     let f = wrote-first (s .wrote) in
     let q = f .rest in
-    record { type = t; inside = f .inside; name-is = ap payOf (f .is) ∙ pay-is 2 x (s .valid .0 .1); there = record { wrote = rw (append-nil (wordsT t)) at q; valid = s .valid .1 .0 }; type-is = refl }
+    record { type = t; inside = f .inside; name-is = ap payOf (f .is) ∙ pay-is 2 x (s .valid .0 .1); name-below = marked-below ns x (s .valid .0 .0); there = record { wrote = rw (append-nil (wordsT t)) at q; valid = s .valid .1 .0 }; type-is = refl }
 
 module _ {ws : List ℕ} {at : ℕ} where
   -- its name is within the words
@@ -61,10 +64,6 @@ module _ {ws : List ℕ} {at : ℕ} where
       }
 
 -- ---- all of them
-
--- of n fields the first i
-pub fewer : {ws : List ℕ} {at n i : ℕ} → SomeFields ws at n → i ≤ n → SomeFields ws at i
-fewer F h = record { names = F .names; strings = F .strings; tree = F .tree; end = F .end; stands = F .stands; enough = omega (arith, F .enough) }
 
 type-small : (ns : List ℕ) (n : ℕ) (t : Tree Expr (one TypeSort)) → Right ns n t → arg (typeRef t) < 16777216
 unfolding Right typeRef
@@ -103,6 +102,10 @@ unfolding count rowsOf
 nothing-left none z = refl
 nothing-left (more r rs) z = absurd (omega (arith, z))
 
+-- the first of fields that are left, of at most 1,024 strings: what was read of its name is below 1,024
+pub next-name : {ws ns : List ℕ} {m a end : ℕ} (rest : Tree Expr (manyRows FieldRow)) → Next ws ns m a rest end → length ns ≤ 1024 → (f : FieldAt) → FieldIs ws a f → f .name < 1024
+next-name {ws} {ns} {m} rest q few f F = omega (arith, few, F .is ns m (q .field) (q .mid) (q .here) .0, field-parts (q .field) (q .here) .name-below)
+
 -- after i of them
 pub record Rest (ws ns : List ℕ) (m : ℕ) (v : Tree Expr (manyRows FieldRow)) (end a i : ℕ) : Type 0 where
   pub before : List FieldDecl
@@ -129,10 +132,6 @@ module _ {ws ns : List ℕ} {m : ℕ} {v : Tree Expr (manyRows FieldRow)} {end :
         counted = omega (arith, p .counted, q .counted);
       }
 
-  -- those before are the first i
-  pub rest-before : {a i : ℕ} (p : Rest ws ns m v end a i) → take i (rowsOf fieldDecl v) ≡ p .before
-  rest-before {a} {i} p = ap (take i) (p .is) ∙ take-at (p .before) (rowsOf fieldDecl (p .rest)) i (p .passed)
-
-  -- and past the last there are none
+  -- past the last there are none
   pub rest-none : {a i : ℕ} (p : Rest ws ns m v end a i) → count v ≡ i → rowsOf fieldDecl (p .rest) ≡ []
   rest-none {a} {i} p e = nothing-left (p .rest) (omega (arith, p .counted))

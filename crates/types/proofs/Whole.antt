@@ -131,7 +131,7 @@ module _ {ws : List ℕ} {at : ℕ} where
   pub type-fields : SomeType ws at → SomeFields ws (at + 3) (payOf (getD ws (at + 2) 0))
   type-fields T =
       let p = type-there T in
-      record { names = T .any .names; strings = T .any .strings; tree = p .decls; end = T .any .stmt .end; stands = p .there; enough = omega (arith, p .count-is) }
+      record { names = T .any .names; strings = T .any .strings; tree = p .decls; end = T .any .stmt .end; stands = p .there; enough = omega (arith, p .count-is); few = T .few }
 
   -- a name's number is below the number of the marks
   pub type-name : SomeType ws at → payOf (getD ws (at + 1) 0) + 1 < 16777216

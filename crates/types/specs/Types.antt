@@ -5,7 +5,7 @@ use mathlib.Core.Bool.{Bool, false, _&&_, _||_}
 use mathlib.Core.List.{List, [], _∷_, _++_}
 use mathlib.Core.Option.{some}
 use lib.Dec.{leb, eqb}
-use lib.ListN.{length, take}
+use lib.ListN.{length, getD, set}
 use Rattle.words.specs.Word.{pick}
 use Rattle.expr.specs.Expr.{Expr}
 use Rattle.tree.specs.Sorts.{FieldDecl as FieldRow, typeDef as typeKind}
@@ -25,10 +25,10 @@ use Rattle.collect.specs.Code.{SomeStmt}
 use Rattle.types.specs.declared.FieldAt.{FieldAt}
 use Rattle.types.specs.declared.Kept.{Kept}
 
--- a TYPE stands there, and its name's number plus 1 is a payload too
+-- a TYPE stands there, among at most 1,024 strings
 pub record SomeType (ws : List ℕ) (at : ℕ) : Type 0 where
   pub any : SomeStmt typeKind ws at
-  pub few : length (any .names) < 16777216
+  pub few : length (any .names) ≤ 1024
 
 -- at least n fields stand there
 pub record SomeFields (ws : List ℕ) (at n : ℕ) : Type 0 where
@@ -38,6 +38,7 @@ pub record SomeFields (ws : List ℕ) (at n : ℕ) : Type 0 where
   pub end : ℕ
   pub stands : Stands ws names strings at tree end
   pub enough : n ≤ count tree
+  pub few : length names ≤ 1024
 
 -- the field there, and the place past it
 pub record FieldIs (ws : List ℕ) (at : ℕ) (r : FieldAt) : Type 0 where
@@ -45,10 +46,6 @@ pub record FieldIs (ws : List ℕ) (at : ℕ) (r : FieldAt) : Type 0 where
       → (r .name ≡ fieldDecl v .name) × (r .head ≡ head (fieldDecl v .ty)) × (r .arg ≡ arg (fieldDecl v .ty)) × (r .next ≡ end)
   pub name-small : r .name < 16777216
   pub arg-small : r .arg < 16777216
-
--- a fact of the first n fields there
-pub record Upto (ws : List ℕ) (at n : ℕ) (P : List FieldDecl → Type 0) : Type 0 where
-  pub of : (ns : List ℕ) (m : ℕ) (v : Tree Expr (manyRows FieldRow)) (end : ℕ) → Stands ws ns m at v end → n ≤ count v → P (take n (rowsOf fieldDecl v))
 
 -- ---- a field's code: 0 where it is kept, else its diagnostic's
 
@@ -114,7 +111,23 @@ keptFields rows owner words before (f ∷ fs) =
     (record { name = f .name; word = words; ty = f .ty } ∷ keptFields rows owner (sizedBy rows owner words before f) (before ++ (f ∷ [])) fs)
     (keptFields rows owner (sizedBy rows owner words before f) (before ++ (f ∷ [])) fs)
 
+-- ---- the marks of the names of kept fields
+
+-- a mark for each number of a name, all below m
+pub record Below (m : ℕ) (seen : List ℕ) : Type 0 where
+  pub long : length seen ≡ 1024
+  pub all : (x : ℕ) → getD seen x 0 < m
+
+-- a name has the mark m exactly where a field of that name was said before
+pub record Marks (m : ℕ) (rows : List Row) (owner : ℕ) (before : List FieldDecl) (seen : List ℕ) : Type 0 where
+  pub is : (x : ℕ) → eqb (getD seen x 0) m ≡ said rows owner x before
+
 -- ---- what the code promises
+
+-- a field's code by its name's mark, and the mark after it
+pub record Codes (m owner k name head arg r : ℕ) (b seen seen′ : List ℕ) : Type 0 where
+  pub code : (rows : List Row) → Keeps rows k b → r ≡ pick (eqb (getD seen name 0) m) 5 (typeCode rows owner head arg)
+  pub marked : seen′ ≡ pick (eqb r 0) (set seen name m) seen
 
 -- one field looked at
 pub record Looks (line owner code name head arg : ℕ) (s r : Kept) (b d d′ : List ℕ) : Type 0 where

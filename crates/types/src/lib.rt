@@ -1,10 +1,8 @@
 // What collecting does for TYPE: its fields are looked at in order, then the TYPE and the fields that are kept are entered as one change.
 use steps::Counts;
 ghost use mathlib.Core.Path.{_≡_};
-ghost use mathlib.Core.Bool.{_&&_};
 ghost use mathlib.Core.List.{List};
 ghost use Prim.Native.Nat.{ℕ, _+_, _*_, _≤_, _<_};
-ghost use lib.Dec.{eqb};
 ghost use lib.ListN.{length};
 ghost use Rattle.table.specs.Rows.{Row, width, noteWidth};
 ghost use Rattle.runs.specs.Runs.{Keeps};
@@ -13,7 +11,7 @@ ghost use Rattle.tree.specs.Tree.{row as oneRow};
 ghost use Rattle.tree.specs.Stands.{SomeTree};
 ghost use Rattle.steps.specs.Held.{Fit, Notes, pushing};
 ghost use Rattle.collect.specs.Code.{CollectsAny};
-ghost use Rattle.types.specs.Types.{SomeType, SomeFields, FieldIs, Upto, typeCode, said as saidOf, codeOf, noteOf, grown as grownOf, Looks, Checks, KeepsField, Enters, Defines};
+ghost use Rattle.types.specs.Types.{SomeType, SomeFields, FieldIs, Below, typeCode, noteOf, grown as grownOf, Codes, Looks, Checks, KeepsField, Enters, Defines};
 
 // A field of a TYPE: its name, its type, and the place past it.
 pub struct FieldAt {
@@ -62,52 +60,22 @@ fn type_code(b: &[u32], count: usize, owner: u32, head: u32, arg: u32) -> u32
     7
 }
 
-// Whether it is a field of that name, and of a type that may stand there.
-fn is_kept(b: &[u32], count: usize, owner: u32, field: u32, f: FieldAt) -> bool
-    requires { ⌜ (count * width ≤ length (now b)) × (f .arg < 16777216) ⌝ }
-    ensures { λ r. ⌜ ((rows : List Row) → Keeps rows count (now (b .entry)) → r ≡ (eqb (f .name) field && eqb (typeCode rows owner (f .head) (f .arg)) 0)) ⌝ }
+// 0 where the field is kept, else the code of its diagnostic. The names of the fields that were kept have the mark `mark` in `seen`, and this one's gets it
+// where it is kept too.
+fn field_code(b: &[u32], seen: &mut [u8], count: usize, owner: u32, mark: u8, f: FieldAt) -> u32
+    requires { ⌜ (count * width ≤ length (now b)) × (f .name < length (now seen)) × (f .arg < 16777216) ⌝ }
+    ensures { λ r. ⌜ Codes mark owner count (f .name) (f .head) (f .arg) r (now (b .entry)) (now (seen .entry)) (now (seen .exit)) ⌝ }
 {
-    if f.name != field {
-        return false;
-    }
-    type_code(b, count, owner, f.head, f.arg) == 0
-}
-
-// Whether one of the n fields from `at` on has the name and a type that may stand there: the first such one is kept.
-fn said(words: &[u32], b: &[u32], count: usize, owner: u32, at: usize, n: u32, field: u32) -> bool
-    requires { ⌜ (count * width ≤ length (now b)) × SomeFields (now words) at n ⌝ }
-    ensures { λ r. ⌜ ((rows : List Row) → Keeps rows count (now (b .entry)) → Upto (now (words .entry)) at n (λ fs. r ≡ saidOf rows owner field fs)) ⌝ }
-{
-    let mut a = at;
-    let mut left = n;
-    while 0 < left {
-        let f = field_at(words, a);
-        if is_kept(b, count, owner, field, f) {
-            return true;
-        }
-        a = f.next;
-        left -= 1;
-    }
-    false
-}
-
-// 0 where the field is kept, which has i fields before it from `at` on, else the code of its diagnostic.
-fn field_code(
-    words: &[u32],
-    b: &[u32],
-    count: usize,
-    owner: u32,
-    at: usize,
-    i: u32,
-    f: FieldAt,
-) -> u32
-    requires { ⌜ (count * width ≤ length (now b)) × SomeFields (now words) at i × (f .arg < 16777216) ⌝ }
-    ensures { λ r. ⌜ ((rows : List Row) → Keeps rows count (now (b .entry)) → Upto (now (words .entry)) at i (λ fs. r ≡ codeOf rows owner fs (f .name) (f .head) (f .arg))) ⌝ }
-{
-    if said(words, b, count, owner, at, i, f.name) {
+    let x = f.name as usize;
+    if seen[x] == mark {
         return 5;
     }
-    type_code(b, count, owner, f.head, f.arg)
+    let code = type_code(b, count, owner, f.head, f.arg);
+    if code != 0 {
+        return code;
+    }
+    seen[x] = mark;
+    0
 }
 
 // The diagnostic of a field that is not kept.
@@ -152,19 +120,20 @@ fn look(b: &[u32], d: &mut [u32], s: Kept, code: u32, line: u32, owner: u32, f: 
     }
 }
 
-// The n fields from `at` on looked at in order.
+// The n fields from `at` on looked at in order. The marks of the kept ones are 1.
 fn check(
     words: &[u32],
     b: &[u32],
     d: &mut [u32],
+    seen: &mut [u8],
     s: Counts,
     line: u32,
     owner: u32,
     at: usize,
     n: u32,
 ) -> Kept
-    requires { ⌜ Fit s (length (now b)) (length (now d)) × SomeFields (now words) at n × (owner < 16777216) × (n < 16777216) ⌝ }
-    ensures { λ r. ⌜ Checks (now (words .entry)) at n line owner s r (now (b .entry)) (now (d .entry)) (now (d .exit)) ⌝ }
+    requires { ⌜ Fit s (length (now b)) (length (now d)) × SomeFields (now words) at n × (owner < 16777216) × (n < 16777216) × Below 1 (now seen) ⌝ }
+    ensures { λ r. ⌜ Checks (now (words .entry)) at n line owner s r (now (b .entry)) (now (d .entry)) (now (d .exit)) × Below 2 (now (seen .exit)) ⌝ }
 {
     let rows = s.rows;
     let mut c = Kept {
@@ -176,7 +145,7 @@ fn check(
     let mut i = 0;
     while i < n {
         let f = field_at(words, a);
-        let code = field_code(words, b, rows, owner, at, i, f);
+        let code = field_code(b, seen, rows, owner, 1, f);
         c = look(b, d, c, code, line, owner, f);
         a = f.next;
         i += 1;
@@ -213,9 +182,17 @@ fn keep(b: &mut [u32], s: Kept, code: u32, owner: u32, f: FieldAt) -> Kept
     }
 }
 
-// Those of the n fields from `at` on that are kept, entered under the TYPE: what is asked of the rows is as it was before.
-fn enter_fields(words: &[u32], b: &mut [u32], s: Counts, owner: u32, at: usize, n: u32) -> Counts
-    requires { ⌜ (s .rows * width ≤ length (now b)) × SomeFields (now words) at n × (owner < 16777216) × (n < 16777216) ⌝ }
+// Those of the n fields from `at` on that are kept, entered under the TYPE: what is asked of the rows is as it was before. The marks of the kept ones are 2.
+fn enter_fields(
+    words: &[u32],
+    b: &mut [u32],
+    seen: &mut [u8],
+    s: Counts,
+    owner: u32,
+    at: usize,
+    n: u32,
+) -> Counts
+    requires { ⌜ (s .rows * width ≤ length (now b)) × SomeFields (now words) at n × (owner < 16777216) × (n < 16777216) × Below 2 (now seen) ⌝ }
     ensures { λ r. ⌜ Enters (now (words .entry)) at n owner s r (now (b .entry)) (now (b .exit)) ⌝ }
 {
     let mut c = Kept {
@@ -228,7 +205,7 @@ fn enter_fields(words: &[u32], b: &mut [u32], s: Counts, owner: u32, at: usize, 
     while i < n {
         let f = field_at(words, a);
         let t = c.counts;
-        let code = field_code(words, b, t.rows, owner, at, i, f);
+        let code = field_code(b, seen, t.rows, owner, 2, f);
         c = keep(b, c, code, owner, f);
         a = f.next;
         i += 1;
@@ -237,7 +214,7 @@ fn enter_fields(words: &[u32], b: &mut [u32], s: Counts, owner: u32, at: usize, 
 }
 
 // The n fields from `at` on of the TYPE: two passes, for a run that the first one stops enters no row. Of the old fields only those go that the new
-// ones don't replace.
+// ones don't replace. The marks are by the numbers of names, which are below 1,024.
 fn fields(
     words: &[u32],
     b: &mut [u32],
@@ -254,11 +231,12 @@ fn fields(
     if s.stop != 0 {
         return s;
     }
-    let c = check(words, b, d, s, line, owner, at, n);
+    let mut seen = [0u8; 1024];
+    let c = check(words, b, d, &mut seen, s, line, owner, at, n);
     let t = c.counts;
     let t1 = steps::remove_under(b, t, 131, owner, c.fields);
     let t2 = steps::enter(b, t1, 130, owner, 0, c.words, line, 0, 0);
-    enter_fields(words, b, t2, owner, at, n)
+    enter_fields(words, b, &mut seen, t2, owner, at, n)
 }
 
 // A TYPE, defined again or not.

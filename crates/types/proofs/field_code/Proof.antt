@@ -1,23 +1,42 @@
--- Said before, or by its type. Assumes nothing.
-use mathlib.Core.Path.{_≡_, subst}
-use mathlib.Core.Bool.{Bool}
-use Rattle.types.specs.Types.{Upto, said}
-use Rattle.types.proofs.Before.{code-twice, code-once}
+-- By its name's mark, or by its type. Assumes nothing.
+use Rattle.types.proofs.Marks.{codes-twice, codes-rejected, codes-kept}
 use borrow.Author.Needs.{needs}
 use Rattle.types.proofs.field_code.Statement.{statement}
 use Rattle.types.proofs.field_code.Tie as tie
 
-said-requires : tie.Need-said-requires
-said-requires c κs = search needs
+cast-x : tie.Need-cast-x
+cast-x c = search needs
+
+slice-read-if1 : tie.Need-slice-read-if1
+slice-read-if1 c = search needs
 
 returns : tie.Need-returns
-returns c = λ rows H. code-twice (c .before .before .before .before .args .owner) ((c .before .before .before .before .args .f) .name) ((c .before .before .before .before .args .f) .head) ((c .before .before .before .before .args .f) .arg) rows (subst (λ (t : Bool). Upto (c .before .before .before .before .args .words .now) (c .before .before .before .before .args .at) (c .before .before .before .before .args .i) (λ fs. t ≡ said rows (c .before .before .before .before .args .owner) ((c .before .before .before .before .args .f) .name) fs)) (c .if1 .taken) (c .before .said .ensures rows H))
+returns c = codes-twice (c .if1 .taken)
 
 type-code-requires : tie.Need-type-code-requires
 type-code-requires c κs = search needs
 
 returns-2 : tie.Need-returns-2
-returns-2 c = λ rows H. code-once (c .before .before .before .before .before .args .owner) ((c .before .before .before .before .before .args .f) .name) ((c .before .before .before .before .before .args .f) .head) ((c .before .before .before .before .before .args .f) .arg) rows _ (c .type-code .ensures rows H) (subst (λ (t : Bool). Upto (c .before .before .before .before .before .args .words .now) (c .before .before .before .before .before .args .at) (c .before .before .before .before .before .args .i) (λ fs. t ≡ said rows (c .before .before .before .before .before .args .owner) ((c .before .before .before .before .before .args .f) .name) fs)) (c .before .if1 .left) (c .before .before .said .ensures rows H))
+returns-2 c = codes-rejected (c .before .before .if1 .left) (c .before .type-code .ensures) (c .if2 .taken)
+
+slice-write-seen : tie.Need-slice-write-seen
+slice-write-seen c = search needs
+
+same-length : tie.Need-same-length
+same-length c = search needs
+
+returns-3 : tie.Need-returns-3
+returns-3 c = codes-kept (c .before .before .if1 .left) (c .before .type-code .ensures) (c .if2 .left)
 
 pub field-code-spec : {M : Type 1} → statement M
-field-code-spec = tie.close (tie.spec said-requires returns type-code-requires returns-2)
+field-code-spec =
+    tie.close
+    (tie.spec
+    cast-x
+    slice-read-if1
+    returns
+    type-code-requires
+    returns-2
+    slice-write-seen
+    same-length
+    returns-3)

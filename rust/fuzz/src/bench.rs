@@ -255,6 +255,9 @@ pub fn sets() -> Vec<Set> {
         sets.push(set(&name("rising"), one(program(&rising))));
         sets.push(set(&name("falling"), one(program(&falling))));
     }
+    for (name, raw) in found() {
+        sets.push(set(name, vec![raw.to_bytes()]));
+    }
     sets
 }
 
@@ -322,6 +325,173 @@ fn others() -> Vec<(&'static str, usize, Program)> {
     ]
 }
 
+/// What a search for slow shapes found, one for each reason; the last three are refused.
+fn found() -> Vec<(&'static str, Raw)> {
+    let plain = |program: Vec<Stmt>| image::build(&program, &[], &[]);
+    let one = |kind: StmtKind| plain(vec![at(1, kind)]);
+    let names = |n: usize| (0..n).map(name_of).collect::<Vec<String>>();
+    let named = |n: usize| image::build(&[], &[], &names(n));
+    let unknowns = [at(1, type_of(0, vec![unknown(1); 2_000]))];
+    let mut string = named(65);
+    string.bytes[0] = 127;
+    let mut word = named(65);
+    word.tree[0] = 0;
+    let mut erased = image::build(&[], &names(65), &[]);
+    erased.erased[0] = 65;
+    vec![
+        (
+            "TYPE, 2,000 fields of one name and of no TYPE, after 40 line numbers",
+            plain(line_numbers(0..40).into_iter().chain(unknowns).collect()),
+        ),
+        (
+            "TYPE, 950 fields of no TYPE",
+            one(type_of(0, (1..951).map(unknown).collect())),
+        ),
+        ("TYPE, 950 fields", one(record(0, 950))),
+        (
+            "TYPE of three fields and of none in turn, 520 times, 1,437 rows behind",
+            plain(shrinking()),
+        ),
+        (
+            "SUBs, 97 one in the other, over 7,500 CLS",
+            plain(nested(97, 7_500)),
+        ),
+        (
+            "FUNCTIONs, 1,100 of 522 names, mixed, of three rows each",
+            plain(functions()),
+        ),
+        (
+            "1,000 array parameters of one name, a CALL of it after DEFINT of 1,800 ranges",
+            one(sub_of(
+                1,
+                same_arrays(1_000),
+                vec![at(1, letters(1_800)), at(1, call(0))],
+            )),
+        ),
+        (
+            "1,000 array parameters of one name, an element of it set to a call with 1,300 arguments",
+            one(sub_of(
+                1,
+                same_arrays(1_000),
+                vec![at(1, element(0, 1_300))],
+            )),
+        ),
+        (
+            "600 array parameters, all targets of one READ",
+            one(sub_of(
+                600,
+                (0..600).map(array_param).collect(),
+                vec![at(1, read(600))],
+            )),
+        ),
+        (
+            "one array, DIMmed 1,150 times, the last of 1,000 erased names",
+            image::build(&again(999, 1_150), &names(1_000), &[]),
+        ),
+        ("18 OPTION BASE", plain(bases(18))),
+        (
+            "730 OPTION BASE after 140 line numbers",
+            plain(line_numbers(0..140).into_iter().chain(bases(730)).collect()),
+        ),
+        (
+            "66 strings that nothing has",
+            image::build(&[], &[], &(0..66).map(long_name).collect::<Vec<_>>()),
+        ),
+        ("ON GOTO of 2,300 line numbers", one(on_goto(2_300))),
+        ("refused: 65 strings, the first wrong", string),
+        ("refused: 65 strings, the first word wrong", word),
+        ("refused: 65 erased names, the first wrong", erased),
+    ]
+}
+
+/// A TYPE with three fields and without fields in turn. The rows of unused array parameters stand behind it, so many that the first field is the 32nd
+/// row of the late run.
+fn shrinking() -> Vec<Stmt> {
+    let first = at(
+        1,
+        sub_of(1_000, (0..479).map(array_param).collect(), vec![]),
+    );
+    let both = (0..520).flat_map(|_| [at(2, record(1_001, 3)), at(2, record(1_001, 0))]);
+    std::iter::once(first).chain(both).collect()
+}
+
+fn nested(depth: usize, inside: usize) -> Vec<Stmt> {
+    let body = (0..inside).map(|n| at(n, StmtKind::Cls)).collect();
+    (0..depth).fold(body, |body, n| vec![at(n, sub(n, body))])
+}
+
+fn functions() -> Vec<Stmt> {
+    let function = |n: usize| StmtKind::Function {
+        name: name_of(n * 1_031 % 1_100 % 522),
+        params: vec![],
+        ret_ty: Some(TypeRef::Integer),
+        body: vec![],
+        is_static: true,
+        def_fn: true,
+    };
+    (0..1_100).map(|n| at(n, function(n))).collect()
+}
+
+/// One array declared over and over.
+fn again(n: usize, times: usize) -> Vec<Stmt> {
+    let decls = vec![array(name_of(n)); times];
+    let shared = false;
+    vec![at(1, StmtKind::Dim { decls, shared })]
+}
+
+/// OPTION BASE on lines of eight digits, each but the first a diagnostic.
+fn bases(count: usize) -> Vec<Stmt> {
+    let line = |n| 16_000_000 + n;
+    (0..count)
+        .map(|n| at(line(n), StmtKind::OptionBase(1)))
+        .collect()
+}
+
+/// DEFINT with so many ranges of letters.
+fn letters(count: usize) -> StmtKind {
+    StmtKind::DefType {
+        ty: DataType::Integer,
+        ranges: vec![('A', 'Z'); count],
+    }
+}
+
+fn on_goto(count: usize) -> StmtKind {
+    StmtKind::OnGoto {
+        expr: Expr::Variable(name_of(0)),
+        targets: vec![GotoTarget::Line(10); count],
+    }
+}
+
+/// CALL without arguments.
+fn call(n: usize) -> StmtKind {
+    StmtKind::Call {
+        name: name_of(n),
+        args: vec![],
+    }
+}
+
+/// An element set to a call with so many arguments.
+fn element(n: usize, args: usize) -> StmtKind {
+    StmtKind::Let {
+        name: name_of(n),
+        indices: Some(vec![]),
+        value: Expr::FnCall {
+            name: "F".into(),
+            args: vec![Expr::Literal(Literal::Integer(1)); args],
+        },
+    }
+}
+
+/// READ into an element of each array, the last first.
+fn read(count: usize) -> StmtKind {
+    let target = |n| LValue {
+        name: name_of(n),
+        indices: Some(vec![]),
+        fields: vec![],
+    };
+    StmtKind::Read((0..count).rev().map(target).collect())
+}
+
 /// A line number and another statement for each number.
 fn in_turn(order: &[usize], other: impl Fn(usize) -> StmtKind) -> Vec<Stmt> {
     let both = |n: &usize| [at(*n, StmtKind::Label(*n as u32)), at(*n, other(*n))];
@@ -342,12 +512,29 @@ fn item(n: usize) -> ScopeItem {
 }
 
 fn sub(n: usize, body: Vec<Stmt>) -> StmtKind {
+    sub_of(n, vec![], body)
+}
+
+fn sub_of(n: usize, params: Vec<Param>, body: Vec<Stmt>) -> StmtKind {
     StmtKind::Sub {
         name: name_of(n),
-        params: vec![],
+        params,
         body,
         is_static: false,
     }
+}
+
+fn array_param(n: usize) -> Param {
+    Param {
+        name: name_of(n),
+        byval: false,
+        array: true,
+        ty: None,
+    }
+}
+
+fn same_arrays(count: usize) -> Vec<Param> {
+    vec![array_param(0); count]
 }
 
 /// A variable AS INTEGER.
@@ -365,9 +552,21 @@ fn record(n: usize, fields: usize) -> StmtKind {
         name: format!("F{i}"),
         ty: TypeRef::Integer,
     };
+    type_of(n, (0..fields).map(field).collect())
+}
+
+fn type_of(n: usize, fields: Vec<FieldDecl>) -> StmtKind {
     StmtKind::TypeDef {
         name: name_of(n),
-        fields: (0..fields).map(field).collect(),
+        fields,
+    }
+}
+
+/// A field of a TYPE that isn't there.
+fn unknown(n: usize) -> FieldDecl {
+    FieldDecl {
+        name: name_of(n),
+        ty: TypeRef::Record("U".into()),
     }
 }
 
@@ -470,12 +669,13 @@ fn calls(words: usize) -> Vec<Stmt> {
 
 /// Strings that differ only in their last bytes, as many and as long as may be.
 fn names() -> Vec<u8> {
-    let all: Vec<String> = (0..409)
-        .map(|n| format!("{}{n:04}", "A".repeat(36)))
-        .collect();
-    let program: Vec<Stmt> = all
-        .iter()
-        .map(|n| at(1, StmtKind::LabelName(n.clone())))
+    let program: Vec<Stmt> = (0..409)
+        .map(|n| at(1, StmtKind::LabelName(long_name(n))))
         .collect();
     image::build(&program, &[], &[]).to_bytes()
+}
+
+/// A name of 40 bytes.
+fn long_name(n: usize) -> String {
+    format!("{}{n:04}", "A".repeat(36))
 }

@@ -1,12 +1,13 @@
 -- What `analyse` tells, by the way that it took. No line here knows the code. Assumes nothing.
 use Prim.Native.Nat.{ℕ, _≤_, _<_}
 use mathlib.Core.Path.{_≡_, refl, sym, ap, _∙_, subst}
-use mathlib.Core.Bool.{true, false}
+use mathlib.Core.Bool.{Bool, true, false}
 use mathlib.Core.List.{List, []}
 use mathlib.Core.Option.{some}
 use native.Mathlib.Omega.{arith}
 use lib.ListN.{length}
 use borrow.Author.Tests.{le-leb, lt-leb}
+use Rattle.words.specs.Word.{pick}
 use Rattle.words.specs.Told.{Told, stops, gives, after, unless}
 use Rattle.words.specs.Refusals.{numberOf, placeOf, refused}
 use Rattle.words.specs.declared.Refusal.{Refusal}
@@ -42,7 +43,8 @@ use Rattle.resolver.specs.Post.{Room}
 use Rattle.accesses.specs.Post.{ReadyProgram, ResolvedProgram}
 use Rattle.equivalence.specs.Analysis.{Analysis, resultOf}
 use Rattle.analyse.specs.Analyse.{work, analysisIn, told, counted, rowsAfter, notesAfter, outAfter, Formed, Tells, Analyses}
-use Rattle.analyse.specs.Run.{Ends, Tabled}
+use Rattle.analyse.specs.Run.{Ends, Tabled, answerOf}
+use Rattle.analyse.specs.declared.Outcome.{Outcome}
 use Rattle.analyse.specs.declared.Answer.{Answer}
 use Rattle.analyse.specs.declared.Answer.the-variants.{Refused, Done}
 use Rattle.analyse.proofs.Stops.{Zeroing, analysed-zeroing}
@@ -202,6 +204,17 @@ pub entry-tells : {bytes ends erased words : List ℕ} {r : Answer} {notes rows 
     → Analyses bytes ends erased words r notes rows out notes′ rows′ out′
 unfolding analysisIn
 entry-tells A T = record { at = A .at; place = A .place; is = tells-as (A .is) T }
+
+-- the answer of an outcome, by whether all is fine
+pub fine-answer : (o : Outcome) → o .fine ≡ true → Done (record { notes = o .notes; rows = o .rows; words = o .words }) ≡ answerOf o
+fine-answer o e = sym (ap (λ (b : Bool). pick b (Done (record { notes = o .notes; rows = o .rows; words = o .words })) (Refused (o .refusal))) e)
+
+pub refused-answer : (o : Outcome) → o .fine ≡ false → Refused (o .refusal) ≡ answerOf o
+refused-answer o e = sym (ap (λ (b : Bool). pick b (Done (record { notes = o .notes; rows = o .rows; words = o .words })) (Refused (o .refusal))) e)
+
+-- what an answer tells, another that is the same tells
+pub same-tells : {a r : Answer} {notes rows out notes′ rows′ out′ : List ℕ} {u : Told Analysis} → r ≡ a → Tells a notes rows out notes′ rows′ out′ u → Tells r notes rows out notes′ rows′ out′ u
+same-tells {a} {r} {notes} {rows} {out} {notes′} {rows′} {out′} {u} e T = subst (λ (x : Answer). Tells x notes rows out notes′ rows′ out′ u) (sym e) T
 
 -- 5 and 1 leave the buffers
 pub size-tells : (notes rows out : List ℕ) → Tells (Refused Size) notes rows out notes rows out (stops 5 0)

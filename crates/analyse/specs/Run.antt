@@ -15,6 +15,20 @@ use Rattle.steps.specs.Refused.{zeroing}
 use Rattle.steps.specs.declared.Counts.{Counts}
 use Rattle.steps.specs.Held.{Left}
 use Rattle.collect.specs.Collect.{given, analysed}
+use Rattle.tree.specs.Memo.{Remembers}
+use Rattle.words.specs.Word.{pick}
+use Rattle.analyse.specs.declared.Given.{Given}
+use Rattle.analyse.specs.declared.Outcome.{Outcome}
+use Rattle.analyse.specs.declared.Answer.{Answer}
+use Rattle.analyse.specs.declared.Answer.the-variants.{Refused, Done}
+
+-- the answer that an outcome is
+abbrev pub answerOf : Outcome → Answer
+answerOf o = pick (o .fine) (Done (record { notes = o .notes; rows = o .rows; words = o .words })) (Refused (o .refusal))
+
+-- what the memo remembers is right, whatever the strings' marks are
+pub record Blank (ws memo : List ℕ) : Type 0 where
+  pub gives : (ns : List ℕ) (n : ℕ) → Remembers ws ns n memo
 
 -- what collecting and the collision check end in, in buffers of N and D words: a table with its diagnostics, or 7, 8 or 9
 unfoldable pub Ends : (N D : ℕ) → State → Type 0

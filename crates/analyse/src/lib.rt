@@ -14,7 +14,7 @@ ghost use Rattle.steps.specs.Held.{Fresh};
 ghost use Rattle.collect.specs.Code.{Named};
 ghost use Rattle.collect.specs.Passed.{Passed};
 ghost use Rattle.analyse.specs.Analyse.{Tells, Analyses, work};
-ghost use Rattle.analyse.specs.Run.{Tabled};
+ghost use Rattle.analyse.specs.Run.{Tabled, Blank, answerOf};
 
 // How many diagnostics, rows and resolved words stand in their buffers.
 pub struct Given {
@@ -26,6 +26,29 @@ pub struct Given {
 pub enum Answer {
     Refused(Refusal),
     Done(Given),
+}
+
+// The same inside: the counts where all is fine, else the refusal. The two share no room, so that it is passed on without being taken apart.
+struct Outcome {
+    notes: usize,
+    rows: usize,
+    words: usize,
+    refusal: Refusal,
+    fine: bool,
+}
+
+fn answered(o: Outcome) -> Answer
+    ensures { λ r. ⌜ r ≡ answerOf o ⌝ }
+{
+    if o.fine {
+        return Answer::Done(Given {
+            notes: o.notes,
+            rows: o.rows,
+            words: o.words,
+        });
+    }
+    let f = o.refusal;
+    Answer::Refused(f)
 }
 
 // Rows and diagnostics of a program that passed the checks; a run that stops leaves zeros.
@@ -75,20 +98,28 @@ fn run(
     out: &mut [u32],
     memo: &[u32],
     fresh: bool,
-) -> Answer
+) -> Outcome
     requires { ⌜ Passed (now bytes) (now ends) (now erased) (now words) (now names) × (length (now words) ≤ length (now out)) × Remembers (now words) (now names) (length (now names)) (now memo) × Fresh fresh (now rows) (now notes) ⌝ }
-    ensures { λ r. ⌜ Tells r (now (notes .entry)) (now (rows .entry)) (now (out .entry)) (now (notes .exit)) (now (rows .exit)) (now (out .exit)) (work (length (now (rows .entry))) (length (now (notes .entry))) (length (now (out .entry))) (now (bytes .entry)) (now (ends .entry)) (now (erased .entry)) (now (words .entry))) ⌝ }
+    ensures { λ r. ⌜ Tells (answerOf r) (now (notes .entry)) (now (rows .entry)) (now (out .entry)) (now (notes .exit)) (now (rows .exit)) (now (out .exit)) (work (length (now (rows .entry))) (length (now (notes .entry))) (length (now (out .entry))) (now (bytes .entry)) (now (ends .entry)) (now (erased .entry)) (now (words .entry))) ⌝ }
 {
     let s = tables(words, names, bytes, ends, erased, rows, notes, memo, fresh);
     if s.stop != 0 {
-        return Answer::Refused(steps::refusal(s.stop));
+        return Outcome {
+            notes: 0,
+            rows: 0,
+            words: 0,
+            refusal: steps::refusal(s.stop),
+            fine: false,
+        };
     }
     let count = accesses::resolve_with(words, names, rows, s.rows, out, memo);
-    Answer::Done(Given {
+    Outcome {
         notes: s.notes,
         rows: s.rows,
         words: count,
-    })
+        refusal: Refusal::Size,
+        fine: true,
+    }
 }
 
 // Where the names' marks are known: 2 or 3, 4, 10, and then the run, with a memo of the ends of procedures.
@@ -103,15 +134,27 @@ fn noted(
     out: &mut [u32],
     memo: &mut [u32],
     fresh: bool,
-) -> Answer
+) -> Outcome
     requires { ⌜ Named (now bytes) (now ends) (now names) × (length (now names) ≤ maxStrings) × Remembers (now words) (now names) (length (now names)) (now memo) × Fresh fresh (now rows) (now notes) ⌝ }
-    ensures { λ r. ⌜ Tells r (now (notes .entry)) (now (rows .entry)) (now (out .entry)) (now (notes .exit)) (now (rows .exit)) (now (out .exit)) (work (length (now (rows .entry))) (length (now (notes .entry))) (length (now (out .entry))) (now (bytes .entry)) (now (ends .entry)) (now (erased .entry)) (now (words .entry))) ⌝ }
+    ensures { λ r. ⌜ Tells (answerOf r) (now (notes .entry)) (now (rows .entry)) (now (out .entry)) (now (notes .exit)) (now (rows .exit)) (now (out .exit)) (work (length (now (rows .entry))) (length (now (notes .entry))) (length (now (out .entry))) (now (bytes .entry)) (now (ends .entry)) (now (erased .entry)) (now (words .entry))) ⌝ }
 {
     match reader::check_program_with(words, erased, names, memo) {
-        Accepted::Refused(f) => Answer::Refused(f),
+        Accepted::Refused(f) => Outcome {
+            notes: 0,
+            rows: 0,
+            words: 0,
+            refusal: f,
+            fine: false,
+        },
         Accepted::Fine => {
             if out.len() < words.len() {
-                return Answer::Refused(Refusal::Output);
+                return Outcome {
+                    notes: 0,
+                    rows: 0,
+                    words: 0,
+                    refusal: Refusal::Output,
+                    fine: false,
+                };
             }
             run(
                 words,
@@ -129,10 +172,41 @@ fn noted(
     }
 }
 
-// The same, with a memo of its own.
-fn checked(
+// Where the strings are sound: their marks, one for each, and then the checks of the tree, with an empty memo.
+fn marked_in(
     words: &[u32],
-    names: &[u8],
+    marks: &mut [u8],
+    bytes: &[u8],
+    ends: &[u32],
+    erased: &[u32],
+    notes: &mut [u32],
+    rows: &mut [u32],
+    out: &mut [u32],
+    memo: &mut [u32],
+    fresh: bool,
+) -> Outcome
+    requires { ⌜ (sound (now bytes) (now ends) ≡ true) × (length (now ends) ≤ maxStrings) × (length (now marks) ≡ length (now ends)) × Blank (now words) (now memo) × Fresh fresh (now rows) (now notes) ⌝ }
+    ensures { λ r. ⌜ Tells (answerOf r) (now (notes .entry)) (now (rows .entry)) (now (out .entry)) (now (notes .exit)) (now (rows .exit)) (now (out .exit)) (work (length (now (rows .entry))) (length (now (notes .entry))) (length (now (out .entry))) (now (bytes .entry)) (now (ends .entry)) (now (erased .entry)) (now (words .entry))) ⌝ }
+{
+    strings::mark_names(bytes, ends, marks);
+    noted(
+        words,
+        marks,
+        bytes,
+        ends,
+        erased,
+        notes,
+        rows,
+        out,
+        memo,
+        fresh,
+    )
+}
+
+// With room for the marks of all strings that a table may have, and for the ends of 2,047 procedures. An odd number of slots: procedures of equal length get
+// different ones.
+fn many(
+    words: &[u32],
     bytes: &[u8],
     ends: &[u32],
     erased: &[u32],
@@ -140,14 +214,16 @@ fn checked(
     rows: &mut [u32],
     out: &mut [u32],
     fresh: bool,
-) -> Answer
-    requires { ⌜ Named (now bytes) (now ends) (now names) × (length (now names) ≤ maxStrings) × Fresh fresh (now rows) (now notes) ⌝ }
-    ensures { λ r. ⌜ Tells r (now (notes .entry)) (now (rows .entry)) (now (out .entry)) (now (notes .exit)) (now (rows .exit)) (now (out .exit)) (work (length (now (rows .entry))) (length (now (notes .entry))) (length (now (out .entry))) (now (bytes .entry)) (now (ends .entry)) (now (erased .entry)) (now (words .entry))) ⌝ }
+) -> Outcome
+    requires { ⌜ (sound (now bytes) (now ends) ≡ true) × (length (now ends) ≤ maxStrings) × Fresh fresh (now rows) (now notes) ⌝ }
+    ensures { λ r. ⌜ Tells (answerOf r) (now (notes .entry)) (now (rows .entry)) (now (out .entry)) (now (notes .exit)) (now (rows .exit)) (now (out .exit)) (work (length (now (rows .entry))) (length (now (notes .entry))) (length (now (out .entry))) (now (bytes .entry)) (now (ends .entry)) (now (erased .entry)) (now (words .entry))) ⌝ }
 {
-    let mut memo = [0u32; 128];
-    noted(
+    let n = ends.len();
+    let mut marks = [0u8; 1024];
+    let mut memo = [0u32; 4094];
+    marked_in(
         words,
-        names,
+        &mut marks[..n],
         bytes,
         ends,
         erased,
@@ -159,55 +235,8 @@ fn checked(
     )
 }
 
-// Where the strings are sound: their marks, one for each, and then the checks of the tree.
-fn marked_in(
-    words: &[u32],
-    marks: &mut [u8],
-    bytes: &[u8],
-    ends: &[u32],
-    erased: &[u32],
-    notes: &mut [u32],
-    rows: &mut [u32],
-    out: &mut [u32],
-    fresh: bool,
-) -> Answer
-    requires { ⌜ (sound (now bytes) (now ends) ≡ true) × (length (now ends) ≤ maxStrings) × (length (now marks) ≡ length (now ends)) × Fresh fresh (now rows) (now notes) ⌝ }
-    ensures { λ r. ⌜ Tells r (now (notes .entry)) (now (rows .entry)) (now (out .entry)) (now (notes .exit)) (now (rows .exit)) (now (out .exit)) (work (length (now (rows .entry))) (length (now (notes .entry))) (length (now (out .entry))) (now (bytes .entry)) (now (ends .entry)) (now (erased .entry)) (now (words .entry))) ⌝ }
-{
-    strings::mark_names(bytes, ends, marks);
-    checked(words, marks, bytes, ends, erased, notes, rows, out, fresh)
-}
-
-// With room for the marks of all strings that a table may have.
-fn many(
-    words: &[u32],
-    bytes: &[u8],
-    ends: &[u32],
-    erased: &[u32],
-    notes: &mut [u32],
-    rows: &mut [u32],
-    out: &mut [u32],
-    fresh: bool,
-) -> Answer
-    requires { ⌜ (sound (now bytes) (now ends) ≡ true) × (length (now ends) ≤ maxStrings) × Fresh fresh (now rows) (now notes) ⌝ }
-    ensures { λ r. ⌜ Tells r (now (notes .entry)) (now (rows .entry)) (now (out .entry)) (now (notes .exit)) (now (rows .exit)) (now (out .exit)) (work (length (now (rows .entry))) (length (now (notes .entry))) (length (now (out .entry))) (now (bytes .entry)) (now (ends .entry)) (now (erased .entry)) (now (words .entry))) ⌝ }
-{
-    let n = ends.len();
-    let mut marks = [0u8; 1024];
-    marked_in(
-        words,
-        &mut marks[..n],
-        bytes,
-        ends,
-        erased,
-        notes,
-        rows,
-        out,
-        fresh,
-    )
-}
-
-// Most programs have few strings, and so little room to clear.
+// Most programs have few strings and words, and so little room to clear. The other function is called twice, so that the compiler leaves its large arrays out of
+// this one.
 fn marked(
     words: &[u32],
     bytes: &[u8],
@@ -217,15 +246,19 @@ fn marked(
     rows: &mut [u32],
     out: &mut [u32],
     fresh: bool,
-) -> Answer
+) -> Outcome
     requires { ⌜ (sound (now bytes) (now ends) ≡ true) × (length (now ends) ≤ maxStrings) × Fresh fresh (now rows) (now notes) ⌝ }
-    ensures { λ r. ⌜ Tells r (now (notes .entry)) (now (rows .entry)) (now (out .entry)) (now (notes .exit)) (now (rows .exit)) (now (out .exit)) (work (length (now (rows .entry))) (length (now (notes .entry))) (length (now (out .entry))) (now (bytes .entry)) (now (ends .entry)) (now (erased .entry)) (now (words .entry))) ⌝ }
+    ensures { λ r. ⌜ Tells (answerOf r) (now (notes .entry)) (now (rows .entry)) (now (out .entry)) (now (notes .exit)) (now (rows .exit)) (now (out .exit)) (work (length (now (rows .entry))) (length (now (notes .entry))) (length (now (out .entry))) (now (bytes .entry)) (now (ends .entry)) (now (erased .entry)) (now (words .entry))) ⌝ }
 {
     let n = ends.len();
     if 64 < n {
         return many(words, bytes, ends, erased, notes, rows, out, fresh);
     }
+    if 2048 < words.len() {
+        return many(words, bytes, ends, erased, notes, rows, out, fresh);
+    }
     let mut marks = [0u8; 64];
+    let mut memo = [0u32; 128];
     marked_in(
         words,
         &mut marks[..n],
@@ -235,6 +268,7 @@ fn marked(
         notes,
         rows,
         out,
+        &mut memo,
         fresh,
     )
 }
@@ -261,7 +295,8 @@ pub fn analyse_in(
     if let Verdict::Breaks(p) = v {
         return Answer::Refused(Refusal::Strings(p));
     }
-    marked(words, bytes, ends, erased, notes, rows, out, fresh)
+    let o = marked(words, bytes, ends, erased, notes, rows, out, fresh);
+    answered(o)
 }
 
 // Into buffers that may hold anything.

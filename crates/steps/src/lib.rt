@@ -13,11 +13,12 @@ ghost use Rattle.steps.specs.State.{State, running, stop as stopWith};
 ghost use Rattle.steps.specs.Refused.{zeroing, Numbered};
 ghost use Rattle.steps.specs.Held.{Held, Settles, Fresh, Notes, Rows, Counted, changing, entering, pushing, noting, rowsPut, notesPut, Left};
 
-// The number that stopped the run, or 0, and how many rows and diagnostics there are.
+// How many rows and diagnostics there are, and the number that stopped the run, or 0. The wider ones come first, so that no room is left between them: the
+// compiler copies such a record in better parts.
 pub struct Counts {
-    pub stop: u32,
     pub rows: usize,
     pub notes: usize,
+    pub stop: u32,
 }
 
 // Both buffers made empty.

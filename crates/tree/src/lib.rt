@@ -20,16 +20,16 @@ ghost use Rattle.expr.specs.Answer.{stepOf, then};
 struct Frame {
     fields: u64,
     row: usize,
-    times: u32,
     left: usize,
+    times: u32,
 }
 
 // What reading a field's own words tells: 0, past the whole field, at a place; 1, from a place on a frame is left of it; 2, the
 // first wrong word; 3, a right head that stands too deep. It is no enum, so that its numbers stay in registers.
 struct Turn {
-    kind: u8,
     at: usize,
     frame: Frame,
+    kind: u8,
 }
 
 // How many frames the stack of `run` has (`height` in the proofs): few, since every call makes it anew.

@@ -29,7 +29,7 @@ use Rattle.analyse.specs.declared.Given.{Given}
 use Rattle.analyse.specs.declared.Answer.{Answer}
 use Rattle.analyse.specs.declared.Answer.the-variants.{Refused, Done}
 use Rattle.listing.specs.Listing.{textOf, listed, analysed, listing}
-use Rattle.listing.specs.Shown.{shownText, answerText, programText, limit, tooShort}
+use Rattle.listing.specs.Shown.{shownText, answerText, programText, limit, tooShort, WroteUnless}
 
 -- buffers of zeros are fresh
 pub made : (n m : ℕ) → Fresh true (zeros n) (zeros m)
@@ -134,6 +134,28 @@ refused-short e k l = rw (e, ← k) l
 pub done-short : {a : Answer} {n : Given} → a ≡ Done n → false ≡ tooShort a
 unfolding tooShort
 done-short e = rw e refl
+
+-- a run that was too short left all as it was
+pub kept : {text b : List ℕ} {n : ℕ} → WroteUnless true text b b n
+kept = record {
+  kept = λ e. refl;
+  wrote = λ e. absurd (let w : _≡_ {A = ℕ} 0 1 = cc in omega arith);
+}
+
+-- any other wrote the text
+pub written : {text b c : List ℕ} {n : ℕ} → Wrote text b c 0 n → WroteUnless false text b c n
+written p = record {
+  kept = λ e. absurd (let w : _≡_ {A = ℕ} 0 1 = cc in omega arith);
+  wrote = λ e. p;
+}
+
+-- the text under another name
+pub renamed : {q : Bool} {s t b c : List ℕ} {n : ℕ} → s ≡ t → WroteUnless q s b c n → WroteUnless q t b c n
+renamed e p = rw e at p
+
+-- after a run that was too short another begins with all as it was
+pub again : {q : Bool} {t b c d : List ℕ} {n m : ℕ} → q ≡ true → WroteUnless q t b c n → Wrote t c d 0 m → Wrote t b d 0 m
+again e p w = rw (p .kept e) at w
 
 -- ---- an image's text
 

@@ -1,12 +1,14 @@
 -- What the inner contracts cite: the text of an answer and of what stands in the buffers behind it, the text of a program, and which answers ask for more room.
 -- These are definitions.
 use Prim.Native.Nat.{ℕ, _*_}
-use mathlib.Core.Bool.{Bool, false, _||_}
+use mathlib.Core.Path.{_≡_}
+use mathlib.Core.Bool.{Bool, true, false, _||_}
 use mathlib.Core.List.{List}
 use mathlib.Core.Option.{some}
 use lib.Dec.{eqb}
 use Rattle.words.specs.Told.{Told, stops, gives}
 use Rattle.words.specs.Refusals.{numberOf}
+use Rattle.text.specs.Wrote.{Wrote}
 use Rattle.table.specs.Rows.{width, noteWidth}
 use Rattle.page.specs.Page.{page, refusal}
 use Rattle.equivalence.specs.Analysis.{analysis}
@@ -36,3 +38,8 @@ limit n = eqb n 7 || eqb n 8
 unfoldable pub tooShort : Answer → Bool
 tooShort (Refused f) = limit (numberOf f)
 tooShort (Done n) = false
+
+-- what a run in lent buffers leaves: the text, or where they were too short all as it was
+pub record WroteUnless (short : Bool) (text before after : List ℕ) (next : ℕ) : Type 0 where
+  pub kept : short ≡ true → after ≡ before
+  pub wrote : short ≡ false → Wrote text before after 0 next

@@ -20,7 +20,7 @@ ghost use Rattle.steps.specs.Held.{Fresh};
 ghost use Rattle.image.specs.Laws.{Shaped};
 ghost use Rattle.analyse.specs.ReadOff.{Within};
 ghost use Rattle.listing.specs.Listing.{listing as listingOf};
-ghost use Rattle.listing.specs.Shown.{answerText, programText, limit, tooShort};
+ghost use Rattle.listing.specs.Shown.{answerText, programText, limit, tooShort, WroteUnless};
 
 // The text of an answer and of what stands in the buffers.
 fn put_answer(
@@ -120,12 +120,16 @@ fn put_full(out: &mut [u8], image: &[u8], s: Shape) -> usize
     )
 }
 
-// The text of an image's parts by a first run in shorter buffers: to clear all the room costs more than a small program does. Where they are too short
-// the run begins again with all of it.
+// What a run in lent buffers came to: whether the rows or the diagnostics had too little room, and where they had enough the place past the text.
+struct Tried {
+    short: bool,
+    at: usize,
+}
+
+// The text of a program's parts by a run in shorter buffers: to clear all the room costs more than a small program does. Where they are too short
+// nothing is written.
 fn put_first(
     out: &mut [u8],
-    image: &[u8],
-    s: Shape,
     bytes: &[u8],
     ends: &[u32],
     words: &[u32],
@@ -133,15 +137,19 @@ fn put_first(
     notes: &mut [u32],
     rows: &mut [u32],
     resolved: &mut [u32],
-) -> usize
-    requires { ⌜ Shaped (now image) (s .strings) (s .words) (s .erased) (s .bytes) × (programText (now bytes) (now ends) (now erased) (now words) ≡ listingOf (now image)) × (length (now words) ≤ length (now resolved)) × (length (now rows) ≤ 2048 * width) × (length (now notes) ≤ 2048 * noteWidth) × Fresh true (now rows) (now notes) ⌝ }
-    ensures { λ r. ⌜ Wrote (listingOf (now (image .entry))) (now (out .entry)) (now (out .exit)) 0 r ⌝ }
+) -> Tried
+    requires { ⌜ (length (now words) ≤ length (now resolved)) × (length (now rows) ≤ 2048 * width) × (length (now notes) ≤ 2048 * noteWidth) × Fresh true (now rows) (now notes) ⌝ }
+    ensures { λ r. ⌜ WroteUnless (r .short) (programText (now (bytes .entry)) (now (ends .entry)) (now (erased .entry)) (now (words .entry))) (now (out .entry)) (now (out .exit)) (r .at) ⌝ }
 {
     let a = analyse_in(bytes, ends, words, erased, notes, rows, resolved, true);
     if too_short(a) {
-        return put_full(out, image, s);
+        return Tried { short: true, at: 0 };
     }
-    put_answer(out, bytes, ends, notes, rows, resolved, a)
+    let at = put_answer(out, bytes, ends, notes, rows, resolved, a);
+    Tried {
+        short: false,
+        at: at,
+    }
 }
 
 // An image's words read into lent buffers; its string bytes stay where they are.
@@ -155,9 +163,9 @@ fn put_read(
     notes: &mut [u32],
     rows: &mut [u32],
     resolved: &mut [u32],
-) -> usize
+) -> Tried
     requires { ⌜ Shaped (now image) (s .strings) (s .words) (s .erased) (s .bytes) × (s .strings ≤ length (now ends)) × (s .words ≤ length (now words)) × (s .erased ≤ length (now erased)) × (length (now rows) ≤ 2048 * width) × (length (now notes) ≤ 2048 * noteWidth) × (s .words ≤ length (now resolved)) × Fresh true (now rows) (now notes) ⌝ }
-    ensures { λ r. ⌜ Wrote (listingOf (now (image .entry))) (now (out .entry)) (now (out .exit)) 0 r ⌝ }
+    ensures { λ r. ⌜ WroteUnless (r .short) (listingOf (now (image .entry))) (now (out .entry)) (now (out .exit)) (r .at) ⌝ }
 {
     let tree_from = 12 + 4 * s.strings;
     let erased_from = tree_from + 4 * s.words;
@@ -168,8 +176,6 @@ fn put_read(
     read_words(image, erased_from, s.erased, erased);
     put_first(
         out,
-        image,
-        s,
         &image[from..to],
         &ends[..s.strings],
         &words[..s.words],
@@ -200,7 +206,7 @@ fn put_middle(out: &mut [u8], image: &[u8], s: Shape) -> usize
     let mut notes = [0u32; 1536];
     let mut rows = [0u32; 1536];
     let mut resolved = [0u32; 2048];
-    put_read(
+    let t = put_read(
         out,
         image,
         s,
@@ -210,10 +216,14 @@ fn put_middle(out: &mut [u8], image: &[u8], s: Shape) -> usize
         &mut notes,
         &mut rows,
         &mut resolved,
-    )
+    );
+    if t.short {
+        return put_full(out, image, s);
+    }
+    t.at
 }
 
-// In 7,680 bytes of buffers; 64 rows and 64 diagnostics in the first run.
+// In 7,680 bytes of buffers; 64 rows and 64 diagnostics.
 fn put_small(out: &mut [u8], image: &[u8], s: Shape) -> usize
     requires { ⌜ Shaped (now image) (s .strings) (s .words) (s .erased) (s .bytes) ⌝ }
     ensures { λ r. ⌜ Wrote (listingOf (now (image .entry))) (now (out .entry)) (now (out .exit)) 0 r ⌝ }
@@ -233,7 +243,7 @@ fn put_small(out: &mut [u8], image: &[u8], s: Shape) -> usize
     let mut notes = [0u32; 384];
     let mut rows = [0u32; 384];
     let mut resolved = [0u32; 512];
-    put_read(
+    let t = put_read(
         out,
         image,
         s,
@@ -243,7 +253,11 @@ fn put_small(out: &mut [u8], image: &[u8], s: Shape) -> usize
         &mut notes,
         &mut rows,
         &mut resolved,
-    )
+    );
+    if t.short {
+        return put_middle(out, image, s);
+    }
+    t.at
 }
 
 // In 2,368 bytes of buffers; 32 rows and 16 diagnostics.
@@ -266,7 +280,7 @@ fn put_tiny(out: &mut [u8], image: &[u8], s: Shape) -> usize
     let mut notes = [0u32; 96];
     let mut rows = [0u32; 192];
     let mut resolved = [0u32; 128];
-    put_read(
+    let t = put_read(
         out,
         image,
         s,
@@ -276,7 +290,11 @@ fn put_tiny(out: &mut [u8], image: &[u8], s: Shape) -> usize
         &mut notes,
         &mut rows,
         &mut resolved,
-    )
+    );
+    if t.short {
+        return put_small(out, image, s);
+    }
+    t.at
 }
 
 fn put_listing(out: &mut [u8], image: &[u8]) -> usize

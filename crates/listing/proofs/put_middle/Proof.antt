@@ -1,7 +1,7 @@
 -- put_middle: the sizes that are asked have room in these buffers.
 use Prim.Native.Nat.{_≤_}
 use native.Mathlib.Omega.{arith}
-use Rattle.listing.proofs.Laws.{made}
+use Rattle.listing.proofs.Laws.{made, again}
 use borrow.Author.Needs.{needs}
 use Rattle.listing.proofs.put_middle.Statement.{statement}
 use Rattle.listing.proofs.put_middle.Tie as tie
@@ -54,11 +54,20 @@ slice-aggregate-put-read-6 c = search needs
 put-read-requires : tie.Need-put-read-requires
 put-read-requires c κs = (c .before .before .before .before .before .before .before .before .before .before .before .before .before .before .before .pre, c .before .before .before .before .before .before .before .before .before .if2 .left, c .before .before .before .before .before .before .before .before .before .before .before .if1 .left, c .before .before .before .before .before .before .before .if3 .left, (let h : 1536 ≤ 12288 = omega arith in h), (let h : 1536 ≤ 12288 = omega arith in h), c .before .before .before .before .before .before .before .before .before .before .before .if1 .left, made 1536 1536)
 
+put-full-requires-4 : tie.Need-put-full-requires-4
+put-full-requires-4 c κs = search needs
+
 same-length-4 : tie.Need-same-length-4
 same-length-4 c = search needs
 
 returns-4 : tie.Need-returns-4
-returns-4 c = search needs
+returns-4 c = again (c .before .before .before .before .if4 .taken) (c .before .before .before .before .before .before .before .before .before .before .before .before .before .put-read .ensures) (c .before .before .put-full4 .ensures)
+
+same-length-5 : tie.Need-same-length-5
+same-length-5 c = search needs
+
+returns-5 : tie.Need-returns-5
+returns-5 c = c .before .before .before .before .before .before .before .before .before .put-read .ensures .wrote (c .if4 .left)
 
 pub put-middle-spec : {M : Type 1} → statement M
 put-middle-spec =
@@ -80,5 +89,8 @@ put-middle-spec =
     slice-aggregate-put-read-5
     slice-aggregate-put-read-6
     put-read-requires
+    put-full-requires-4
     same-length-4
-    returns-4)
+    returns-4
+    same-length-5
+    returns-5)

@@ -43,7 +43,7 @@ use Rattle.resolver.specs.Post.{Room}
 use Rattle.accesses.specs.Post.{ReadyProgram, ResolvedProgram}
 use Rattle.equivalence.specs.Analysis.{Analysis, resultOf}
 use Rattle.analyse.specs.Analyse.{work, analysisIn, told, counted, rowsAfter, notesAfter, outAfter, Formed, Tells, Analyses}
-use Rattle.analyse.specs.Run.{Ends, Tabled, answerOf}
+use Rattle.analyse.specs.Run.{Ends, Tabled, answerOf, refusedOf}
 use Rattle.analyse.specs.declared.Outcome.{Outcome}
 use Rattle.analyse.specs.declared.Answer.{Answer}
 use Rattle.analyse.specs.declared.Answer.the-variants.{Refused, Done}
@@ -209,6 +209,12 @@ entry-tells A T = record { at = A .at; place = A .place; is = tells-as (A .is) T
 pub fine-answer : (o : Outcome) → o .fine ≡ true → Done (record { notes = o .notes; rows = o .rows; words = o .words }) ≡ answerOf o
 fine-answer o e = sym (ap (λ (b : Bool). pick b (Done (record { notes = o .notes; rows = o .rows; words = o .words })) (Refused (o .refusal))) e)
 
+-- a refusal's outcome tells what the refusal does
+pub outcome-refused : {o : Outcome} {f : Refusal} {notes rows out notes′ rows′ out′ : List ℕ} {t : Told Analysis} → o ≡ refusedOf f → Tells (Refused f) notes rows out notes′ rows′ out′ t
+    → Tells (answerOf o) notes rows out notes′ rows′ out′ t
+outcome-refused {notes = notes} {rows} {out} {notes′} {rows′} {out′} {t} e T = subst (λ (x : Outcome). Tells (answerOf x) notes rows out notes′ rows′ out′ t) (sym e) T
+
+-- and where it is not fine
 pub refused-answer : (o : Outcome) → o .fine ≡ false → Refused (o .refusal) ≡ answerOf o
 refused-answer o e = sym (ap (λ (b : Bool). pick b (Done (record { notes = o .notes; rows = o .rows; words = o .words })) (Refused (o .refusal))) e)
 

@@ -17,6 +17,7 @@ use Rattle.steps.specs.Held.{Left}
 use Rattle.collect.specs.Collect.{given, analysed}
 use Rattle.tree.specs.Memo.{Remembers}
 use Rattle.words.specs.Word.{pick}
+use Rattle.words.specs.declared.Refusal.{Refusal}
 use Rattle.analyse.specs.declared.Given.{Given}
 use Rattle.analyse.specs.declared.Outcome.{Outcome}
 use Rattle.analyse.specs.declared.Answer.{Answer}
@@ -25,6 +26,10 @@ use Rattle.analyse.specs.declared.Answer.the-variants.{Refused, Done}
 -- the answer that an outcome is
 abbrev pub answerOf : Outcome → Answer
 answerOf o = pick (o .fine) (Done (record { notes = o .notes; rows = o .rows; words = o .words })) (Refused (o .refusal))
+
+-- the outcome that is a refusal
+abbrev pub refusedOf : Refusal → Outcome
+refusedOf f = record { notes = 0; rows = 0; words = 0; refusal = f; fine = false }
 
 -- what the memo remembers is right, whatever the strings' marks are
 pub record Blank (ws memo : List ℕ) : Type 0 where

@@ -14,7 +14,7 @@ ghost use Rattle.steps.specs.Held.{Fresh};
 ghost use Rattle.collect.specs.Code.{Named};
 ghost use Rattle.collect.specs.Passed.{Passed};
 ghost use Rattle.analyse.specs.Analyse.{Tells, Analyses, work};
-ghost use Rattle.analyse.specs.Run.{Tabled, Blank, answerOf};
+ghost use Rattle.analyse.specs.Run.{Tabled, Blank, answerOf, refusedOf};
 
 // How many diagnostics, rows and resolved words stand in their buffers.
 pub struct Given {
@@ -49,6 +49,19 @@ fn answered(o: Outcome) -> Answer
     }
     let f = o.refusal;
     Answer::Refused(f)
+}
+
+// No counts, but why there are none.
+fn refused(f: Refusal) -> Outcome
+    ensures { λ r. ⌜ r ≡ refusedOf f ⌝ }
+{
+    Outcome {
+        notes: 0,
+        rows: 0,
+        words: 0,
+        refusal: f,
+        fine: false,
+    }
 }
 
 // Rows and diagnostics of a program that passed the checks; a run that stops leaves zeros.
@@ -104,13 +117,7 @@ fn run(
 {
     let s = tables(words, names, bytes, ends, erased, rows, notes, memo, fresh);
     if s.stop != 0 {
-        return Outcome {
-            notes: 0,
-            rows: 0,
-            words: 0,
-            refusal: steps::refusal(s.stop),
-            fine: false,
-        };
+        return refused(steps::refusal(s.stop));
     }
     let count = accesses::resolve_with(words, names, rows, s.rows, out, memo);
     Outcome {
@@ -139,22 +146,10 @@ fn noted(
     ensures { λ r. ⌜ Tells (answerOf r) (now (notes .entry)) (now (rows .entry)) (now (out .entry)) (now (notes .exit)) (now (rows .exit)) (now (out .exit)) (work (length (now (rows .entry))) (length (now (notes .entry))) (length (now (out .entry))) (now (bytes .entry)) (now (ends .entry)) (now (erased .entry)) (now (words .entry))) ⌝ }
 {
     match reader::check_program_with(words, erased, names, memo) {
-        Accepted::Refused(f) => Outcome {
-            notes: 0,
-            rows: 0,
-            words: 0,
-            refusal: f,
-            fine: false,
-        },
+        Accepted::Refused(f) => refused(f),
         Accepted::Fine => {
             if out.len() < words.len() {
-                return Outcome {
-                    notes: 0,
-                    rows: 0,
-                    words: 0,
-                    refusal: Refusal::Output,
-                    fine: false,
-                };
+                return refused(Refusal::Output);
             }
             run(
                 words,

@@ -1,5 +1,5 @@
 -- The tables, and then resolving under them; a stopped run is refused by its number. Assumes nothing.
-use Rattle.analyse.proofs.Laws.{stopped-zeroing, run-stopped, run-resolved, run-ready}
+use Rattle.analyse.proofs.Laws.{outcome-refused, stopped-zeroing, run-stopped, run-resolved, run-ready}
 use borrow.Author.Needs.{needs}
 use Rattle.analyse.proofs.run.Statement.{statement}
 use Rattle.analyse.proofs.run.Tie as tie
@@ -17,7 +17,10 @@ same-length-2 : tie.Need-same-length-2
 same-length-2 c = search needs
 
 returns : tie.Need-returns
-returns c = run-stopped (c .before .before .before .before .before .before .before .before .before .before .before .before .before .before .before .before .before .before .before .pre .0) (c .before .before .before .before .before .before .before .before .before .before .before .before .before .before .before .before .before .before .before .pre .1) (c .before .before .before .before .before .before .before .tables .ensures) (c .before .if1 .taken) (c .refusal .ensures)
+returns c = outcome-refused (c .refused .ensures) (run-stopped (c .before .before .before .before .before .before .before .before .before .before .before .before .before .before .before .before .before .before .before .before .pre .0) (c .before .before .before .before .before .before .before .before .before .before .before .before .before .before .before .before .before .before .before .before .pre .1) (c .before .before .before .before .before .before .before .before .tables .ensures) (c .before .before .if1 .taken) (c .before .refusal .ensures))
+
+refused-requires : tie.Need-refused-requires
+refused-requires c κs = search needs
 
 resolve-with-requires : tie.Need-resolve-with-requires
 resolve-with-requires c κs = (run-ready (c .before .before .before .before .before .before .before .before .before .before .before .before .before .before .before .before .before .before .before .before .pre .0) (c .before .before .before .before .before .before .before .before .before .before .before .before .before .before .before .before .before .before .before .before .pre .1) (c .before .before .before .before .before .before .before .before .tables .ensures) (c .before .before .if1 .left), c .before .before .before .before .before .before .before .before .before .before .before .before .before .before .before .before .before .before .before .before .pre .2)
@@ -40,6 +43,7 @@ run-spec =
     (tie.spec
     tables-requires
     refusal-requires
+    refused-requires
     same-length
     same-length-2
     returns

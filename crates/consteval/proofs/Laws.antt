@@ -5,6 +5,7 @@ use mathlib.Core.Bool.{Bool, false}
 use mathlib.Core.List.{List}
 use native.Mathlib.Omega.{arith}
 use borrow.Author.Tests.{eq-eqb, ne-eqb}
+use lib.Dec.{eqb}
 use lib.ListN.{length, getD}
 use Rattle.words.specs.Word.{kindOf, payOf, pick}
 use Rattle.expr.specs.Expr.{Strings, Expr, Lit, Var, Elem, Unary, Binary, Call, Field, Paren, kindE}
@@ -16,13 +17,52 @@ use Rattle.skip.specs.Shape.{SomeExpr}
 use Rattle.table.specs.Rows.{Row}
 use Rattle.runs.specs.Runs.{Keeps}
 use Rattle.fold.specs.Fold.{GoodFold, negateOf, binaryOf}
-use Rattle.fold.specs.FoldLaws.{row-good}
+use Rattle.fold.specs.FoldLaws.{RowFold, row-good, negate-row, binary-row}
+use Rattle.fold.specs.ValueLaws.{value-words}
+use Rattle.fold.specs.Value.{valueOf, literalKind, lowOf, highOf}
+use Rattle.fold.specs.declared.Value.{Value}
 use Rattle.fold.specs.declared.Fold.{Fold}
 use Rattle.fold.specs.declared.Fold.the-variants.{Is, Overflow, NotConstant}
 use Rattle.consteval.specs.ConstEval.{constant, constEval}
-use Rattle.consteval.specs.Evaluates.{HoldsConsts, LiteralAt, Ready, Evaluates, EvaluatesAlone, Past, isValue}
+use Rattle.consteval.specs.Evaluates.{foldOf, RowSome, HoldsConsts, LiteralAt, Ready, Evaluates, EvaluatesAlone, Past, isValue}
 use Rattle.consteval.specs.EvalLaws.{Words32, const-row}
 use Rattle.consteval.specs.declared.Folded.{Folded}
+
+-- ---- answers as words
+
+-- the answer, by what the words say
+module _ (a : Folded) where
+  -- 0: a value, by its words
+  pub value-case : a .what ≡ 0 → foldOf a ≡ Is (valueOf (a .kind) (a .low) (a .high))
+  value-case e = ap (λ (w : ℕ). pick (eqb w 0) (Is (valueOf (a .kind) (a .low) (a .high))) (pick (eqb w 1) Overflow NotConstant)) e
+
+  -- 1: an overflow
+  pub over-case : a .what ≡ 1 → foldOf a ≡ Overflow
+  over-case e = ap (λ (w : ℕ). pick (eqb w 0) (Is (valueOf (a .kind) (a .low) (a .high))) (pick (eqb w 1) Overflow NotConstant)) e
+
+  -- any other number: not constant
+  pub not-case : (a .what ≡ 0 → ⊥) → (a .what ≡ 1 → ⊥) → foldOf a ≡ NotConstant
+  not-case z y =
+      ap (λ (b : Bool). pick b (Is (valueOf (a .kind) (a .low) (a .high))) (pick (eqb (a .what) 1) Overflow NotConstant)) (ne-eqb _ _ z)
+      ∙ ap (λ (b : Bool). pick b Overflow NotConstant) (ne-eqb _ _ y)
+
+-- a good answer, and its negation and what an operator makes of two, which a CONST row may hold
+pub some-good : {f : Fold} → RowSome f → GoodFold f
+some-good {f} S = row-good (S .strings) f (S .row)
+
+-- a negated fold may stand in a CONST row where the fold may
+pub some-negated : {f g : Fold} → g ≡ negateOf f → RowSome f → RowSome g
+some-negated {f} {g} e S = record { strings = S .strings; row = subst (RowFold (S .strings)) (sym e) (negate-row (S .strings) f (S .row)) }
+
+-- so may the fold of any operator
+pub some-binary : (op : ℕ) (l r : Fold) {g : Fold} → g ≡ binaryOf op l r → RowSome g
+some-binary op l r {g} e = record { strings = 0; row = subst (RowFold 0) (sym e) (binary-row 0 op l r) }
+
+-- the words of a value are the answer that it is
+pub value-laid : {f : Fold} (v : Value) (next kind low high : ℕ) → f ≡ Is v → RowSome f → (kind ≡ literalKind v) × (low ≡ lowOf v) × (high ≡ highOf v) → foldOf (record { next = next; what = 0; kind = kind; low = low; high = high }) ≡ f
+value-laid {f} v next kind low high e S q =
+    let R = subst (RowFold (S .strings)) e (S .row) in
+    ap Is (rw (q .0, q .1, q .2) (value-words (S .strings) v R)) ∙ sym e
 
 -- ---- what stands inside a node
 
@@ -61,11 +101,15 @@ module _ {ws : List ℕ} {at : ℕ} {buf : List ℕ} {count : ℕ} where
   ready : {m : ℕ} (R : Ready ws at buf count) {e : Expr} {end : ℕ} → Stands ws (R .strings) m e end → Ready ws m buf count
   ready R {e} {end} s = record { strings = R .strings; expr = e; end = end; stands = s; rows = R .rows; holds = R .holds; consts = R .consts }
 
-  -- its answer is good
-  pub good : Words32 ws → Ready ws at buf count → {r : Folded} → Evaluates ws at buf count r → GoodFold (r .fold)
-  good W R {r} E =
+  -- and so may the answer
+  pub row : Words32 ws → Ready ws at buf count → {r : Folded} → Evaluates ws at buf count r → RowSome (foldOf r)
+  row W R {r} E =
       let a = E _ _ _ (R .stands) (R .rows) (R .holds) .answer in
-      subst GoodFold (sym a) (row-good (R .strings .count) (constEval (R .rows) (R .expr)) (const-row W (R .consts) (R .stands)))
+      record { strings = R .strings .count; row = subst (RowFold (R .strings .count)) (sym a) (const-row W (R .consts) (R .stands)) }
+
+  -- its answer is good
+  pub good : Words32 ws → Ready ws at buf count → {r : Folded} → Evaluates ws at buf count r → GoodFold (foldOf r)
+  good W R {r} E = some-good (row W R E)
 
   -- the place moves
   pub moves : Ready ws at buf count → {r : Folded} → Evaluates ws at buf count r → at < r .next
@@ -87,9 +131,9 @@ module _ {ws : List ℕ} {at : ℕ} {buf : List ℕ} {count : ℕ} where
   name-fits k R = let v = in-var k (R .stands) in omega (arith, v .to, R .stands .wrote .inside)
 
   -- by the CONST row of the name
-  pub name-is : kindOf (getD ws at 0) ≡ 17 → {f : Fold} → ((rows : List Row) → Keeps rows count buf → f ≡ constant rows (payOf (getD ws (at + 1) 0))) → Evaluates ws at buf count (record { fold = f; next = at + 2 })
+  pub name-is : kindOf (getD ws at 0) ≡ 17 → {r : Folded} → ((rows : List Row) → Keeps rows count buf → foldOf r ≡ constant rows (payOf (getD ws (at + 1) 0))) × (r .next ≡ at + 2) → Evaluates ws at buf count r
   unfolding constEval
-  name-is k F n e end s rows h = let v = in-var k s in record { answer = F rows h ∙ sym (ap (constEval rows) (v .is)); past = v .to }
+  name-is k F n e end s rows h = let v = in-var k s in record { answer = F .0 rows h ∙ sym (ap (constEval rows) (v .is)); past = F .1 ∙ v .to }
 
   -- a unary operator
   module _ (k : kindOf (getD ws at 0) ≡ 19) where
@@ -98,7 +142,7 @@ module _ {ws : List ℕ} {at : ℕ} {buf : List ℕ} {count : ℕ} where
     operand R = ready R (in-unary k (R .stands) .inner)
 
     -- minus: the operand's fold, negated
-    pub negated-is : payOf (getD ws (at + 1) 0) ≡ 0 → {a r : Folded} → Evaluates ws (at + 2) buf count a → (r .fold ≡ negateOf (a .fold)) × (r .next ≡ a .next) → Evaluates ws at buf count r
+    pub negated-is : payOf (getD ws (at + 1) 0) ≡ 0 → {a r : Folded} → Evaluates ws (at + 2) buf count a → (foldOf r ≡ negateOf (foldOf a)) × (r .next ≡ a .next) → Evaluates ws at buf count r
     unfolding constEval
     negated-is z {a} {r} E q n e end s rows h =
         let v = in-unary k s in
@@ -106,7 +150,7 @@ module _ {ws : List ℕ} {at : ℕ} {buf : List ℕ} {count : ℕ} where
         record { answer = q .0 ∙ ap negateOf (i .answer) ∙ sym (ap (constEval rows) (v .is) ∙ ap (λ (b : Bool). pick b (negateOf (constEval rows (v .arg))) NotConstant) (eq-eqb _ _ z)); past = q .1 ∙ i .past }
 
     -- NOT: not constant, and past it
-    pub not-is : (payOf (getD ws (at + 1) 0) ≡ 0 → ⊥) → {r : Folded} → (r .fold ≡ NotConstant) × Past ws at (r .next) → Evaluates ws at buf count r
+    pub not-is : (payOf (getD ws (at + 1) 0) ≡ 0 → ⊥) → {r : Folded} → (foldOf r ≡ NotConstant) × Past ws at (r .next) → Evaluates ws at buf count r
     unfolding constEval
     not-is z {r} q n e end s rows h =
         let v = in-unary k s in
@@ -128,14 +172,14 @@ module _ {ws : List ℕ} {at : ℕ} {buf : List ℕ} {count : ℕ} where
           ready R s
 
       -- the left side's failure decides
-      pub failed-is : isValue (l .fold) ≡ false → {r : Folded} → (r .fold ≡ l .fold) × Past ws (l .next) (r .next) → Evaluates ws at buf count r
+      pub failed-is : isValue (foldOf l) ≡ false → {r : Folded} → (foldOf r ≡ foldOf l) × Past ws (l .next) (r .next) → Evaluates ws at buf count r
       unfolding constEval binaryOf
       failed-is f {r} q n e end s rows h =
           let v = in-binary k s in
           let i = L n (v .lhs) (v .mid) (left-at at (v .left)) rows h in
           let x : constEval rows e ≡ binaryOf (v .op) (constEval rows (v .lhs)) (constEval rows (v .rhs)) = ap (constEval rows) (v .is) in
           record {
-            answer = q .0 ∙ sym (x ∙ ap (λ (g : Fold). binaryOf (v .op) g (constEval rows (v .rhs))) (sym (i .answer)) ∙ stops (v .op) (l .fold) (constEval rows (v .rhs)) f);
+            answer = q .0 ∙ sym (x ∙ ap (λ (g : Fold). binaryOf (v .op) g (constEval rows (v .rhs))) (sym (i .answer)) ∙ stops (v .op) (foldOf l) (constEval rows (v .rhs)) f);
             past = q .1 n (v .rhs) end (rw (i .past) (v .right));
           }
         where
@@ -145,7 +189,7 @@ module _ {ws : List ℕ} {at : ℕ} {buf : List ℕ} {count : ℕ} where
           stops op NotConstant g e = refl
 
       -- both folds, by the operator
-      pub combined-is : {m r : Folded} → Evaluates ws (l .next) buf count m → (r .fold ≡ binaryOf (payOf (getD ws (at + 1) 0)) (l .fold) (m .fold)) × (r .next ≡ m .next) → Evaluates ws at buf count r
+      pub combined-is : {m r : Folded} → Evaluates ws (l .next) buf count m → (foldOf r ≡ binaryOf (payOf (getD ws (at + 1) 0)) (foldOf l) (foldOf m)) × (r .next ≡ m .next) → Evaluates ws at buf count r
       unfolding constEval
       combined-is {m} {r} M q n e end s rows h =
           let v = in-binary k s in
@@ -172,7 +216,7 @@ module _ {ws : List ℕ} {at : ℕ} {buf : List ℕ} {count : ℕ} where
 
   -- elements, calls and fields
   pub other-is : (kindOf (getD ws at 0) ≡ 16 → ⊥) → (kindOf (getD ws at 0) ≡ 17 → ⊥) → (kindOf (getD ws at 0) ≡ 19 → ⊥) → (kindOf (getD ws at 0) ≡ 20 → ⊥) → (kindOf (getD ws at 0) ≡ 23 → ⊥)
-      → {r : Folded} → (r .fold ≡ NotConstant) × Past ws at (r .next) → Evaluates ws at buf count r
+      → {r : Folded} → (foldOf r ≡ NotConstant) × Past ws at (r .next) → Evaluates ws at buf count r
   unfolding constEval kindE
   other-is a b c d f {r} q n e end s rows h = record { answer = q .0 ∙ go e (kind-of s); past = q .1 n e end s }
     where

@@ -1,27 +1,23 @@
 -- The literal that stands at a place, by the kind of its head: its words, its value, the place past it. No line here knows the code. Assumes nothing.
 use Prim.Native.Nat.{ℕ, _+_, _-_, _*_, _<_, _≤_}
-use mathlib.Core.Path.{_≡_, refl, sym, ap, ap₂, _∙_, subst}
+use mathlib.Core.Path.{_≡_, refl, sym, ap, ap₂, _∙_}
 use mathlib.Core.Bool.{Bool}
 use mathlib.Core.List.{List, _∷_}
 use native.Mathlib.Omega.{arith}
 use borrow.Author.Tests.{lt-ltb, le-ltb}
-use lib.Dec.{T}
-use lib.IntN.{ℤ, pos, negsuc}
+use lib.IntN.{pos, negsuc}
 use lib.ListN.{length, getD}
-use lib.Ieee.Scale.{finite as finite64}
-use lib.Ieee as Ieee
 use Rattle.words.specs.Word.{kindOf, payOf, pick}
 use Rattle.expr.specs.Expr.{Literal, wordsL, ValidL, kindL}
 use Rattle.expr.specs.Expr as E
 use Rattle.expr.specs.Stands.{Wrote}
 use Rattle.expr.proofs.Parts.{wrote-first, pay-is}
 use Rattle.expr.proofs.Nodes.{in-lit}
-use Rattle.numbers.specs.Numbers.{ofWords, wholeAt}
-use Rattle.fold.specs.declared.Value.the-variants.{Integer, Long, Single, Float, Text}
-use Rattle.fold.specs.declared.Fold.the-variants.{Is}
+use Rattle.numbers.specs.Numbers.{wholeAt}
 use Rattle.consteval.specs.ConstEval.{signed32, literal, constEval}
 use Rattle.consteval.specs.Evaluates.{LiteralAt, EvaluatesAlone}
-use Rattle.consteval.specs.EvalLaws.{Words32, float-good}
+use Rattle.fold.specs.Value.{valueOf}
+use Rattle.consteval.specs.declared.Folded.{Folded}
 
 -- ---- a word in two's complement is one of 64 bits with its sign
 
@@ -95,43 +91,47 @@ module _ (ws : List ℕ) (at : ℕ) where
 
 -- ---- what the expression folds to
 
+-- the words of a value at the place
+abbrev pub laidAs : (next kind low high : ℕ) → Folded
+laidAs next kind low high = record { next = next; what = 0; kind = kind; low = low; high = high }
+
 module _ {ws : List ℕ} {at : ℕ} (K : kindOf (getD ws at 0) ≡ 16) where
   -- 24: an Integer
-  pub eval-24 : kindOf (getD ws (at + 1) 0) ≡ 24 → {z : ℤ} → z ≡ signed32 (getD ws (at + 2) 0) → EvaluatesAlone ws at (record { fold = Is (Integer z); next = at + 3 })
-  unfolding constEval literal
+  pub eval-24 : kindOf (getD ws (at + 1) 0) ≡ 24 → {h : ℕ} → wholeAt (getD ws (at + 2) 0) h ≡ signed32 (getD ws (at + 2) 0) → EvaluatesAlone ws at (laidAs (at + 3) 24 (getD ws (at + 2) 0) h)
+  unfolding constEval literal valueOf
   eval-24 k q n e end s rows =
       let v = in-lit K s in
       let l = integer-is ws at (v .lit) (v .wrote) (sym (v .kind) ∙ k) in
       record { answer = rw (v .is, l .0, q) refl; past = l .1 }
 
   -- 25: a Long
-  pub eval-25 : kindOf (getD ws (at + 1) 0) ≡ 25 → {z : ℤ} → z ≡ signed32 (getD ws (at + 2) 0) → EvaluatesAlone ws at (record { fold = Is (Long z); next = at + 3 })
-  unfolding constEval literal
+  pub eval-25 : kindOf (getD ws (at + 1) 0) ≡ 25 → {h : ℕ} → wholeAt (getD ws (at + 2) 0) h ≡ signed32 (getD ws (at + 2) 0) → EvaluatesAlone ws at (laidAs (at + 3) 25 (getD ws (at + 2) 0) h)
+  unfolding constEval literal valueOf
   eval-25 k q n e end s rows =
       let v = in-lit K s in
       let l = long-is ws at (v .lit) (v .wrote) (sym (v .kind) ∙ k) in
       record { answer = rw (v .is, l .0, q) refl; past = l .1 }
 
   -- 26: a Single
-  pub eval-26 : kindOf (getD ws (at + 1) 0) ≡ 26 → {x : Ieee.Float} → x ≡ ofWords (getD ws (at + 2) 0) (getD ws (at + 3) 0) → EvaluatesAlone ws at (record { fold = Is (Single x); next = at + 4 })
-  unfolding constEval literal
-  eval-26 k q n e end s rows =
+  pub eval-26 : kindOf (getD ws (at + 1) 0) ≡ 26 → EvaluatesAlone ws at (laidAs (at + 4) 26 (getD ws (at + 2) 0) (getD ws (at + 3) 0))
+  unfolding constEval literal valueOf
+  eval-26 k n e end s rows =
       let v = in-lit K s in
       let l = single-is ws at (v .lit) (v .wrote) (sym (v .kind) ∙ k) in
-      record { answer = rw (v .is, l .0, q) refl; past = l .1 }
+      record { answer = rw (v .is, l .0) refl; past = l .1 }
 
   -- 27: a Float
-  pub eval-27 : kindOf (getD ws (at + 1) 0) ≡ 27 → {x : Ieee.Float} → x ≡ ofWords (getD ws (at + 2) 0) (getD ws (at + 3) 0) → EvaluatesAlone ws at (record { fold = Is (Float x); next = at + 4 })
-  unfolding constEval literal
-  eval-27 k q n e end s rows =
+  pub eval-27 : kindOf (getD ws (at + 1) 0) ≡ 27 → EvaluatesAlone ws at (laidAs (at + 4) 27 (getD ws (at + 2) 0) (getD ws (at + 3) 0))
+  unfolding constEval literal valueOf
+  eval-27 k n e end s rows =
       let v = in-lit K s in
       let l = float-is ws at (v .lit) (v .wrote) (sym (v .kind) ∙ k) in
-      record { answer = rw (v .is, l .0, q) refl; past = l .1 }
+      record { answer = rw (v .is, l .0) refl; past = l .1 }
 
   -- 28: a string's number
   pub eval-28 : (kindOf (getD ws (at + 1) 0) ≡ 24 → ⊥) → (kindOf (getD ws (at + 1) 0) ≡ 25 → ⊥) → (kindOf (getD ws (at + 1) 0) ≡ 26 → ⊥) → (kindOf (getD ws (at + 1) 0) ≡ 27 → ⊥)
-      → EvaluatesAlone ws at (record { fold = Is (Text (payOf (getD ws (at + 2) 0))); next = at + 3 })
-  unfolding constEval literal
+      → EvaluatesAlone ws at (laidAs (at + 3) 28 (payOf (getD ws (at + 2) 0)) 0)
+  unfolding constEval literal valueOf
   eval-28 a b c d n e end s rows =
       let v = in-lit K s in
       let l = text-is ws at (n .count) (v .lit) (v .wrote) (v .valid) (λ q. a (v .kind ∙ q)) (λ q. b (v .kind ∙ q)) (λ q. c (v .kind ∙ q)) (λ q. d (v .kind ∙ q)) in
@@ -163,18 +163,3 @@ module _ {ws : List ℕ} {at : ℕ} (A : LiteralAt ws at) where
   float-there k =
       let v = in-lit (A .kind) (A .some .stands) in
       omega (arith, float-is ws at (v .lit) (v .wrote) (sym (v .kind) ∙ k) .1, v .wrote .inside)
-
-  module _ (W : Words32 ws) where
-    -- a Single is finite
-    pub single-good : kindOf (getD ws (at + 1) 0) ≡ 26 → T (finite64 (ofWords (getD ws (at + 2) 0) (getD ws (at + 3) 0)))
-    unfolding ValidL
-    single-good k =
-        let v = in-lit (A .kind) (A .some .stands) in
-        float-good _ _ (W (at + 2)) (W (at + 3)) (subst (ValidL (A .some .strings .count)) (single-is ws at (v .lit) (v .wrote) (sym (v .kind) ∙ k) .0) (v .valid))
-
-    -- a Float is finite
-    pub float-good-27 : kindOf (getD ws (at + 1) 0) ≡ 27 → T (finite64 (ofWords (getD ws (at + 2) 0) (getD ws (at + 3) 0)))
-    unfolding ValidL
-    float-good-27 k =
-        let v = in-lit (A .kind) (A .some .stands) in
-        float-good _ _ (W (at + 2)) (W (at + 3)) (subst (ValidL (A .some .strings .count)) (float-is ws at (v .lit) (v .wrote) (sym (v .kind) ∙ k) .0) (v .valid))

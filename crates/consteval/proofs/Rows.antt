@@ -13,7 +13,7 @@ use Rattle.runs.specs.Places.{row-word}
 use Rattle.table.specs.declared.Found.{Found}
 use Rattle.table.specs.declared.Found.the-variants.{At, Nothing}
 use Rattle.entries.specs.Entries.{entryKey}
-use Rattle.fold.specs.Value.{Good, valueOf}
+use Rattle.fold.specs.Value.{valueOf}
 use Rattle.fold.specs.declared.Value.{Value}
 use Rattle.fold.specs.declared.Fold.the-variants.{Is, NotConstant}
 use Rattle.consteval.specs.ConstEval.{rowValue, ofRow, constant}
@@ -43,13 +43,9 @@ module _ (name : ℕ) {buf : List ℕ} {count k : ℕ} {f : Found} (q : k ≡ en
     row-is : {rows : List Row} → Keeps rows count buf → find (entryKey 132 name 0) rows ≡ some (rowOf buf i)
     row-is {rows} K = subst (λ (j : ℕ). find j rows ≡ some (rowOf buf i)) q (sym (E rows K) ∙ ap (rowIn buf) F)
 
-    -- the value of the row that was found is good
-    pub value-good : HoldsConsts buf count → name < 16777216 → Good (valueAt buf i)
-    value-good C h = subst Good (value-at buf i) (C .consts .good name h (rowOf buf i) (row-is (C .holds)) .good)
-
     -- it is the CONST's
-    pub value-is : {v : Value} → v ≡ valueAt buf i → (rows : List Row) → Keeps rows count buf → Is v ≡ constant rows name
-    value-is e rows K = ap Is (e ∙ sym (value-at buf i)) ∙ sym (ap ofRow (row-is K))
+    pub value-is : (rows : List Row) → Keeps rows count buf → Is (valueAt buf i) ≡ constant rows name
+    value-is rows K = ap Is (sym (value-at buf i)) ∙ sym (ap ofRow (row-is K))
 
   -- no row was found: not constant
   pub value-none : f ≡ Nothing → (rows : List Row) → Keeps rows count buf → NotConstant ≡ constant rows name

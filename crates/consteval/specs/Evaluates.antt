@@ -4,15 +4,18 @@ use mathlib.Core.Path.{_≡_}
 use mathlib.Core.Bool.{Bool, true, false}
 use mathlib.Core.List.{List}
 use mathlib.Core.Option.{some}
+use lib.Dec.{eqb}
 use lib.ListN.{getD}
-use Rattle.words.specs.Word.{kindOf}
+use Rattle.words.specs.Word.{kindOf, pick}
 use Rattle.expr.specs.Expr.{Strings, Expr}
 use Rattle.expr.specs.Stands.{Stands}
 use Rattle.skip.specs.Shape.{SomeExpr}
 use Rattle.table.specs.Rows.{Row, find}
 use Rattle.runs.specs.Runs.{Keeps}
 use Rattle.entries.specs.Entries.{entryKey}
+use Rattle.fold.specs.Value.{valueOf}
 use Rattle.fold.specs.ValueLaws.{RowValue}
+use Rattle.fold.specs.FoldLaws.{RowFold}
 use Rattle.fold.specs.declared.Fold.{Fold}
 use Rattle.fold.specs.declared.Fold.the-variants.{Is, Overflow, NotConstant}
 use Rattle.consteval.specs.ConstEval.{rowValue, constEval}
@@ -48,9 +51,18 @@ pub record LiteralAt (ws : List ℕ) (at : ℕ) : Type 0 where
 
 -- ---- what is promised
 
+-- the answer that the words are
+abbrev pub foldOf : Folded → Fold
+foldOf r = pick (eqb (r .what) 0) (Is (valueOf (r .kind) (r .low) (r .high))) (pick (eqb (r .what) 1) Overflow NotConstant)
+
+-- an answer whose value, if it is one, a CONST row may hold
+pub record RowSome (f : Fold) : Type 0 where
+  pub strings : ℕ
+  pub row : RowFold strings f
+
 -- the answer, and the place past the expression
 pub record Evaluated (rows : List Row) (e : Expr) (end : ℕ) (r : Folded) : Type 0 where
-  pub answer : r .fold ≡ constEval rows e
+  pub answer : foldOf r ≡ constEval rows e
   pub past : r .next ≡ end
 
 -- for whatever stands there and whatever rows the buffer keeps

@@ -21,9 +21,10 @@ use Rattle.lent.specs.LentLaws.{checked-sound}
 use Rattle.lent.specs.declared.Checked.{Checked}
 use Rattle.lent.specs.declared.Checked.the-variants.{Bad, Rows}
 use Rattle.consteval.specs.ConstEval.{constEval}
-use Rattle.consteval.specs.Evaluates.{Ready, Evaluates as Folds}
+use Rattle.consteval.specs.Evaluates.{foldOf, Ready, Evaluates as Folds}
 use Rattle.consteval.specs.EvalLaws.{Words32}
 use Rattle.consteval.specs.RowLaws.{strings, lent-consts}
+use Rattle.fold.specs.declared.Fold.{Fold}
 use Rattle.consteval.specs.declared.Folded.{Folded as Answered}
 use Rattle.evaluate.specs.Outcome.{outcomeOf}
 use Rattle.evaluate.specs.Evaluate.{Past, underOf, readUnder, evalOf, toldAs, movedOf, Tells, WasRead}
@@ -82,10 +83,10 @@ module _ (ns ws : List ℕ) (at : ℕ) (buf : List ℕ) where
     rows-ready W = record { strings = strings ns; expr = R .expr; end = R .end; stands = stands maxDepth (R .reads); rows = rowsOf n buf; holds = holds-keeps (lent .holds); consts = lent-consts lent W }
 
     -- then what it folds to is told, with the place past it
-    pub rows-fine : {f : Answered} → Folds ws at buf n f → Tells at (record { answer = Folded (f .fold); at = f .next }) (evalOf ns ws at buf)
+    pub rows-fine : {f : Answered} {g : Fold} → g ≡ foldOf f → Folds ws at buf n f → Tells at (record { answer = Folded g; at = f .next }) (evalOf ns ws at buf)
     unfolding toldAs movedOf underOf lentRows after
-    rows-fine {f} E =
+    rows-fine {f} {g} p E =
         let i = E (strings ns) (R .expr) (R .end) (stands maxDepth (R .reads)) (rowsOf n buf) (holds-keeps (lent .holds)) in
         let d : evalOf ns ws at buf ≡ gives (record { outcome = outcomeOf (constEval (rowsOf n buf) (R .expr)); end = R .end }) =
         read-is R ∙ ap (λ (c : Checked). after (toldRows buf c) (λ (rows : List Row). gives (record { outcome = outcomeOf (constEval rows (R .expr)); end = R .end }))) (sym e ∙ q) in
-        tells-as (record { told = rw (i .answer, i .past) refl; moved = i .past }) (sym d)
+        tells-as (record { told = rw (p, i .answer, i .past) refl; moved = i .past }) (sym d)

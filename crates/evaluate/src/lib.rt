@@ -43,10 +43,11 @@ fn under(at: usize, words: &[u32], names: &[u8], rows: &[u32]) -> Evaluation
         Checked::Bad => refused(at, Refusal::Rows),
         Checked::Rows(n) => {
             let f = consteval::const_eval(words, at, rows, n);
-            let answer = f.fold;
+            let next = f.next;
+            let answer = consteval::fold_of(f);
             Evaluation {
                 answer: Answer::Folded(answer),
-                at: f.next,
+                at: next,
             }
         }
     }

@@ -32,7 +32,7 @@ use Rattle.fold.specs.declared.Fold.{Fold}
 use Rattle.fold.specs.declared.Fold.the-variants.{Is, Overflow, NotConstant}
 use Rattle.fold.specs.declared.Value.{Value}
 use Rattle.consteval.specs.ConstEval.{constEval}
-use Rattle.consteval.specs.Evaluates.{Ready, Evaluates}
+use Rattle.consteval.specs.Evaluates.{foldOf, Ready, Evaluates}
 use Rattle.consteval.specs.declared.Folded.{Folded}
 use Rattle.collect.specs.Diagnostics.{duplicateLine, duplicateLabel, optionBaseTwice, optionBaseLate, constDefined, constOverflow, notConstant}
 use Rattle.collect.specs.Seen.{Seen, see}
@@ -277,12 +277,12 @@ module _ {s : Counts} {b d : List ℕ} {ws : List ℕ} {at : ℕ} where
       stays bytes ends erased N D e k = refl
 
   -- 10 where there was one, then what it folds to
-  pub const-collects : {t r : Counts} {b′ d′ d″ : List ℕ} {x : Bool} {f : Folded} → Fit s (length b) (length d) → ((rows : List Row) → Keeps rows (s .rows) b → x ≡ has rows 132 (leafAt ws at) 0)
+  pub const-collects : {t r : Counts} {b′ d′ d″ : List ℕ} {x : Bool} {f : Folded} {g : Fold} → g ≡ foldOf f → Fit s (length b) (length d) → ((rows : List Row) → Keeps rows (s .rows) b → x ≡ has rows 132 (leafAt ws at) 0)
       → Evaluates ws (at + 2) b (s .rows) f → Notes (noting x (constDefined (lineAt ws at) (leafAt ws at))) s t d d′
-      → ((bytes ends erased : List ℕ) → Does (λ N D. folded (given (some N) (some D) bytes ends erased) (lineAt ws at) (leafAt ws at) (f .fold)) t r b d′ b′ d″)
+      → ((bytes ends erased : List ℕ) → Does (λ N D. folded (given (some N) (some D) bytes ends erased) (lineAt ws at) (leafAt ws at) g) t r b d′ b′ d″)
       → (scope : ℕ) → CollectsAny constKind ws scope at s r b d b′ d″
   unfolding const noting see
-  const-collects {t} {r} {b′} {d′} {d″} {x} {f} fit told E F G = const-does by
+  const-collects {t} {r} {b′} {d′} {d″} {x} {f} {g} q fit told E F G = const-does by
     where
       by : (bytes ends erased : List ℕ) (e : Expr) (end : ℕ) (ns : List ℕ) (n : ℕ) → W.Stands ws (strings ns n) (at + 2) e end
           → Does (λ N D. const (given (some N) (some D) bytes ends erased) (lineAt ws at) (leafAt ws at) (see e)) s r b d b′ d″
@@ -290,6 +290,6 @@ module _ {s : Counts} {b d : List ℕ} {ws : List ℕ} {at : ℕ} where
           then
           (asked x (λ rows. has rows 132 (leafAt ws at) 0) (λ (y : Bool) N D. when y (push (some D) (constDefined (lineAt ws at) (leafAt ws at))))
           (λ y N D. stays-when y (push (some D) (constDefined (lineAt ws at) (leafAt ws at))) (stays-push D (constDefined (lineAt ws at) (leafAt ws at)))) told (notes-does F b (fit .0)))
-          (asked (f .fold) (λ rows. constEval rows e) (λ (g : Fold) N D. folded (given (some N) (some D) bytes ends erased) (lineAt ws at) (leafAt ws at) g)
+          (asked g (λ rows. constEval rows e) (λ (g : Fold) N D. folded (given (some N) (some D) bytes ends erased) (lineAt ws at) (leafAt ws at) g)
           (λ g N D. folded-stays bytes ends erased (lineAt ws at) (leafAt ws at) g N D)
-          (λ rows H. E (strings ns n) e end S rows (subst (λ (m : ℕ). Keeps rows m b) (F .kept) H) .answer) (G bytes ends erased))
+          (λ rows H. q ∙ E (strings ns n) e end S rows (subst (λ (m : ℕ). Keeps rows m b) (F .kept) H) .answer) (G bytes ends erased))

@@ -121,6 +121,6 @@ pub fn constant(words: &[u32], b: &mut [u32], d: &mut [u32], s: Counts, at: usiz
     let twice = lookup::has(b, s.rows, 132, name, 0);
     let f = consteval::const_eval(words, at + 2, b, s.rows);
     let t = steps::push_if(d, s, twice, 10, line, name + 1, 0, 0, 0);
-    let g = f.fold;
+    let g = consteval::fold_of(f);
     folded(b, d, t, line, name, g)
 }

@@ -7,7 +7,7 @@ use borrow.Author.Needs.{needs}
 use borrow.Fn.Kinds.{In}
 use borrow.Fn.PlainCycle.{Measures, is, falls, and}
 use lib.ListN.{length}
-use Rattle.consteval.proofs.Laws.{some-expr, holds-consts, literal-at, good, moves, here, alone, name-fits, name-is, operand, negated-is, not-is, left-side, right-side, failed-is, combined-is, inner, paren-is, other-is}
+use Rattle.consteval.proofs.Laws.{some-expr, holds-consts, literal-at, row, good, moves, here, alone, name-fits, name-is, operand, negated-is, not-is, left-side, right-side, failed-is, combined-is, inner, paren-is, other-is}
 use Rattle.consteval.proofs.const_eval.Reads as const-eval
 use Rattle.consteval.proofs.const_eval.Kinds as const-eval-kinds
 use Rattle.consteval.proofs.+const_eval.Lts-const_eval as const-eval-lts
@@ -53,11 +53,11 @@ module _ (t : ℕ) where
   const-eval-shared-slice-read-constant : const-eval-lts.Need-shared-slice-read-constant (K t) (const-eval-at t) const-eval.Post
   const-eval-shared-slice-read-constant c = name-fits (c .before .match .keys2) (c .before .before .before .before .before .pre .1)
 
+  const-eval-add-constant-2 : const-eval-lts.Need-add-constant-2 (K t) (const-eval-at t) const-eval.Post
+  const-eval-add-constant-2 c = omega (arith, name-fits (c .before .match .keys2) (c .before .before .before .before .before .pre .1), c .before .before .before .before .before .good)
+
   const-eval-constant-requires : const-eval-lts.Need-constant-requires (K t) (const-eval-at t) const-eval.Post
   const-eval-constant-requires c κs = (holds-consts (c .before .before .before .before .before .pre .1), omega arith)
-
-  const-eval-add-t15 : const-eval-lts.Need-add-t15 (K t) (const-eval-at t) const-eval.Post
-  const-eval-add-t15 c = omega (arith, name-fits (c .before .before .match .keys2) (c .before .before .before .before .before .before .pre .1), c .before .before .before .before .before .before .good)
 
   const-eval-add-if1 : const-eval-lts.Need-add-if1 (K t) (const-eval-at t) const-eval.Post
   const-eval-add-if1 c = omega (arith, here (operand (c .match .keys3) (c .before .before .before .before .pre .1)), c .before .before .before .before .good)
@@ -81,7 +81,7 @@ module _ (t : ℕ) where
   const-eval-const-eval-requires c κs = (omega (arith, here (operand (c .before .before .match .keys3) (c .before .before .before .before .before .before .pre .1)), c .before .before .before .before .before .before .pre .0), operand (c .before .before .match .keys3) (c .before .before .before .before .before .before .pre .1))
 
   const-eval-negated-requires : const-eval-lts.Need-negated-requires (K t) (const-eval-at t) const-eval.Post
-  const-eval-negated-requires c κs = good (λ i. c .before .before .before .before .before .before .shared-slice-known .given i .fits) (operand (c .before .before .before .match .keys3) (c .before .before .before .before .before .before .before .pre .1)) (c .const-eval .ensures)
+  const-eval-negated-requires c κs = row (λ i. c .before .before .before .before .before .before .shared-slice-known .given i .fits) (operand (c .before .before .before .match .keys3) (c .before .before .before .before .before .before .before .pre .1)) (c .const-eval .ensures)
 
   const-eval-add-const-eval-2 : const-eval-lts.Need-add-const-eval-2 (K t) (const-eval-at t) const-eval.Post
   const-eval-add-const-eval-2 c = omega (arith, here (left-side (c .match .keys4) (c .before .before .before .before .pre .1)), c .before .before .before .before .good)
@@ -96,7 +96,7 @@ module _ (t : ℕ) where
   const-eval-failed-requires c κs = some-expr (right-side (c .before .before .before .match .keys4) (c .before .before .const-eval2 .ensures) (c .before .before .before .before .before .before .before .pre .1))
 
   const-eval-returns-2 : const-eval-lts.Need-returns-2 (K t) (const-eval-at t) const-eval.Post
-  const-eval-returns-2 c = failed-is (c .before .before .before .before .match .keys4) (c .before .before .before .const-eval2 .ensures) (sym (c .before .before .is-value .ensures) ∙ not-true _ (c .before .if2 .taken)) (c .failed .ensures)
+  const-eval-returns-2 c = failed-is (c .before .before .before .before .match .keys4) (c .before .before .before .const-eval2 .ensures) (sym (c .before .before .is-value .ensures (c .before .before .before .const-eval2 .result .next) (c .before .before .before .const-eval2 .result .kind) (c .before .before .before .const-eval2 .result .low) (c .before .before .before .const-eval2 .result .high)) ∙ not-true _ (c .before .if2 .taken)) (c .failed .ensures)
 
   const-eval-const-eval-requires-3 : const-eval-lts.Need-const-eval-requires-3 (K t) (const-eval-at t) const-eval.Post
   const-eval-const-eval-requires-3 c κs = (omega (arith, moves (left-side (c .before .before .before .match .keys4) (c .before .before .before .before .before .before .before .pre .1)) (c .before .before .const-eval2 .ensures), here (right-side (c .before .before .before .match .keys4) (c .before .before .const-eval2 .ensures) (c .before .before .before .before .before .before .before .pre .1)), c .before .before .before .before .before .before .before .pre .0), right-side (c .before .before .before .match .keys4) (c .before .before .const-eval2 .ensures) (c .before .before .before .before .before .before .before .pre .1))
@@ -141,4 +141,4 @@ module _ (t : ℕ) where
   const-eval-returns-8 c = other-is (c .before .match .rest .0 .0 .0 .0 .1) (c .before .match .rest .0 .0 .0 .1) (c .before .match .rest .0 .0 .1) (c .before .match .rest .0 .1) (c .before .match .rest .1) (c .opaque2 .ensures)
 
 pub +const-eval-spec : {M : Type 1} → statement M
-+const-eval-spec = close μ-const-eval λ t. const-eval-lts.spec (K t) (const-eval-at t) const-eval.Post (const-eval-mul-k t) (const-eval-shared-slice-read-k t) (const-eval-literal-requires t) (const-eval-add-constant t) (const-eval-mul-constant t) (const-eval-shared-slice-read-constant t) (const-eval-constant-requires t) (const-eval-add-t15 t) (const-eval-add-if1 t) (const-eval-mul-if1 t) (const-eval-shared-slice-read-if1 t) (const-eval-opaque-requires t) (const-eval-returns t) (const-eval-add-const-eval t) (const-eval-const-eval-requires t) (const-eval-negated-requires t) (const-eval-add-const-eval-2 t) (const-eval-const-eval-requires-2 t) (const-eval-is-value-requires t) (const-eval-failed-requires t) (const-eval-returns-2 t) (const-eval-const-eval-requires-3 t) (const-eval-add-combined t) (const-eval-mul-combined t) (const-eval-shared-slice-read-combined t) (const-eval-combined-requires t) (const-eval-add-const-eval-3 t) (const-eval-const-eval-requires-4 t) (const-eval-opaque-requires-2 t) (const-eval-returns-3 t) (const-eval-returns-4 t) (const-eval-returns-5 t) (const-eval-returns-6 t) (const-eval-returns-7 t) (const-eval-returns-8 t)
++const-eval-spec = close μ-const-eval λ t. const-eval-lts.spec (K t) (const-eval-at t) const-eval.Post (const-eval-mul-k t) (const-eval-shared-slice-read-k t) (const-eval-literal-requires t) (const-eval-add-constant t) (const-eval-mul-constant t) (const-eval-shared-slice-read-constant t) (const-eval-add-constant-2 t) (const-eval-constant-requires t) (const-eval-add-if1 t) (const-eval-mul-if1 t) (const-eval-shared-slice-read-if1 t) (const-eval-opaque-requires t) (const-eval-returns t) (const-eval-add-const-eval t) (const-eval-const-eval-requires t) (const-eval-negated-requires t) (const-eval-add-const-eval-2 t) (const-eval-const-eval-requires-2 t) (const-eval-is-value-requires t) (const-eval-failed-requires t) (const-eval-returns-2 t) (const-eval-const-eval-requires-3 t) (const-eval-add-combined t) (const-eval-mul-combined t) (const-eval-shared-slice-read-combined t) (const-eval-combined-requires t) (const-eval-add-const-eval-3 t) (const-eval-const-eval-requires-4 t) (const-eval-opaque-requires-2 t) (const-eval-returns-3 t) (const-eval-returns-4 t) (const-eval-returns-5 t) (const-eval-returns-6 t) (const-eval-returns-7 t) (const-eval-returns-8 t)

@@ -1,5 +1,7 @@
 -- CONST: a stopped run passes by; else the diagnostic and the folded constant follow each other. Assumes nothing.
+use mathlib.Core.Path.{sym, subst}
 use native.Mathlib.Omega.{arith}
+use Rattle.fold.specs.Fold.{GoodFold}
 use Rattle.consteval.proofs.Laws.{good}
 use Rattle.labels.proofs.Laws.{const-inside, const-ready, const-stopped, const-collects}
 use borrow.Author.Needs.{needs}
@@ -39,8 +41,11 @@ add-push-if c = search needs
 push-if-requires : tie.Need-push-if-requires
 push-if-requires c κs = search needs
 
+fold-of-requires : tie.Need-fold-of-requires
+fold-of-requires c κs = good (λ i. c .before .before .before .before .before .before .before .before .before .before .before .before .before .before .shared-slice-known .given i .fits) (const-ready (c .before .before .before .before .before .before .before .before .before .before .before .before .before .before .before .pre .0) (c .before .before .before .before .before .before .before .before .before .before .if1 .left)) (c .before .before .before .before .const-eval .ensures)
+
 folded-requires : tie.Need-folded-requires
-folded-requires c κs = ((omega (arith, c .before .before .before .before .push-if .ensures .kept, c .before .before .before .before .before .before .before .before .before .before .before .before .before .before .before .before .before .pre .1 .0), c .before .before .before .before .push-if .ensures .fit), omega arith, good (λ i. c .before .before .before .before .before .before .before .before .before .before .before .before .before .before .before .before .shared-slice-known .given i .fits) (const-ready (c .before .before .before .before .before .before .before .before .before .before .before .before .before .before .before .before .before .pre .0) (c .before .before .before .before .before .before .before .before .before .before .before .before .if1 .left)) (c .before .before .before .before .before .before .const-eval .ensures))
+folded-requires c κs = ((omega (arith, c .before .before .before .before .before .push-if .ensures .kept, c .before .before .before .before .before .before .before .before .before .before .before .before .before .before .before .before .before .before .pre .1 .0), c .before .before .before .before .before .push-if .ensures .fit), omega arith, subst GoodFold (sym (c .before .before .fold-of .ensures)) (good (λ i. c .before .before .before .before .before .before .before .before .before .before .before .before .before .before .before .before .before .shared-slice-known .given i .fits) (const-ready (c .before .before .before .before .before .before .before .before .before .before .before .before .before .before .before .before .before .before .pre .0) (c .before .before .before .before .before .before .before .before .before .before .before .before .before .if1 .left)) (c .before .before .before .before .before .before .before .const-eval .ensures)))
 
 same-length : tie.Need-same-length
 same-length c = search needs
@@ -49,7 +54,7 @@ same-length-2 : tie.Need-same-length-2
 same-length-2 c = search needs
 
 returns-2 : tie.Need-returns-2
-returns-2 c = const-collects (c .before .before .before .before .before .before .before .before .before .before .before .before .before .before .before .before .before .before .before .before .before .before .pre .1) (c .before .before .before .before .before .before .before .before .before .before .before .before .before .has .ensures) (c .before .before .before .before .before .before .before .before .before .before .before .const-eval .ensures) (c .before .before .before .before .before .before .before .before .before .push-if .ensures) (c .before .before .before .before .folded .ensures)
+returns-2 c = const-collects (c .before .before .before .before .before .before .before .fold-of .ensures) (c .before .before .before .before .before .before .before .before .before .before .before .before .before .before .before .before .before .before .before .before .before .before .before .pre .1) (c .before .before .before .before .before .before .before .before .before .before .before .before .before .before .has .ensures) (c .before .before .before .before .before .before .before .before .before .before .before .before .const-eval .ensures) (c .before .before .before .before .before .before .before .before .before .before .push-if .ensures) (c .before .before .before .before .folded .ensures)
 
 pub constant-spec : {M : Type 1} → statement M
 constant-spec =
@@ -66,6 +71,7 @@ constant-spec =
     const-eval-requires
     add-push-if
     push-if-requires
+    fold-of-requires
     folded-requires
     same-length
     same-length-2

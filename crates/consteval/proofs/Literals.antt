@@ -15,7 +15,7 @@ use Rattle.expr.proofs.Parts.{wrote-first, pay-is}
 use Rattle.expr.proofs.Nodes.{in-lit}
 use Rattle.numbers.specs.Numbers.{wholeAt}
 use Rattle.consteval.specs.ConstEval.{signed32, literal, constEval}
-use Rattle.consteval.specs.Evaluates.{LiteralAt, EvaluatesAlone}
+use Rattle.consteval.specs.Evaluates.{laidAs, LiteralAt, EvaluatesAlone}
 use Rattle.fold.specs.Value.{valueOf}
 use Rattle.consteval.specs.declared.Folded.{Folded}
 
@@ -90,10 +90,6 @@ module _ (ws : List ℕ) (at : ℕ) where
   text-is n (E.Text s) r v a b c d = (ap E.Text (sym (ap payOf (at-2 r) ∙ pay-is 2 s (v .fits))), omega (arith, r .span))
 
 -- ---- what the expression folds to
-
--- the words of a value at the place
-abbrev pub laidAs : (next kind low high : ℕ) → Folded
-laidAs next kind low high = record { next = next; what = 0; kind = kind; low = low; high = high }
 
 module _ {ws : List ℕ} {at : ℕ} (K : kindOf (getD ws at 0) ≡ 16) where
   -- 24: an Integer

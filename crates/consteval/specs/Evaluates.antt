@@ -51,6 +51,10 @@ pub record LiteralAt (ws : List ℕ) (at : ℕ) : Type 0 where
 
 -- ---- what is promised
 
+-- the words of a value at the place
+abbrev pub laidAs : (next kind low high : ℕ) → Folded
+laidAs next kind low high = record { next = next; what = 0; kind = kind; low = low; high = high }
+
 -- the answer that the words are
 abbrev pub foldOf : Folded → Fold
 foldOf r = pick (eqb (r .what) 0) (Is (valueOf (r .kind) (r .low) (r .high))) (pick (eqb (r .what) 1) Overflow NotConstant)

@@ -9,7 +9,7 @@ ghost use Rattle.fold.specs.Fold.{GoodFold, negateOf, binaryOf};
 ghost use Rattle.fold.specs.declared.Fold.the-variants.{NotConstant};
 ghost use Rattle.skip.specs.Shape.{SomeExpr};
 ghost use Rattle.consteval.specs.ConstEval.{signed32, constant as constantOf};
-ghost use Rattle.consteval.specs.Evaluates.{foldOf, RowSome, HoldsConsts, LiteralAt, Ready, Evaluates, EvaluatesAlone, Past, isValue};
+ghost use Rattle.consteval.specs.Evaluates.{foldOf, laidAs, RowSome, HoldsConsts, LiteralAt, Ready, Evaluates, EvaluatesAlone, Past, isValue};
 use fold::Fold;
 use table::Found;
 
@@ -79,6 +79,19 @@ fn sign(w: u32) -> u32
     4294967295
 }
 
+// A string, by its number.
+fn text(next: usize, string: u32) -> Folded
+    ensures { λ r. ⌜ r ≡ laidAs next 28 string 0 ⌝ }
+{
+    Folded {
+        next,
+        what: 0,
+        kind: 28,
+        low: string,
+        high: 0,
+    }
+}
+
 // The literal there: itself.
 fn literal(words: &[u32], at: usize) -> Folded
     requires { ⌜ LiteralAt (now words) at ⌝ }
@@ -115,13 +128,7 @@ fn literal(words: &[u32], at: usize) -> Folded
             low: w,
             high: words[at + 3],
         },
-        _ => Folded {
-            next: at + 3,
-            what: 0,
-            kind: 28,
-            low: w % 16777216,
-            high: 0,
-        },
+        _ => text(at + 3, w % 16777216),
     }
 }
 

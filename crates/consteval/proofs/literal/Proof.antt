@@ -1,5 +1,8 @@
 -- The literal there: each answer is a law of `Literals` at its kind. Assumes nothing.
 use native.Mathlib.Omega.{arith}
+use mathlib.Core.Path.{sym, subst}
+use Rattle.consteval.specs.Evaluates.{EvaluatesAlone}
+use Rattle.consteval.specs.declared.Folded.{Folded}
 use Rattle.consteval.proofs.Literals.{eval-24, eval-25, eval-26, eval-27, eval-28, word-2, single-there, float-there}
 use borrow.Author.Needs.{needs}
 use Rattle.consteval.proofs.literal.Statement.{statement}
@@ -59,8 +62,11 @@ mul-t22 c = search needs
 shared-slice-read-t24 : tie.Need-shared-slice-read-t24
 shared-slice-read-t24 c = float-there (c .before .before .before .before .before .pre) (c .before .match .keys4)
 
-add-t25 : tie.Need-add-t25
-add-t25 c = search needs
+add-text : tie.Need-add-text
+add-text c = search needs
+
+text-requires : tie.Need-text-requires
+text-requires c κs = search needs
 
 returns : tie.Need-returns
 returns c = eval-24 (c .before .before .before .before .before .pre .kind) (c .before .match .keys1) (c .sign .ensures)
@@ -75,7 +81,9 @@ returns-4 : tie.Need-returns-4
 returns-4 c = eval-27 (c .before .before .before .before .before .pre .kind) (c .before .match .keys4)
 
 returns-5 : tie.Need-returns-5
-returns-5 c = eval-28 (c .before .before .before .before .pre .kind) (c .match .rest .0 .0 .0 .1) (c .match .rest .0 .0 .1) (c .match .rest .0 .1) (c .match .rest .1)
+returns-5 c =
+    subst (λ (x : Folded). EvaluatesAlone (c .before .before .before .before .before .args .words .now) (c .before .before .before .before .before .args .at) x) (sym (c .text .ensures))
+    (eval-28 (c .before .before .before .before .before .pre .kind) (c .before .match .rest .0 .0 .0 .1) (c .before .match .rest .0 .0 .1) (c .before .match .rest .0 .1) (c .before .match .rest .1))
 
 pub literal-spec : {M : Type 1} → statement M
 literal-spec =
@@ -99,7 +107,8 @@ literal-spec =
     add-t21
     mul-t22
     shared-slice-read-t24
-    add-t25
+    add-text
+    text-requires
     returns
     returns-2
     returns-3

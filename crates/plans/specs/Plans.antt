@@ -1,11 +1,11 @@
 -- What the contracts of a walk by the table of fields cite. These are definitions.
 use Prim.Native.Nat.{ℕ, _+_, _*_, _<_, _≤_}
 use mathlib.Core.Path.{_≡_}
-use mathlib.Core.List.{List, _++_}
-use lib.ListN.{take, drop, getD}
+use mathlib.Core.List.{List, [], _++_}
+use lib.ListN.{length, take, drop, getD}
 use Rattle.expr.specs.Expr.{Expr}
 use Rattle.tree.specs.Sorts.{Sort, Sorts, Kind, sorts}
-use Rattle.tree.specs.Tree.{Shape, one, row, rows, Tree, Stmt, count, depthT}
+use Rattle.tree.specs.Tree.{Shape, one, row, rows, Tree, Stmt, count, wordsT, depthT}
 use Rattle.tree.specs.Stands.{Stands, SomeTree}
 use Rattle.tree.specs.Codes.{codes, rowOf}
 use Rattle.tree.proofs.Steps.{sizeS, sizeR}
@@ -26,6 +26,18 @@ pub record Planned (s : Sort) (ws : List ℕ) (at c r k : ℕ) : Type 0 where
   pub opens : (ns : List ℕ) (n : ℕ) (v : Tree Expr (one s)) (end : ℕ) → Stands ws ns n at v end → Opened ws ns n at end v c r k
   -- either a word is taken, or the row is a smaller one
   pub falls : sizeR (rowOf r) < c * 1000 + sizeS s
+
+-- a tree of w words in which no expression and no statement stands
+pub record Plain (w : ℕ) {i : Shape} (v : Tree Expr i) : Type 0 where
+  pub wide : length (wordsT v) ≡ w
+  pub is : pieces v ≡ []
+  pub same : (g : Piece Expr → List ℕ) → written g v ≡ wordsT v
+  pub deep : depthT v ≡ 0
+
+-- w is 0, or every tree of the row is plain and has w words
+pub record Flat (r w : ℕ) : Type 0 where
+  pub small : w ≤ 2
+  pub plain : (w ≡ 0 → ⊥) → (v : Tree Expr (row (rowOf r))) → Plain w v
 
 -- a sort of the table of fields
 pub record Listed (sort : ℕ) : Type 0 where

@@ -7,7 +7,7 @@ ghost use Rattle.tree.specs.Sorts.{stmt as stmtSort, many, opt};
 ghost use Rattle.tree.specs.Tree.{one};
 ghost use Rattle.tree.specs.Codes.{sortAt, rowOf, chain, allRows};
 ghost use Rattle.tree.specs.Stands.{SomeTree};
-ghost use Rattle.plans.specs.Plans.{Planned, Listed, InsideAt};
+ghost use Rattle.plans.specs.Plans.{Planned, Listed, Flat, InsideAt};
 
 // So many words, and then so many times a row of fields.
 pub struct Plan {
@@ -50,15 +50,37 @@ fn optional(words: &[u32], at: usize, r: usize) -> Plan
     }
 }
 
-// A list of rows, its count first.
+// How many words each row of a list has where all have as many, and neither an expression nor a statement stands in them; else 0.
+fn flat(r: usize) -> usize
+    ensures { λ w. ⌜ Flat r w ⌝ }
+{
+    match r {
+        2 => 1,
+        7 => 2,
+        15 => 2,
+        16 => 2,
+        _ => 0,
+    }
+}
+
+// A list of rows, its count first. Where they are flat it is nothing but words, so that no walk goes through them.
 fn listed(words: &[u32], at: usize, r: usize) -> Plan
     requires { ⌜ SomeTree (one (many (rowOf r))) (now words) at ⌝ }
     ensures { λ p. ⌜ Planned (many (rowOf r)) (now (words .entry)) at (p .same) (p .row) (p .times) ⌝ }
 {
+    let times = words[at] % 16777216;
+    let width = flat(r);
+    if width == 0 {
+        return Plan {
+            same: 1,
+            row: r,
+            times,
+        };
+    }
     Plan {
-        same: 1,
-        row: r,
-        times: words[at] % 16777216,
+        same: 1 + times as usize * width,
+        row: 0,
+        times: 0,
     }
 }
 

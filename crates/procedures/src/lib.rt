@@ -19,7 +19,8 @@ ghost use Rattle.table.specs.Rows.{width, noteWidth};
 ghost use Rattle.steps.specs.State.{each, when, enter};
 ghost use Rattle.steps.specs.Held.{Fit};
 ghost use Rattle.subscripts.specs.Subscripts.{inExpr, subscriptCount};
-ghost use Rattle.subscripts.specs.Code.{useOf};
+ghost use Rattle.subscripts.specs.Notes.{Blank};
+ghost use Rattle.subscripts.specs.Code.{useOf, Told};
 ghost use Rattle.parts.specs.Parts.{NameAt};
 ghost use Rattle.collect.specs.Seen.{Seen};
 ghost use Rattle.entries.specs.Entries.{row};
@@ -380,8 +381,8 @@ fn array_param(
     ranked(b, s, scope, line, p.name, u)
 }
 
-// All of them; those that are no arrays are passed over.
-fn array_params(
+// All of them, each by a walk of its own; those that are no arrays are passed over.
+fn arrays_alone(
     words: &[u32],
     b: &mut [u32],
     s: Counts,
@@ -405,6 +406,169 @@ fn array_params(
         i += 1;
     }
     c
+}
+
+// The first use of a name in a body, from the notes of its uses where they have room for it.
+fn used_noted(words: &[u32], body: usize, past: usize, notes: &[usize], name: u32) -> Use
+    requires { ⌜ SomeBody (now words) body past × Told (now words) body 0 (now notes) × (name < 16777216) ⌝ }
+    ensures { λ r. ⌜ ((ns : List ℕ) (n : ℕ) (v : Tree Expr (one bodySort)) → Stands (now (words .entry)) ns n body v past → useOf r ≡ subscriptCount (λ name (e : Expr). inExpr name e) name v) ⌝ }
+{
+    if 2 * name as usize + 1 < notes.len() {
+        return subscripts::first_use(notes, 0, name);
+    }
+    used(words, body, past, name)
+}
+
+// An array parameter by the notes.
+fn array_noted(
+    words: &[u32],
+    b: &mut [u32],
+    s: Counts,
+    scope: u32,
+    line: u32,
+    body: usize,
+    past: usize,
+    notes: &[usize],
+    p: ParamAt,
+) -> Counts
+    requires { ⌜ SomeBody (now words) body past × Told (now words) body 0 (now notes) × (p .name < 16777216) × (s .rows * width ≤ length (now b)) ⌝ }
+    ensures { λ r. ⌜ ((t : Tree Seen (one bodySort)) → BodyAt (now (words .entry)) body past t → Enters (ParamOf p) (λ q N D. arrayParam (plain N D) scope line t q) s r (now (b .entry)) (now (b .exit))) ⌝ }
+{
+    if !p.array {
+        return s;
+    }
+    let u = used_noted(words, body, past, notes, p.name);
+    ranked(b, s, scope, line, p.name, u)
+}
+
+// All of them by one walk of the body, which notes the first uses of all names.
+fn arrays_noted(
+    words: &[u32],
+    b: &mut [u32],
+    s: Counts,
+    scope: u32,
+    line: u32,
+    body: usize,
+    past: usize,
+    from: usize,
+    count: u32,
+    notes: &mut [usize],
+) -> Counts
+    requires { ⌜ SomeBody (now words) body past × SomeParams (now words) from count × (s .rows * width ≤ length (now b)) × Blank (now notes) ⌝ }
+    ensures { λ r. ⌜ ((t : Tree Seen (one bodySort)) → BodyAt (now (words .entry)) body past t → Enters (ParamsAt (now (words .entry)) from count) (λ ps N D. each (arrayParam (plain N D) scope line t) ps) s r (now (b .entry)) (now (b .exit))) ⌝ }
+{
+    subscripts::first_uses(words, body, notes, 0);
+    let mut c = s;
+    let mut at = from;
+    let mut i = 0;
+    while i < count {
+        let p = param(words, at);
+        c = array_noted(words, b, c, scope, line, body, past, notes, p);
+        at = p.next;
+        i += 1;
+    }
+    c
+}
+
+// With notes for 64 names: the names of a short program come first.
+fn few_names(
+    words: &[u32],
+    b: &mut [u32],
+    s: Counts,
+    scope: u32,
+    line: u32,
+    body: usize,
+    past: usize,
+    from: usize,
+    count: u32,
+) -> Counts
+    requires { ⌜ SomeBody (now words) body past × SomeParams (now words) from count × (s .rows * width ≤ length (now b)) ⌝ }
+    ensures { λ r. ⌜ ((t : Tree Seen (one bodySort)) → BodyAt (now (words .entry)) body past t → Enters (ParamsAt (now (words .entry)) from count) (λ ps N D. each (arrayParam (plain N D) scope line t) ps) s r (now (b .entry)) (now (b .exit))) ⌝ }
+{
+    let mut notes = [0usize; 128];
+    arrays_noted(
+        words,
+        b,
+        s,
+        scope,
+        line,
+        body,
+        past,
+        from,
+        count,
+        &mut notes,
+    )
+}
+
+// With notes for all names that a table of strings may have.
+fn many_names(
+    words: &[u32],
+    b: &mut [u32],
+    s: Counts,
+    scope: u32,
+    line: u32,
+    body: usize,
+    past: usize,
+    from: usize,
+    count: u32,
+) -> Counts
+    requires { ⌜ SomeBody (now words) body past × SomeParams (now words) from count × (s .rows * width ≤ length (now b)) ⌝ }
+    ensures { λ r. ⌜ ((t : Tree Seen (one bodySort)) → BodyAt (now (words .entry)) body past t → Enters (ParamsAt (now (words .entry)) from count) (λ ps N D. each (arrayParam (plain N D) scope line t) ps) s r (now (b .entry)) (now (b .exit))) ⌝ }
+{
+    let mut notes = [0usize; 2048];
+    arrays_noted(
+        words,
+        b,
+        s,
+        scope,
+        line,
+        body,
+        past,
+        from,
+        count,
+        &mut notes,
+    )
+}
+
+// How many of the parameters are arrays.
+fn arrays(words: &[u32], from: usize, count: u32) -> u32
+    requires { ⌜ SomeParams (now words) from count ⌝ }
+{
+    let mut n = 0;
+    let mut at = from;
+    let mut i = 0;
+    while i < count {
+        let p = param(words, at);
+        n += entries::bit(p.array);
+        at = p.next;
+        i += 1;
+    }
+    n
+}
+
+// The array parameters: one walk for several, since the body may be long.
+fn array_params(
+    words: &[u32],
+    b: &mut [u32],
+    s: Counts,
+    scope: u32,
+    line: u32,
+    body: usize,
+    past: usize,
+    from: usize,
+    count: u32,
+    few: bool,
+) -> Counts
+    requires { ⌜ SomeBody (now words) body past × SomeParams (now words) from count × (s .rows * width ≤ length (now b)) ⌝ }
+    ensures { λ r. ⌜ ((t : Tree Seen (one bodySort)) → BodyAt (now (words .entry)) body past t → Enters (ParamsAt (now (words .entry)) from count) (λ ps N D. each (arrayParam (plain N D) scope line t) ps) s r (now (b .entry)) (now (b .exit))) ⌝ }
+{
+    if arrays(words, from, count) < 2 {
+        return arrays_alone(words, b, s, scope, line, body, past, from, count);
+    }
+    if few {
+        return few_names(words, b, s, scope, line, body, past, from, count);
+    }
+    many_names(words, b, s, scope, line, body, past, from, count)
 }
 
 // A record's TYPE must be there.
@@ -498,6 +662,7 @@ fn procedure(
         p.past,
         p.params,
         p.count,
+        ends.len() <= 64,
     );
     typed_params(words, b, d, s4, inner, p.line, p.params, p.count)
 }

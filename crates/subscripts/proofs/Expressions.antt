@@ -18,9 +18,9 @@ use Rattle.skip.specs.Shape.{SomeExpr, front, children, back}
 use Rattle.skip.specs.declared.Shape.{Shape}
 use Rattle.skip.proofs.Laws.{ShapedAt, inside}
 use Rattle.subscripts.specs.Subscripts.{orElse, firstOf, subscripted, inExpr, inExprs}
-use Rattle.subscripts.specs.Code.{useOf, hereOf, HereIs, SeeksExpr, SomeExprs, SeeksExprs}
-use Rattle.subscripts.specs.declared.Use.{Use}
-use Rattle.subscripts.specs.declared.Sought.{Sought}
+use Rattle.subscripts.specs.Notes.{Mark, noted}
+use Rattle.subscripts.specs.Code.{useOf, Marks, hereOf, HereNotes, NotesExpr, SomeExprs, NotesExprs}
+use Rattle.subscripts.proofs.Marks.{noted-same, noted-none}
 
 -- ---- one use or else another
 
@@ -33,25 +33,6 @@ unused = refl
 pub pick-none : (b : Bool) → pick {A = Option ℕ} b nothing nothing ≡ nothing
 pick-none true = refl
 pick-none false = refl
-
--- a use of a name, where it is the one that is looked for
-pub named-yes : (f name n : ℕ) → f ≡ name → useOf (record { found = true; count = n }) ≡ pick (eqb f name) (some n) nothing
-unfolding useOf
-named-yes f name n q = rw (eq-eqb f name q) refl
-
--- no use, where it is another
-pub named-no : (f name n : ℕ) (u : Use) → (f ≡ name → ⊥) → useOf u ≡ nothing → useOf u ≡ pick (eqb f name) (some n) nothing
-named-no f name n u z q = rw (ne-eqb f name z) q
-
--- the first use, where there is one
-pub first-of : (a b : Use) → a .found ≡ true → useOf a ≡ orElse (useOf a) (useOf b)
-unfolding useOf orElse
-first-of a b q = rw q refl
-
--- the second, where there isn't
-pub second-of : (a b : Use) → a .found ≡ false → useOf b ≡ orElse (useOf a) (useOf b)
-unfolding useOf orElse
-second-of a b q = rw q refl
 
 -- the first of three, taken together either way
 pub orElse-assoc : (a b c : Option ℕ) → orElse (orElse a b) c ≡ orElse a (orElse b c)
@@ -125,33 +106,35 @@ subscripted-some true zero z = absurd (z refl)
 subscripted-some true (suc m) z = refl
 subscripted-some false m z = refl
 
-module _ {ws : List ℕ} {at name : ℕ} {r : Use} where
-  -- an element or a call with an empty list is none
-  pub here-empty : (kindOf (getD ws at 0) ≡ 18) ⊎ (kindOf (getD ws at 0) ≡ 21) → payOf (getD ws (at + 2) 0) ≡ 0 → useOf r ≡ nothing → HereIs ws at name r
-  here-empty k z q = record {
-    gives = λ n e end s.
-        let b : Bool = eqb (payOf (getD ws (at + 1) 0)) name in
-        q ∙ sym (in-name name k s ∙ ap (subscripted b) z ∙ subscripted-none b);
+module _ {ws : List ℕ} {at k : ℕ} {before after : Marks} where
+  -- an element or a call with an empty list is no use
+  pub here-empty : (kindOf (getD ws at 0) ≡ 18) ⊎ (kindOf (getD ws at 0) ≡ 21) → payOf (getD ws (at + 2) 0) ≡ 0 → ((x : ℕ) → after x ≡ before x) → HereNotes ws at k before after
+  unfolding noted
+  here-empty l z q = record {
+    gives = λ n e end s x.
+        let b : Bool = eqb (payOf (getD ws (at + 1) 0)) x in
+        let o : hereOf x e ≡ nothing = in-name x l s ∙ ap (subscripted b) z ∙ subscripted-none b in
+        q x ∙ ap (λ (o : Option ℕ). noted k o (before x)) (sym o);
   }
 
-  -- one with a list is, where its name is the one
-  pub here-list : (kindOf (getD ws at 0) ≡ 18) ⊎ (kindOf (getD ws at 0) ≡ 21) → (payOf (getD ws (at + 2) 0) ≡ 0 → ⊥) → useOf r ≡ pick (eqb (payOf (getD ws (at + 1) 0)) name) (some (payOf (getD ws (at + 2) 0))) nothing → HereIs ws at name r
-  here-list k z q = record { gives = λ n e end s. q ∙ sym (in-name name k s ∙ subscripted-some (eqb (payOf (getD ws (at + 1) 0)) name) (payOf (getD ws (at + 2) 0)) z) }
+  -- one with a list is a use of its name
+  pub here-list : (kindOf (getD ws at 0) ≡ 18) ⊎ (kindOf (getD ws at 0) ≡ 21) → (payOf (getD ws (at + 2) 0) ≡ 0 → ⊥) → ((x : ℕ) → after x ≡ noted k (pick (eqb (payOf (getD ws (at + 1) 0)) x) (some (payOf (getD ws (at + 2) 0))) nothing) (before x)) → HereNotes ws at k before after
+  here-list l z q = record { gives = λ n e end s x. q x ∙ ap (λ (o : Option ℕ). noted k o (before x)) (sym (in-name x l s ∙ subscripted-some (eqb (payOf (getD ws (at + 1) 0)) x) (payOf (getD ws (at + 2) 0)) z)) }
 
   -- any other expression is none
-  pub here-other : ((kindOf (getD ws at 0) ≡ 18) ⊎ (kindOf (getD ws at 0) ≡ 21) → ⊥) → useOf r ≡ nothing → HereIs ws at name r
-  unfolding hereOf kindE
-  here-other z q = record { gives = λ n e end s. q ∙ go e (kind-of s) }
+  pub here-other : ((kindOf (getD ws at 0) ≡ 18) ⊎ (kindOf (getD ws at 0) ≡ 21) → ⊥) → ((x : ℕ) → after x ≡ before x) → HereNotes ws at k before after
+  unfolding hereOf kindE noted
+  here-other z q = record { gives = λ n e end s x. q x ∙ ap (λ (o : Option ℕ). noted k o (before x)) (go x e (kind-of s)) }
     where
-      go : (e : Expr) → kindOf (getD ws at 0) ≡ kindE e → nothing ≡ hereOf name e
-      go (Lit l) k = refl
-      go (Var x) k = refl
-      go (Elem x es) k = absurd (z (inl k))
-      go (Unary o e) k = refl
-      go (Binary o l r) k = refl
-      go (Call x es) k = absurd (z (inr k))
-      go (Field e x) k = refl
-      go (Paren e) k = refl
+      go : (x : ℕ) (e : Expr) → kindOf (getD ws at 0) ≡ kindE e → nothing ≡ hereOf x e
+      go x (Lit l) q = refl
+      go x (Var y) q = refl
+      go x (Elem y es) q = absurd (z (inl q))
+      go x (Unary o e) q = refl
+      go x (Binary o l r) q = refl
+      go x (Call y es) q = absurd (z (inr q))
+      go x (Field e y) q = refl
+      go x (Paren e) q = refl
 
 -- ---- an expression, from its parts
 
@@ -165,19 +148,26 @@ children-there {ws} {at} {r} A S =
     record { strings = A .strings; exprs = children (A .expr); end = i .mid; stands = rw (h .front-is) f; counted = sym (h .children-is) }
 
 -- itself, or else in its children; and it ends after their end
-pub expr-done : {ws : List ℕ} {at name : ℕ} {s : Shape} {h u : Use} {c : Sought} → ShapedAt ws at s → HereIs ws at name h → SeeksExprs ws (at + s .front) name (s .children) c → useOf u ≡ orElse (useOf h) (useOf (c .first)) → SeeksExpr ws at name (record { first = u; next = c .next + s .back })
-expr-done {ws} {at} {name} {s} {h} {u} {c} S H C q = record {
+pub expr-done : {ws : List ℕ} {at k next : ℕ} {s : Shape} {before mid after : Marks} → ShapedAt ws at s → HereNotes ws at k before mid → NotesExprs ws (at + s .front) (s .children) k mid after next → NotesExpr ws at k before after (next + s .back)
+expr-done {ws} {at} {k} {next} {s} {before} S H C = record {
   gives = λ n e end t.
       let p = S n e end t in
       let i = inside t in
       let f = i .items in
       let g = C .gives n (children e) (i .mid) (rw (p .front-is) f) (sym (p .children-is)) in
-      (q ∙ ap₂ orElse (H .gives n e end t) (g .0) ∙ sym (here-parts name e), omega (arith, g .1, p .back-is, i .to));
+      (
+        λ x.
+            g .0 x
+            ∙ ap (noted k (inExprs x (children e))) (H .gives n e end t x)
+            ∙ noted-same k (hereOf x e) (inExprs x (children e)) (before x)
+            ∙ ap (λ (o : Option ℕ). noted k o (before x)) (sym (here-parts x e)),
+        omega (arith, g .1, p .back-is, i .to),
+      );
 }
 
 -- its last words are within the words
-pub back-fits : {ws : List ℕ} {at name : ℕ} {s : Shape} {c : Sought} → SomeExpr ws at → ShapedAt ws at s → SeeksExprs ws (at + s .front) name (s .children) c → c .next + s .back ≤ length ws
-back-fits {ws} {at} {name} {s} {c} A S C =
+pub back-fits : {ws : List ℕ} {at k next : ℕ} {s : Shape} {before after : Marks} → SomeExpr ws at → ShapedAt ws at s → NotesExprs ws (at + s .front) (s .children) k before after next → next + s .back ≤ length ws
+back-fits {ws} {at} {k} {next} {s} A S C =
     let t = A .stands in
     let p = S (A .strings) (A .expr) (A .end) t in
     let i = inside t in
@@ -187,50 +177,50 @@ back-fits {ws} {at} {name} {s} {c} A S C =
 
 -- ---- so many expressions
 
-record ExprsLeft (ws : List ℕ) (n : Strings) (name : ℕ) (es : Exprs) (at end a i : ℕ) (u : Use) : Type 0 where
+-- some are left: what they note comes to what all note
+record ExprsLeft (ws : List ℕ) (n : Strings) (k : ℕ) (es : Exprs) (at end a i : ℕ) (before now : Marks) : Type 0 where
   left : Exprs
   there : StandsAll ws n a left end
   few : many left + i ≡ many es
   from : at ≤ a
-  is : inExprs name es ≡ orElse (useOf u) (inExprs name left)
+  is : (x : ℕ) → noted k (inExprs x left) (now x) ≡ noted k (inExprs x es) (before x)
 
--- i of them sought
-pub record ExprsRead (ws : List ℕ) (at name k : ℕ) (s : Sought) (i : ℕ) : Type 0 where
-  gives : (n : Strings) (es : Exprs) (end : ℕ) → StandsAll ws n at es end → many es ≡ k → ExprsLeft ws n name es at end (s .next) i (s .first)
+-- i of c walked, up to a
+pub record ExprsRead (ws : List ℕ) (at c k : ℕ) (before now : Marks) (a i : ℕ) : Type 0 where
+  gives : (n : Strings) (es : Exprs) (end : ℕ) → StandsAll ws n at es end → many es ≡ c → ExprsLeft ws n k es at end a i before now
 
--- none is sought
-pub exprs-start : (ws : List ℕ) (at name k : ℕ) {u : Use} → useOf u ≡ nothing → ExprsRead ws at name k (record { first = u; next = at }) 0
-unfolding orElse
-exprs-start ws at name k q = record { gives = λ n es end s c. record { left = es; there = s; few = omega arith; from = omega arith; is = rw q refl } }
+-- none is walked
+pub exprs-start : (ws : List ℕ) (at c k : ℕ) (before : Marks) → ExprsRead ws at c k before before at 0
+exprs-start ws at c k before = record { gives = λ n es end s q. record { left = es; there = s; few = omega arith; from = omega arith; is = λ x. refl } }
 
 -- the next one
-record ExprsSplit (ws : List ℕ) (n : Strings) (name : ℕ) (es : Exprs) (a end : ℕ) : Type 0 where
+record ExprsSplit (ws : List ℕ) (n : Strings) (es : Exprs) (a end : ℕ) : Type 0 where
   head : Expr
   mid : ℕ
   tail : Exprs
   there : Stands ws n a head mid
   next : StandsAll ws n mid tail end
   few : many es ≡ many tail + 1
-  is : inExprs name es ≡ orElse (inExpr name head) (inExprs name tail)
+  is : (x : ℕ) → inExprs x es ≡ orElse (inExpr x head) (inExprs x tail)
 
-exprs-split : {ws : List ℕ} {n : Strings} (name : ℕ) {es : Exprs} {a end : ℕ} → 0 < many es → StandsAll ws n a es end → ExprsSplit ws n name es a end
+exprs-split : {ws : List ℕ} {n : Strings} {es : Exprs} {a end : ℕ} → 0 < many es → StandsAll ws n a es end → ExprsSplit ws n es a end
 unfolding wordsAll Valids many inExprs
-exprs-split name {es = none} z s = absurd (omega arith)
-exprs-split name {es = more e es} z s = record { head = e; mid = _; tail = es; there = record { wrote = wrote-left (words e) (wordsAll es) (s .wrote); valid = s .valid .0 }; next = record { wrote = wrote-right (words e) (s .wrote); valid = s .valid .1 }; few = refl; is = refl }
+exprs-split {es = none} z s = absurd (omega arith)
+exprs-split {es = more e es} z s = record { head = e; mid = _; tail = es; there = record { wrote = wrote-left (words e) (wordsAll es) (s .wrote); valid = s .valid .0 }; next = record { wrote = wrote-right (words e) (s .wrote); valid = s .valid .1 }; few = refl; is = λ x. refl }
 
 -- the next one stands where the last one ended
-pub next-expr : {ws : List ℕ} {at name k i : ℕ} {s : Sought} → SomeExprs ws at k → ExprsRead ws at name k s i → i < k → SomeExpr ws (s .next) × (at ≤ s .next)
-next-expr {name = name} A R h =
+pub next-expr : {ws : List ℕ} {at c k a i : ℕ} {before now : Marks} → SomeExprs ws at c → ExprsRead ws at c k before now a i → i < c → SomeExpr ws a × (at ≤ a)
+next-expr A R h =
     let L = R .gives _ _ _ (A .stands) (A .counted) in
-    let S = exprs-split name (omega (arith, L .few, A .counted)) (L .there) in
+    let S = exprs-split (omega (arith, L .few, A .counted)) (L .there) in
     (record { strings = A .strings; expr = S .head; end = S .mid; stands = S .there }, L .from)
 
--- one more sought
-pub exprs-step : {ws : List ℕ} {at name k i : ℕ} {s e : Sought} {u : Use} → ExprsRead ws at name k s i → i < k → SeeksExpr ws (s .next) name e → useOf u ≡ orElse (useOf (s .first)) (useOf (e .first)) → ExprsRead ws at name k (record { first = u; next = e .next }) (i + 1)
-exprs-step {name = name} {s = s} {e} {u} R h E q = record {
-  gives = λ n es end t c.
-      let L = R .gives n es end t c in
-      let S = exprs-split name (omega (arith, L .few, c)) (L .there) in
+-- one more walked
+pub exprs-step : {ws : List ℕ} {at c k a i a′ : ℕ} {before now after : Marks} → ExprsRead ws at c k before now a i → i < c → NotesExpr ws a k now after a′ → ExprsRead ws at c k before after a′ (i + 1)
+exprs-step {k = k} {now = now} {after} R h E = record {
+  gives = λ n es end t q.
+      let L = R .gives n es end t q in
+      let S = exprs-split (omega (arith, L .few, q)) (L .there) in
       let g = E .gives n (S .head) (S .mid) (S .there) in
       let w = S .there in
       record {
@@ -238,15 +228,19 @@ exprs-step {name = name} {s = s} {e} {u} R h E q = record {
         there = rw (g .1) (S .next);
         few = omega (arith, L .few, S .few);
         from = omega (arith, L .from, g .1, w .wrote .span);
-        is = L .is ∙ ap (orElse (useOf (s .first))) (S .is) ∙ sym (orElse-assoc (useOf (s .first)) (inExpr name (S .head)) (inExprs name (S .tail))) ∙ ap (λ (o : Option ℕ). orElse o (inExprs name (S .tail))) (sym (q ∙ ap (orElse (useOf (s .first))) (g .0)));
+        is = λ x.
+            ap (noted k (inExprs x (S .tail))) (g .0 x)
+            ∙ noted-same k (inExpr x (S .head)) (inExprs x (S .tail)) (now x)
+            ∙ ap (λ (o : Option ℕ). noted k o (now x)) (sym (S .is x))
+            ∙ L .is x;
       };
 }
 
--- all are sought
-pub exprs-done : {ws : List ℕ} {at name k i : ℕ} {s : Sought} → ExprsRead ws at name k s i → k ≤ i → SeeksExprs ws at name k s
-unfolding wordsAll many inExprs
-exprs-done {ws} {at} {name} {k} {i} {s} R h = record { gives = λ n es end t c. let L = R .gives n es end t c in go n es end (L .left) (L .there) (omega (arith, L .few, c)) (L .is) }
+-- all are walked
+pub exprs-done : {ws : List ℕ} {at c k a i : ℕ} {before after : Marks} → ExprsRead ws at c k before after a i → c ≤ i → NotesExprs ws at c k before after a
+unfolding wordsAll many inExprs noted
+exprs-done {ws} {at} {c} {k} {a} {i} {before} {after} R h = record { gives = λ n es end t q. let L = R .gives n es end t q in go n es end (L .left) (L .there) (omega (arith, L .few, q)) (L .is) }
   where
-    go : (n : Strings) (es : Exprs) (end : ℕ) (left : Exprs) → StandsAll ws n (s .next) left end → many left ≡ 0 → inExprs name es ≡ orElse (useOf (s .first)) (inExprs name left) → (useOf (s .first) ≡ inExprs name es) × (s .next ≡ end)
-    go n es end none t z q = (sym (q ∙ orElse-none (useOf (s .first))), omega (arith, t .wrote .span))
+    go : (n : Strings) (es : Exprs) (end : ℕ) (left : Exprs) → StandsAll ws n a left end → many left ≡ 0 → ((x : ℕ) → noted k (inExprs x left) (after x) ≡ noted k (inExprs x es) (before x)) → ((x : ℕ) → after x ≡ noted k (inExprs x es) (before x)) × (a ≡ end)
+    go n es end none t z q = (q, omega (arith, t .wrote .span))
     go n es end (more e es′) t z q = absurd (omega arith)

@@ -3,4 +3,5 @@ pub mod Subscripts
 pub mod Blind
 pub mod Examples
 pub mod Over
+pub mod Notes
 pub mod Code

@@ -1,4 +1,4 @@
-// `subscript_count`: how many subscripts a body gives a name the first time it subscripts it. A read-only walk, in one pass.
+// `subscript_count`: how many subscripts a body gives a name the first time it subscripts it. One read-only walk notes the first uses of many names at once.
 ghost use mathlib.Core.Path.{_≡_};
 ghost use mathlib.Core.List.{List, [], _∷_};
 ghost use mathlib.Core.Bool.{true, false};
@@ -14,8 +14,9 @@ ghost use Rattle.tree.specs.Stands.{Stands, SomeTree};
 ghost use Rattle.tree.specs.Codes.{sortAt, rowOf};
 ghost use Rattle.skip.specs.Shape.{SomeExpr};
 ghost use Rattle.plans.specs.Plans.{Listed, SomeRows, Walks, WalksRows};
-ghost use Rattle.subscripts.specs.Subscripts.{orElse, subscripted, inExpr, subscriptCount};
-ghost use Rattle.subscripts.specs.Code.{useOf, HereIs, SeeksExpr, SomeExprs, SeeksExprs, SeeksOwn, IndexedAt, SeeksIndexed, SeeksTarget, SeeksTargets, KindAt, SeeksStmt, targeted as isTargeted, Counted, Joins};
+ghost use Rattle.subscripts.specs.Subscripts.{inExpr, subscriptCount};
+ghost use Rattle.subscripts.specs.Notes.{Blank, markAt, noted, room, used};
+ghost use Rattle.subscripts.specs.Code.{useOf, HereNotes, NotesExpr, SomeExprs, NotesExprs, NotesOwn, IndexedAt, NotesIndexed, NotesTarget, NotesTargets, KindAt, NotesStmt, targeted as isTargeted, Counted, Told};
 
 // The rank of an array parameter that its body never subscripts.
 pub const UNRANKED: u32 = 1;
@@ -26,300 +27,198 @@ pub struct Use {
     pub count: u32,
 }
 
-// The first use in what stands somewhere, and the place past it.
-pub struct Sought {
-    first: Use,
-    next: usize,
-}
+// The notes are a table with two words for each name from `base` on: the place of the statement that has the name's first use so far, or one near it that
+// orders uses within the statement, and one more than the number of its subscripts; 0 where there is none.
 
-// The use of a name as a target, the first use in its indices, and the place past them.
-pub struct Target {
-    target: Use,
-    own: Use,
-    next: usize,
-}
-
-// The first use in the expressions of a part of a statement, the first use in the statements in it, and the place past it.
-pub struct Walked {
-    own: Use,
-    nested: Use,
-    next: usize,
-}
-
-// No use.
-fn no_use() -> Use
-    ensures { λ r. ⌜ useOf r ≡ none ⌝ }
+// Notes a use of the name f with n subscripts at k, unless one at k or before is there.
+fn note(t: &mut [usize], base: u32, k: usize, f: u32, n: u32)
+    ensures { λ _. ⌜ ((x : ℕ) → markAt base (now (t .exit)) x ≡ noted k (pick (eqb f x) (some n) none) (markAt base (now (t .entry)) x)) ⌝ }
 {
-    Use {
-        found: false,
-        count: 0,
+    if f < base {
+        return;
     }
-}
-
-// The first use, or else the second.
-fn or_else(a: Use, b: Use) -> Use
-    ensures { λ r. ⌜ useOf r ≡ orElse (useOf a) (useOf b) ⌝ }
-{
-    if a.found {
-        return a;
+    let i = 2 * (f - base) as usize;
+    if t.len() <= i + 1 {
+        return;
     }
-    b
-}
-
-// A use of the name f, where it is the one that is looked for.
-fn named(f: u32, name: u32, n: u32) -> Use
-    ensures { λ r. ⌜ useOf r ≡ pick (eqb f name) (some n) none ⌝ }
-{
-    if f == name {
-        return Use {
-            found: true,
-            count: n,
-        };
+    if t[i + 1] != 0 {
+        if t[i] <= k {
+            return;
+        }
     }
-    no_use()
+    t[i] = k;
+    t[i + 1] = n as usize + 1;
 }
 
 // The use that the expression there is, without what stands in it: an element or a call whose list isn't empty.
-fn here(words: &[u32], at: usize, name: u32) -> Use
+fn here(words: &[u32], at: usize, t: &mut [usize], base: u32, k: usize)
     requires { ⌜ SomeExpr (now words) at ⌝ }
-    ensures { λ r. ⌜ HereIs (now (words .entry)) at name r ⌝ }
+    ensures { λ _. ⌜ HereNotes (now (words .entry)) at k (markAt base (now (t .entry))) (markAt base (now (t .exit))) ⌝ }
 {
     match words[at] / 16777216 {
         18 | 21 => {
             let n = words[at + 2] % 16777216;
             if n == 0 {
-                return no_use();
+                return;
             }
-            named(words[at + 1] % 16777216, name, n)
+            note(t, base, k, words[at + 1] % 16777216, n);
         }
-        _ => no_use(),
+        _ => {}
     }
 }
 
-// An expression: itself before what stands in it.
-fn expr(words: &[u32], at: usize, name: u32) -> Sought
+// An expression: itself before what stands in it. The place past it.
+fn expr(words: &[u32], at: usize, t: &mut [usize], base: u32, k: usize) -> usize
     requires { ⌜ SomeExpr (now words) at ⌝ }
-    ensures { λ r. ⌜ SeeksExpr (now (words .entry)) at name r ⌝ }
+    ensures { λ r. ⌜ NotesExpr (now (words .entry)) at k (markAt base (now (t .entry))) (markAt base (now (t .exit))) r ⌝ }
 {
     let s = skip::shape_at(words, at);
-    let h = here(words, at, name);
-    let c = exprs(words, at + s.front, name, s.children);
-    Sought {
-        first: or_else(h, c.first),
-        next: c.next + s.back,
-    }
+    here(words, at, t, base, k);
+    let next = exprs(words, at + s.front, s.children, t, base, k);
+    next + s.back
 }
 
 // So many expressions, one after another.
-fn exprs(words: &[u32], at: usize, name: u32, n: u32) -> Sought
+fn exprs(words: &[u32], at: usize, n: u32, t: &mut [usize], base: u32, k: usize) -> usize
     requires { ⌜ SomeExprs (now words) at n ⌝ }
-    ensures { λ r. ⌜ SeeksExprs (now (words .entry)) at name n r ⌝ }
+    ensures { λ r. ⌜ NotesExprs (now (words .entry)) at n k (markAt base (now (t .entry))) (markAt base (now (t .exit))) r ⌝ }
 {
-    let mut s = Sought {
-        first: no_use(),
-        next: at,
-    };
+    let mut next = at;
     let mut i = 0;
     while i < n {
-        let e = expr(words, s.next, name);
-        s = Sought {
-            first: or_else(s.first, e.first),
-            next: e.next,
-        };
+        next = expr(words, next, t, base, k);
         i += 1;
     }
-    s
+    next
 }
 
 // An expression, or the word 0.
-fn option(words: &[u32], at: usize, name: u32) -> Sought
+fn option(words: &[u32], at: usize, t: &mut [usize], base: u32, k: usize) -> usize
     requires { ⌜ SomeTree (one (opt (exprSort & nil))) (now words) at ⌝ }
-    ensures { λ r. ⌜ SeeksOwn (one (opt (exprSort & nil))) (now (words .entry)) at name r ⌝ }
+    ensures { λ r. ⌜ NotesOwn (one (opt (exprSort & nil))) (now (words .entry)) at k (markAt base (now (t .entry))) (markAt base (now (t .exit))) r ⌝ }
 {
     if words[at] == 0 {
-        return Sought {
-            first: no_use(),
-            next: at + 1,
-        };
+        return at + 1;
     }
-    expr(words, at, name)
+    expr(words, at, t, base, k)
 }
 
 // An item of PRINT: an expression with a head before it, or a head alone.
-fn item(words: &[u32], at: usize, name: u32) -> Sought
+fn item(words: &[u32], at: usize, t: &mut [usize], base: u32, k: usize) -> usize
     requires { ⌜ SomeTree (rowShape (PrintItem & nil)) (now words) at ⌝ }
-    ensures { λ r. ⌜ SeeksOwn (rowShape (PrintItem & nil)) (now (words .entry)) at name r ⌝ }
+    ensures { λ r. ⌜ NotesOwn (rowShape (PrintItem & nil)) (now (words .entry)) at k (markAt base (now (t .entry))) (markAt base (now (t .exit))) r ⌝ }
 {
     if words[at] / 16777216 == 32 {
-        return expr(words, at + 1, name);
+        return expr(words, at + 1, t, base, k);
     }
-    Sought {
-        first: no_use(),
-        next: at + 1,
-    }
+    at + 1
 }
 
 // The items of PRINT.
-fn items(words: &[u32], at: usize, name: u32) -> Sought
+fn items(words: &[u32], at: usize, t: &mut [usize], base: u32, k: usize) -> usize
     requires { ⌜ SomeTree (one (many (PrintItem & nil))) (now words) at ⌝ }
-    ensures { λ r. ⌜ SeeksOwn (one (many (PrintItem & nil))) (now (words .entry)) at name r ⌝ }
+    ensures { λ r. ⌜ NotesOwn (one (many (PrintItem & nil))) (now (words .entry)) at k (markAt base (now (t .entry))) (markAt base (now (t .exit))) r ⌝ }
 {
     let n = words[at] % 16777216;
-    let mut s = Sought {
-        first: no_use(),
-        next: at + 1,
-    };
+    let mut next = at + 1;
     let mut i = 0;
     while i < n {
-        let e = item(words, s.next, name);
-        s = Sought {
-            first: or_else(s.first, e.first),
-            next: e.next,
-        };
+        next = item(words, next, t, base, k);
         i += 1;
     }
-    s
+    next
 }
 
-// A target's name, and its indices if it has a list of them: here an empty list counts.
-fn indexed(words: &[u32], at: usize, name: u32) -> Target
+// A target's name, noted at k, and its indices, noted at j, if it has a list of them: here an empty list counts.
+fn indexed(words: &[u32], at: usize, t: &mut [usize], base: u32, k: usize, j: usize) -> usize
     requires { ⌜ IndexedAt (now words) at ⌝ }
-    ensures { λ r. ⌜ SeeksIndexed (now (words .entry)) at name r ⌝ }
+    ensures { λ r. ⌜ NotesIndexed (now (words .entry)) at k j (markAt base (now (t .entry))) (markAt base (now (t .exit))) r ⌝ }
 {
     if words[at + 1] == 0 {
-        return Target {
-            target: no_use(),
-            own: no_use(),
-            next: at + 2,
-        };
+        return at + 2;
     }
     let n = words[at + 1] % 16777216;
-    let s = exprs(words, at + 2, name, n);
-    let own = s.first;
-    Target {
-        target: named(words[at] % 16777216, name, n),
-        own,
-        next: s.next,
-    }
+    note(t, base, k, words[at] % 16777216, n);
+    exprs(words, at + 2, n, t, base, j)
 }
 
 // A target with its field names.
-fn lvalue(words: &[u32], at: usize, name: u32) -> Target
+fn lvalue(words: &[u32], at: usize, t: &mut [usize], base: u32, k: usize, j: usize) -> usize
     requires { ⌜ SomeTree (rowShape LValue) (now words) at ⌝ }
-    ensures { λ r. ⌜ SeeksTarget (now (words .entry)) at name r ⌝ }
+    ensures { λ r. ⌜ NotesTarget (now (words .entry)) at k j (markAt base (now (t .entry))) (markAt base (now (t .exit))) r ⌝ }
 {
-    let t = indexed(words, at, name);
-    let target = t.target;
-    let own = t.own;
-    let next = t.next;
-    Target {
-        target,
-        own,
-        next: next + 1 + (words[next] % 16777216) as usize,
-    }
+    let next = indexed(words, at, t, base, k, j);
+    next + 1 + (words[next] % 16777216) as usize
 }
 
 // A list of targets.
-fn lvalues(words: &[u32], at: usize, name: u32) -> Target
-    requires { ⌜ SomeTree (one (many LValue)) (now words) at ⌝ }
-    ensures { λ r. ⌜ SeeksTargets (now (words .entry)) at name r ⌝ }
+fn lvalues(words: &[u32], at: usize, t: &mut [usize], base: u32, k: usize, j: usize) -> usize
+    requires { ⌜ SomeTree (one (many LValue)) (now words) at × (k < j) ⌝ }
+    ensures { λ r. ⌜ NotesTargets (now (words .entry)) at k j (markAt base (now (t .entry))) (markAt base (now (t .exit))) r ⌝ }
 {
     let n = words[at] % 16777216;
-    let mut t = Target {
-        target: no_use(),
-        own: no_use(),
-        next: at + 1,
-    };
+    let mut next = at + 1;
     let mut i = 0;
     while i < n {
-        let v = lvalue(words, t.next, name);
-        t = Target {
-            target: or_else(t.target, v.target),
-            own: or_else(t.own, v.own),
-            next: v.next,
-        };
+        next = lvalue(words, next, t, base, k, j);
         i += 1;
     }
-    t
+    next
 }
 
 // LET: the target, its indices, the value.
-fn assigned(words: &[u32], at: usize, name: u32) -> Sought
+fn assigned(words: &[u32], at: usize, t: &mut [usize], base: u32) -> usize
     requires { ⌜ KindAt 2 (now words) at ⌝ }
-    ensures { λ r. ⌜ SeeksStmt (now (words .entry)) at name r ⌝ }
+    ensures { λ r. ⌜ NotesStmt (now (words .entry)) at (markAt base (now (t .entry))) (markAt base (now (t .exit))) r ⌝ }
 {
-    let t = indexed(words, at + 1, name);
-    let e = expr(words, t.next, name);
-    Sought {
-        first: or_else(t.target, or_else(t.own, e.first)),
-        next: e.next,
-    }
+    let next = indexed(words, at + 1, t, base, at, at);
+    expr(words, next, t, base, at)
 }
 
 // PRINT: the file number, USING, the items.
-fn print(words: &[u32], at: usize, name: u32) -> Sought
+fn print(words: &[u32], at: usize, t: &mut [usize], base: u32) -> usize
     requires { ⌜ KindAt 3 (now words) at ⌝ }
-    ensures { λ r. ⌜ SeeksStmt (now (words .entry)) at name r ⌝ }
+    ensures { λ r. ⌜ NotesStmt (now (words .entry)) at (markAt base (now (t .entry))) (markAt base (now (t .exit))) r ⌝ }
 {
-    let file = option(words, at + 1, name);
-    let list = items(words, file.next, name);
-    let pattern = option(words, list.next + 1, name);
-    Sought {
-        first: or_else(file.first, or_else(pattern.first, list.first)),
-        next: pattern.next + 1,
-    }
+    let list = option(words, at + 1, t, base, at);
+    let newline = items(words, list, t, base, at + 2);
+    let write = option(words, newline + 1, t, base, at + 1);
+    write + 1
 }
 
 // INPUT: the targets, the file number, the targets' indices. A prompt is one word, there or not.
-fn input(words: &[u32], at: usize, name: u32) -> Sought
+fn input(words: &[u32], at: usize, t: &mut [usize], base: u32) -> usize
     requires { ⌜ KindAt 4 (now words) at ⌝ }
-    ensures { λ r. ⌜ SeeksStmt (now (words .entry)) at name r ⌝ }
+    ensures { λ r. ⌜ NotesStmt (now (words .entry)) at (markAt base (now (t .entry))) (markAt base (now (t .exit))) r ⌝ }
 {
-    let t = lvalues(words, at + 3, name);
-    let file = option(words, t.next, name);
-    Sought {
-        first: or_else(t.target, or_else(file.first, t.own)),
-        next: file.next,
-    }
+    let file = lvalues(words, at + 3, t, base, at, at + 2);
+    option(words, file, t, base, at + 1)
 }
 
 // LINE INPUT: alike, with one target.
-fn line_input(words: &[u32], at: usize, name: u32) -> Sought
+fn line_input(words: &[u32], at: usize, t: &mut [usize], base: u32) -> usize
     requires { ⌜ KindAt 5 (now words) at ⌝ }
-    ensures { λ r. ⌜ SeeksStmt (now (words .entry)) at name r ⌝ }
+    ensures { λ r. ⌜ NotesStmt (now (words .entry)) at (markAt base (now (t .entry))) (markAt base (now (t .exit))) r ⌝ }
 {
-    let t = lvalue(words, at + 2, name);
-    let file = option(words, t.next, name);
-    Sought {
-        first: or_else(t.target, or_else(file.first, t.own)),
-        next: file.next,
-    }
+    let file = lvalue(words, at + 2, t, base, at, at + 2);
+    option(words, file, t, base, at + 1)
 }
 
 // SWAP: both targets, then their indices.
-fn swap(words: &[u32], at: usize, name: u32) -> Sought
+fn swap(words: &[u32], at: usize, t: &mut [usize], base: u32) -> usize
     requires { ⌜ KindAt 24 (now words) at ⌝ }
-    ensures { λ r. ⌜ SeeksStmt (now (words .entry)) at name r ⌝ }
+    ensures { λ r. ⌜ NotesStmt (now (words .entry)) at (markAt base (now (t .entry))) (markAt base (now (t .exit))) r ⌝ }
 {
-    let a = lvalue(words, at + 1, name);
-    let b = lvalue(words, a.next, name);
-    let targets = or_else(a.target, b.target);
-    Sought {
-        first: or_else(targets, or_else(a.own, b.own)),
-        next: b.next,
-    }
+    let next = lvalue(words, at + 1, t, base, at, at + 1);
+    lvalue(words, next, t, base, at, at + 1)
 }
 
 // READ: the targets, then their indices.
-fn read(words: &[u32], at: usize, name: u32) -> Sought
+fn read(words: &[u32], at: usize, t: &mut [usize], base: u32) -> usize
     requires { ⌜ KindAt 32 (now words) at ⌝ }
-    ensures { λ r. ⌜ SeeksStmt (now (words .entry)) at name r ⌝ }
+    ensures { λ r. ⌜ NotesStmt (now (words .entry)) at (markAt base (now (t .entry))) (markAt base (now (t .exit))) r ⌝ }
 {
-    let t = lvalues(words, at + 1, name);
-    Sought {
-        first: or_else(t.target, t.own),
-        next: t.next,
-    }
+    lvalues(words, at + 1, t, base, at, at + 1)
 }
 
 // Whether statements of the kind have targets, or expressions in another order than their words.
@@ -335,117 +234,112 @@ fn targeted(kind: u32) -> bool
 }
 
 // A statement of such a kind. No statement stands in one.
-fn by_hand(words: &[u32], at: usize, name: u32) -> Sought
+fn by_hand(words: &[u32], at: usize, t: &mut [usize], base: u32) -> usize
     requires { ⌜ SomeTree (one stmtSort) (now words) at × (isTargeted (kindOf (getD (now words) at 0)) ≡ true) ⌝ }
-    ensures { λ r. ⌜ SeeksStmt (now (words .entry)) at name r ⌝ }
+    ensures { λ r. ⌜ NotesStmt (now (words .entry)) at (markAt base (now (t .entry))) (markAt base (now (t .exit))) r ⌝ }
 {
     match words[at] / 16777216 {
-        66 => assigned(words, at, name),
-        67 => print(words, at, name),
-        68 => input(words, at, name),
-        69 => line_input(words, at, name),
-        88 => swap(words, at, name),
-        _ => read(words, at, name),
+        66 => assigned(words, at, t, base),
+        67 => print(words, at, t, base),
+        68 => input(words, at, t, base),
+        69 => line_input(words, at, t, base),
+        88 => swap(words, at, t, base),
+        _ => read(words, at, t, base),
     }
 }
 
-// Two parts, one after the other.
-fn joined(a: Walked, b: Walked) -> Walked
-    ensures { λ r. ⌜ Joins a b r ⌝ }
-{
-    Walked {
-        own: or_else(a.own, b.own),
-        nested: or_else(a.nested, b.nested),
-        next: b.next,
-    }
-}
-
-// A field of a sort.
-fn field(words: &[u32], at: usize, name: u32, sort: u8) -> Walked
+// A field of a sort, in the statement at k.
+fn field(words: &[u32], at: usize, sort: u8, t: &mut [usize], base: u32, k: usize) -> usize
     requires { ⌜ SomeTree (one (sortAt sort)) (now words) at × Listed sort ⌝ }
-    ensures { λ r. ⌜ Walks (one (sortAt sort)) (now (words .entry)) at (r .next) (Counted name (r .own) (r .nested)) ⌝ }
+    ensures { λ r. ⌜ Walks (one (sortAt sort)) (now (words .entry)) at r (Counted k at r (markAt base (now (t .entry))) (markAt base (now (t .exit)))) ⌝ }
 {
     if sort == 9 {
-        let e = expr(words, at, name);
-        let own = e.first;
-        return Walked {
-            own,
-            nested: no_use(),
-            next: e.next,
-        };
+        return expr(words, at, t, base, k);
     }
     if sort == 10 {
-        let s = stmt(words, at, name);
-        let nested = s.first;
-        return Walked {
-            own: no_use(),
-            nested,
-            next: s.next,
-        };
+        return stmt(words, at, t, base);
     }
     let p = plans::plan_for(words, at, sort);
     let c = p.same;
     let r = p.row;
     let n = p.times;
-    each(words, at + c, name, r, n)
+    each(words, at + c, r, n, t, base, k)
 }
 
-// A statement: its targets and its own expressions, then the statements in it.
-fn stmt(words: &[u32], at: usize, name: u32) -> Sought
+// A statement: its targets and its own expressions, then the statements in it, whose places come after its own.
+fn stmt(words: &[u32], at: usize, t: &mut [usize], base: u32) -> usize
     requires { ⌜ SomeTree (one stmtSort) (now words) at ⌝ }
-    ensures { λ r. ⌜ SeeksStmt (now (words .entry)) at name r ⌝ }
+    ensures { λ r. ⌜ NotesStmt (now (words .entry)) at (markAt base (now (t .entry))) (markAt base (now (t .exit))) r ⌝ }
 {
-    let k = words[at] / 16777216;
-    if targeted(k) {
-        return by_hand(words, at, name);
+    let kind = words[at] / 16777216;
+    if targeted(kind) {
+        return by_hand(words, at, t, base);
     }
-    let w = row(words, at + 1, name, (k - 64) as usize + 39);
-    Sought {
-        first: or_else(w.own, w.nested),
-        next: w.next,
-    }
+    row(words, at + 1, (kind - 64) as usize + 39, t, base, at)
 }
 
 // So many rows, one after another.
-fn each(words: &[u32], at: usize, name: u32, r: usize, n: u32) -> Walked
+fn each(words: &[u32], at: usize, r: usize, n: u32, t: &mut [usize], base: u32, k: usize) -> usize
     requires { ⌜ SomeRows (rowOf r) n (now words) at ⌝ }
-    ensures { λ w. ⌜ WalksRows (rowOf r) n (now (words .entry)) at (w .next) (Counted name (w .own) (w .nested)) ⌝ }
+    ensures { λ w. ⌜ WalksRows (rowOf r) n (now (words .entry)) at w (Counted k at w (markAt base (now (t .entry))) (markAt base (now (t .exit)))) ⌝ }
 {
-    let mut w = Walked {
-        own: no_use(),
-        nested: no_use(),
-        next: at,
-    };
+    let mut next = at;
     let mut i = 0;
     while i < n {
-        let m = row(words, w.next, name, r);
-        w = joined(w, m);
+        next = row(words, next, r, t, base, k);
         i += 1;
     }
-    w
+    next
 }
 
 // A row of fields.
-fn row(words: &[u32], at: usize, name: u32, r: usize) -> Walked
+fn row(words: &[u32], at: usize, r: usize, t: &mut [usize], base: u32, k: usize) -> usize
     requires { ⌜ SomeTree (rowShape (rowOf r)) (now words) at ⌝ }
-    ensures { λ w. ⌜ Walks (rowShape (rowOf r)) (now (words .entry)) at (w .next) (Counted name (w .own) (w .nested)) ⌝ }
+    ensures { λ w. ⌜ Walks (rowShape (rowOf r)) (now (words .entry)) at w (Counted k at w (markAt base (now (t .entry))) (markAt base (now (t .exit)))) ⌝ }
 {
-    let mut w = Walked {
-        own: no_use(),
-        nested: no_use(),
-        next: at,
-    };
+    let mut next = at;
     let mut i = 0;
     while i < 6 {
-        let k = tree::sort(r, i);
-        if k == 0 {
-            return w;
+        let sort = tree::sort(r, i);
+        if sort == 0 {
+            return next;
         }
-        let m = field(words, w.next, name, k);
-        w = joined(w, m);
+        next = field(words, next, sort, t, base, k);
         i += 1;
     }
-    w
+    next
+}
+
+// The first uses of the names from `base` on that the notes have room for, in the body at `at`.
+pub fn first_uses(words: &[u32], at: usize, t: &mut [usize], base: u32)
+    requires { ⌜ SomeTree (one body) (now words) at × Blank (now t) ⌝ }
+    ensures { λ _. ⌜ Told (now (words .entry)) at base (now (t .exit)) ⌝ }
+{
+    let n = words[at] % 16777216;
+    let mut next = at + 1;
+    let mut i = 0;
+    while i < n {
+        next = stmt(words, next, t, base);
+        i += 1;
+    }
+}
+
+// The use of a name that the notes have room for.
+pub fn first_use(t: &[usize], base: u32, name: u32) -> Use
+    requires { ⌜ room base (now t) name ≡ true ⌝ }
+    ensures { λ r. ⌜ useOf r ≡ used (markAt base (now (t .entry)) name) ⌝ }
+{
+    let c = t[2 * (name - base) as usize + 1];
+    if c == 0 {
+        return Use {
+            found: false,
+            count: 0,
+        };
+    }
+    Use {
+        found: true,
+        count: ((c - 1) % 4294967296) as u32,
+    }
 }
 
 // How many subscripts the name is given first in the body at `at`. No statement after the one with that use is looked at.
@@ -453,16 +347,16 @@ pub fn subscript_count(words: &[u32], at: usize, name: u32) -> Use
     requires { ⌜ SomeTree (one body) (now words) at ⌝ }
     ensures { λ r. ⌜ ((ns : List ℕ) (n : ℕ) (v : Tree Expr (one body)) (end : ℕ) → Stands (now (words .entry)) ns n at v end → useOf r ≡ subscriptCount (λ name (e : Expr). inExpr name e) name v) ⌝ }
 {
+    let mut t = [0usize; 2];
     let n = words[at] % 16777216;
-    let mut m = at + 1;
+    let mut next = at + 1;
     let mut i = 0;
     while i < n {
-        let s = stmt(words, m, name);
-        if s.first.found {
-            return s.first;
+        next = stmt(words, next, &mut t, name);
+        if t[1] != 0 {
+            return first_use(&t, name, name);
         }
-        m = s.next;
         i += 1;
     }
-    no_use()
+    first_use(&t, name, name)
 }

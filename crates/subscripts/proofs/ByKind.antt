@@ -35,7 +35,7 @@ usedIn name e = inExpr name e
 
 -- ---- sorts in which no statement stands
 
-mutual
+unfoldable mutual
   -- of a field's sort
   pub quietS : Sort → Bool
   quietS (leaf l) = true

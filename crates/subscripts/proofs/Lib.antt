@@ -3,3 +3,4 @@ pub mod Marks
 pub mod Expressions
 pub mod Lists
 pub mod ByKind
+pub mod Targets

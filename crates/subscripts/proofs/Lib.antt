@@ -2,5 +2,6 @@
 pub mod Marks
 pub mod Expressions
 pub mod Lists
+pub mod Targets
 pub mod ByKind
 pub mod Statements

@@ -154,8 +154,7 @@ expr-done {ws} {at} {k} {next} {s} {before} S H C = record {
       let p = S n e end t in
       let i = inside t in
       let f = i .items in
-      let g = C .gives n (children e) (i .mid) (rw (p .front-is) f) (sym (p .children-is)) in
-      (
+      let g = C .gives n (children e) (i .mid) (rw (p .front-is) f) (sym (p .children-is)) in (
         λ x.
             g .0 x
             ∙ ap (noted k (inExprs x (children e))) (H .gives n e end t x)

@@ -1,5 +1,6 @@
 -- The count of subscripts, expression by expression and target by target, and the walk over statements.
 pub mod Marks
+pub mod Table
 pub mod Expressions
 pub mod Lists
 pub mod Targets

@@ -1,4 +1,4 @@
--- `array_params`: at each turn the arrays among the parameters that were read are entered. Assumes nothing.
+-- `arrays_alone`: at each turn the arrays among the parameters that were read are entered. Assumes nothing.
 use Prim.Native.Nat.{ℕ, _-_, _*_, _≤_}
 use native.Mathlib.Omega.{arith}
 use mathlib.Core.Path.{_≡_, refl, _∙_}
@@ -15,8 +15,8 @@ use Rattle.collect.specs.Collect.{arrayParam}
 use Rattle.procedures.specs.Post.{plain, BodyAt}
 use Rattle.procedures.proofs.Walk.{Walked, walk-start, walk-place, walk-next, walk-end}
 use Rattle.procedures.proofs.Does.{enters-next}
-use Rattle.procedures.proofs.array_params.Statement.{statement}
-use Rattle.procedures.proofs.array_params.Tie as tie
+use Rattle.procedures.proofs.arrays_alone.Statement.{statement}
+use Rattle.procedures.proofs.arrays_alone.Tie as tie
 
 abbrev Inv-loop : tie.InvT-loop
 Inv-loop words b₀ scope line body past from count c₀ at₀ i₀ b c at i =
@@ -54,8 +54,8 @@ same-length c = c .before .loop .inv .0
 returns : tie.Need-returns Inv-loop μ-loop
 returns c = λ t B. record { kept = c .before .loop .inv .1; fit = c .before .loop .inv .2; does = λ ps T d k. walk-end (c .before .loop .inv .3 t B) (c .loop-test .left) ps T d k }
 
-pub array-params-spec : {M : Type 1} → statement M
-array-params-spec =
+pub arrays-alone-spec : {M : Type 1} → statement M
+arrays-alone-spec =
     tie.close
     (tie.spec
     Inv-loop

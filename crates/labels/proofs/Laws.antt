@@ -23,7 +23,7 @@ use Rattle.runs.specs.Laws.{keeps-count, keeps-table}
 use Rattle.table.specs.Laws.{order₃, insert-lt, insert-eq, insert-gt, find-eq, find-ne, find-above}
 use Rattle.entries.specs.Entries.{row as rowOf, entryKey, hasRow, has, lineRow, labelRow, constRow, optionBaseRow}
 use Rattle.views.specs.View.{View, Label, LabelName, OptionBase, Const, view}
-use Rattle.steps.specs.State.{State, running, stopped, _⨾_, asking, when, fits, change, enter, push}
+use Rattle.steps.specs.State.{State, Step, running, stopped, _⨾_, asking, when, fits, change, enter, push}
 use Rattle.steps.specs.declared.Counts.{Counts}
 use Rattle.steps.specs.Held.{Fit, Held, Does, Notes, Rows, entering, pushing, noting}
 use Rattle.steps.specs.Compose.{Stays, then, asked, rows-does, notes-does, stays-then, stays-when, stays-pick, stays-enter, stays-push, stopped-does}
@@ -181,15 +181,29 @@ say-stays twice late line N D =
     stays-pick twice (push (some D) (optionBaseTwice line)) (when late (push (some D) (optionBaseLate line))) (stays-push D (optionBaseTwice line))
     (stays-when late (push (some D) (optionBaseLate line)) (stays-push D (optionBaseLate line)))
 
-module _ {s t : Counts} {b d d′ : List ℕ} {x y : Bool} (fit : Fit s (length b) (length d)) where
-  base-said : (line : ℕ) → ((rows : List Row) → Keeps rows (s .rows) b → x ≡ has rows 143 0 0) → ((rows : List Row) → Keeps rows (s .rows) b → y ≡ anyArray rows)
-      → Notes (sayBase x y line) s t d d′ → Does (λ N D. asking (λ rows. sayBase (has rows 143 0 0) (anyArray rows) line N D)) s t b d b d′
-  base-said line first second F =
-      asked {A = Bool × Bool} (x, y) (λ rows. (has rows 143 0 0, anyArray rows)) (λ (p : Bool × Bool) N D. sayBase (p .0) (p .1) line N D) (λ p N D. say-stays (p .0) (p .1) line N D)
-      (λ rows H. ap (λ (a : Bool). (a, y)) (first rows H) ∙ ap (λ (a : Bool). (has rows 143 0 0, a)) (second rows H)) (notes-does F b (fit .0))
+-- of another than the first it doesn't matter whether there is an array
+said-same : (x y h a : Bool) (line N D : ℕ) → x ≡ h → (x ≡ false → y ≡ a) → sayBase x y line N D ≡ sayBase h a line N D
+unfolding sayBase
+said-same true y h a line N D e f = rw (sym e) refl
+said-same false y h a line N D e f = rw (sym e, f refl) refl
 
-  -- both asked, what is to be said said, and the row entered
-  pub base-collects : {r : Counts} {b′ ws : List ℕ} {at : ℕ} → ((rows : List Row) → Keeps rows (s .rows) b → x ≡ has rows 143 0 0) → ((rows : List Row) → Keeps rows (s .rows) b → y ≡ anyArray rows)
+module _ {s t : Counts} {b d d′ : List ℕ} {x y : Bool} (fit : Fit s (length b) (length d)) where
+  base-said : (line : ℕ) → ((rows : List Row) → Keeps rows (s .rows) b → x ≡ has rows 143 0 0) → (x ≡ false → (rows : List Row) → Keeps rows (s .rows) b → y ≡ anyArray rows)
+      → Notes (sayBase x y line) s t d d′ → Does (λ N D. asking (λ rows. sayBase (has rows 143 0 0) (anyArray rows) line N D)) s t b d b d′
+  unfolding asking
+  base-said line first second F = record { fit = G .fit; after = by }
+    where
+      G : Does (sayBase x y line) s t b d b d′
+      G = notes-does F b (fit .0)
+
+      by : (N D : ℕ) (st : State) → Held N D st s b d → Held N D (asking (λ rows. sayBase (has rows 143 0 0) (anyArray rows) line N D) st) t b d′
+      by N D (running rows notes) H =
+          subst (λ (g : Step). Held N D (g (running rows notes)) t b d′) (said-same x y (has rows 143 0 0) (anyArray rows) line N D (first rows (H .inside .1)) (λ e. second e rows (H .inside .1)))
+          (G .after N D (running rows notes) H)
+      by N D (stopped k) H = subst (λ (st : State). Held N D st t b d′) (say-stays x y line N D k) (G .after N D (stopped k) H)
+
+  -- both asked, the second where it matters, what is to be said said, and the row entered
+  pub base-collects : {r : Counts} {b′ ws : List ℕ} {at : ℕ} → ((rows : List Row) → Keeps rows (s .rows) b → x ≡ has rows 143 0 0) → (x ≡ false → (rows : List Row) → Keeps rows (s .rows) b → y ≡ anyArray rows)
       → Notes (sayBase x y (lineAt ws at)) s t d d′ → Rows (entering (optionBaseRow (leafAt ws at))) t r b b′ → (scope : ℕ) → CollectsAny optionBaseKind ws scope at s r b d b′ d′
   unfolding statement optionBase entering sayBase
   base-collects {ws = ws} {at} first second F R scope =

@@ -3,6 +3,7 @@ use fold::Fold;
 use fold::Value;
 use steps::Counts;
 ghost use mathlib.Core.Path.{_≡_};
+ghost use mathlib.Core.Bool.{false};
 ghost use mathlib.Core.List.{List};
 ghost use mathlib.Core.Option.{some};
 ghost use Prim.Native.Nat.{ℕ, _*_, _≤_, _<_};
@@ -63,6 +64,17 @@ fn any_array(b: &[u32], count: usize) -> bool
     runs::any_between(b, count, from, to)
 }
 
+// Whether there is an array, asked only of a first OPTION BASE: of another it doesn't matter.
+fn late_base(b: &[u32], count: usize, twice: bool) -> bool
+    requires { ⌜ count * width ≤ length (now b) ⌝ }
+    ensures { λ r. ⌜ (twice ≡ false → (rows : List Row) → Keeps rows count (now (b .entry)) → r ≡ anyArray rows) ⌝ }
+{
+    if twice {
+        return false;
+    }
+    any_array(b, count)
+}
+
 // What is said of an OPTION BASE: that it isn't the first, or else that an array was before it.
 fn say_base(d: &mut [u32], s: Counts, twice: bool, late: bool, line: u32) -> Counts
     requires { ⌜ s .notes * noteWidth ≤ length (now d) ⌝ }
@@ -82,7 +94,7 @@ pub fn option_base(words: &[u32], b: &mut [u32], d: &mut [u32], s: Counts, at: u
     let line = words[at] % 16777216;
     let n = words[at + 1] % 16777216;
     let twice = lookup::has(b, s.rows, 143, 0, 0);
-    let late = any_array(b, s.rows);
+    let late = late_base(b, s.rows, twice);
     let t = say_base(d, s, twice, late, line);
     steps::enter(b, t, 143, 0, 0, n, 0, 0, 0)
 }

@@ -186,7 +186,38 @@ fn put_read(
     )
 }
 
-// In 29,184 bytes of buffers; 256 rows and 256 diagnostics. Many names or words make many rows likely, so that they get all the room at once.
+// Many strings or erased names, in 61,440 bytes of buffers; 1,024 rows, about as many as 2,048 words can make, and 512 diagnostics.
+fn put_names_middle(out: &mut [u8], image: &[u8], s: Shape) -> usize
+    requires { ⌜ Shaped (now image) (s .strings) (s .words) (s .erased) (s .bytes) ⌝ }
+    ensures { λ r. ⌜ Wrote (listingOf (now (image .entry))) (now (out .entry)) (now (out .exit)) 0 r ⌝ }
+{
+    if 2048 < s.words {
+        return put_full(out, image, s);
+    }
+    let mut ends = [0u32; 1024];
+    let mut words = [0u32; 2048];
+    let mut erased = [0u32; 1024];
+    let mut notes = [0u32; 3072];
+    let mut rows = [0u32; 6144];
+    let mut resolved = [0u32; 2048];
+    let t = put_read(
+        out,
+        image,
+        s,
+        &mut ends,
+        &mut words,
+        &mut erased,
+        &mut notes,
+        &mut rows,
+        &mut resolved,
+    );
+    if t.short {
+        return put_full(out, image, s);
+    }
+    t.at
+}
+
+// In 29,184 bytes of buffers; 256 rows and 256 diagnostics. Many words make many rows likely, so that they get all the room at once.
 fn put_middle(out: &mut [u8], image: &[u8], s: Shape) -> usize
     requires { ⌜ Shaped (now image) (s .strings) (s .words) (s .erased) (s .bytes) ⌝ }
     ensures { λ r. ⌜ Wrote (listingOf (now (image .entry))) (now (out .entry)) (now (out .exit)) 0 r ⌝ }
@@ -195,10 +226,10 @@ fn put_middle(out: &mut [u8], image: &[u8], s: Shape) -> usize
         return put_full(out, image, s);
     }
     if 64 < s.strings {
-        return put_full(out, image, s);
+        return put_names_middle(out, image, s);
     }
     if 64 < s.erased {
-        return put_full(out, image, s);
+        return put_names_middle(out, image, s);
     }
     let mut ends = [0u32; 64];
     let mut words = [0u32; 2048];
@@ -223,6 +254,37 @@ fn put_middle(out: &mut [u8], image: &[u8], s: Shape) -> usize
     t.at
 }
 
+// Many strings or erased names, in 24,576 bytes of buffers; 256 rows, about as many as 512 words can make, and 256 diagnostics.
+fn put_names_small(out: &mut [u8], image: &[u8], s: Shape) -> usize
+    requires { ⌜ Shaped (now image) (s .strings) (s .words) (s .erased) (s .bytes) ⌝ }
+    ensures { λ r. ⌜ Wrote (listingOf (now (image .entry))) (now (out .entry)) (now (out .exit)) 0 r ⌝ }
+{
+    if 512 < s.words {
+        return put_names_middle(out, image, s);
+    }
+    let mut ends = [0u32; 1024];
+    let mut words = [0u32; 512];
+    let mut erased = [0u32; 1024];
+    let mut notes = [0u32; 1536];
+    let mut rows = [0u32; 1536];
+    let mut resolved = [0u32; 512];
+    let t = put_read(
+        out,
+        image,
+        s,
+        &mut ends,
+        &mut words,
+        &mut erased,
+        &mut notes,
+        &mut rows,
+        &mut resolved,
+    );
+    if t.short {
+        return put_names_middle(out, image, s);
+    }
+    t.at
+}
+
 // In 7,680 bytes of buffers; 64 rows and 64 diagnostics.
 fn put_small(out: &mut [u8], image: &[u8], s: Shape) -> usize
     requires { ⌜ Shaped (now image) (s .strings) (s .words) (s .erased) (s .bytes) ⌝ }
@@ -232,10 +294,10 @@ fn put_small(out: &mut [u8], image: &[u8], s: Shape) -> usize
         return put_middle(out, image, s);
     }
     if 64 < s.strings {
-        return put_middle(out, image, s);
+        return put_names_small(out, image, s);
     }
     if 64 < s.erased {
-        return put_middle(out, image, s);
+        return put_names_small(out, image, s);
     }
     let mut ends = [0u32; 64];
     let mut words = [0u32; 512];
@@ -260,6 +322,43 @@ fn put_small(out: &mut [u8], image: &[u8], s: Shape) -> usize
     t.at
 }
 
+// Many strings or erased names for so few words, in 6,144 bytes of buffers; 64 rows, about as many as 128 words can make, and 64 diagnostics.
+fn put_names_tiny(out: &mut [u8], image: &[u8], s: Shape) -> usize
+    requires { ⌜ Shaped (now image) (s .strings) (s .words) (s .erased) (s .bytes) ⌝ }
+    ensures { λ r. ⌜ Wrote (listingOf (now (image .entry))) (now (out .entry)) (now (out .exit)) 0 r ⌝ }
+{
+    if 128 < s.words {
+        return put_names_small(out, image, s);
+    }
+    if 256 < s.strings {
+        return put_names_small(out, image, s);
+    }
+    if 256 < s.erased {
+        return put_names_small(out, image, s);
+    }
+    let mut ends = [0u32; 256];
+    let mut words = [0u32; 128];
+    let mut erased = [0u32; 256];
+    let mut notes = [0u32; 384];
+    let mut rows = [0u32; 384];
+    let mut resolved = [0u32; 128];
+    let t = put_read(
+        out,
+        image,
+        s,
+        &mut ends,
+        &mut words,
+        &mut erased,
+        &mut notes,
+        &mut rows,
+        &mut resolved,
+    );
+    if t.short {
+        return put_names_small(out, image, s);
+    }
+    t.at
+}
+
 // In 2,368 bytes of buffers; 32 rows and 16 diagnostics.
 fn put_tiny(out: &mut [u8], image: &[u8], s: Shape) -> usize
     requires { ⌜ Shaped (now image) (s .strings) (s .words) (s .erased) (s .bytes) ⌝ }
@@ -269,10 +368,10 @@ fn put_tiny(out: &mut [u8], image: &[u8], s: Shape) -> usize
         return put_small(out, image, s);
     }
     if 32 < s.strings {
-        return put_small(out, image, s);
+        return put_names_tiny(out, image, s);
     }
     if 16 < s.erased {
-        return put_small(out, image, s);
+        return put_names_tiny(out, image, s);
     }
     let mut ends = [0u32; 32];
     let mut words = [0u32; 128];

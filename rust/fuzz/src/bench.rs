@@ -255,7 +255,7 @@ pub fn sets() -> Vec<Set> {
         sets.push(set(&name("rising"), one(program(&rising))));
         sets.push(set(&name("falling"), one(program(&falling))));
     }
-    for (name, raw) in found() {
+    for (name, raw) in found().into_iter().chain(refused()) {
         sets.push(set(name, vec![raw.to_bytes()]));
     }
     sets
@@ -325,19 +325,12 @@ fn others() -> Vec<(&'static str, usize, Program)> {
     ]
 }
 
-/// What a search for slow shapes found, one for each reason; the last three are refused.
+/// What a search for slow shapes found, one for each reason.
 fn found() -> Vec<(&'static str, Raw)> {
     let plain = |program: Vec<Stmt>| image::build(&program, &[], &[]);
     let one = |kind: StmtKind| plain(vec![at(1, kind)]);
     let names = |n: usize| (0..n).map(name_of).collect::<Vec<String>>();
-    let named = |n: usize| image::build(&[], &[], &names(n));
     let unknowns = [at(1, type_of(0, vec![unknown(1); 2_000]))];
-    let mut string = named(65);
-    string.bytes[0] = 127;
-    let mut word = named(65);
-    word.tree[0] = 0;
-    let mut erased = image::build(&[], &names(65), &[]);
-    erased.erased[0] = 65;
     vec![
         (
             "TYPE, 2,000 fields of one name and of no TYPE, after 40 line numbers",
@@ -398,9 +391,75 @@ fn found() -> Vec<(&'static str, Raw)> {
             image::build(&[], &[], &(0..66).map(long_name).collect::<Vec<_>>()),
         ),
         ("ON GOTO of 2,300 line numbers", one(on_goto(2_300))),
-        ("refused: 65 strings, the first wrong", string),
-        ("refused: 65 strings, the first word wrong", word),
-        ("refused: 65 erased names, the first wrong", erased),
+    ]
+}
+
+/// Refused programs, which the original's side decodes up to what is wrong. Each is just past a size by which the proved side chooses its buffers, or as large
+/// as may be.
+fn refused() -> Vec<(&'static str, Raw)> {
+    let sized = |words: usize, strings: usize, erased: u32| {
+        let program: Vec<Stmt> = (1..words).map(|n| at(n, StmtKind::Cls)).collect();
+        let names: Vec<String> = (0..strings).map(name_of).collect();
+        let mut raw = image::build(&program, &[], &names);
+        raw.erased = (0..erased).collect();
+        raw
+    };
+    let string = |words, strings, erased| {
+        let mut raw = sized(words, strings, erased);
+        raw.bytes[0] = 127;
+        raw
+    };
+    let word = |words, strings, erased| {
+        let mut raw = sized(words, strings, erased);
+        raw.tree[0] = 0;
+        raw
+    };
+    let name = |words, strings, erased| {
+        let mut raw = sized(words, strings, erased);
+        raw.erased[0] = strings as u32;
+        raw
+    };
+    vec![
+        ("refused: no words", Raw::default()),
+        ("refused: a word, wrong", word(1, 0, 0)),
+        (
+            "refused: 17 erased names, a string, wrong",
+            string(1, 1, 17),
+        ),
+        ("refused: 33 strings, the first wrong", string(1, 33, 0)),
+        ("refused: 65 strings, the first wrong", string(1, 65, 0)),
+        ("refused: 65 strings, the first word wrong", word(1, 65, 0)),
+        ("refused: 65 erased names, the first wrong", name(1, 65, 65)),
+        (
+            "refused: 65 erased names of one string, the first wrong",
+            name(1, 1, 65),
+        ),
+        ("refused: 257 strings, the first wrong", string(1, 257, 0)),
+        (
+            "refused: 1,024 strings, the first wrong",
+            string(1, 1_024, 0),
+        ),
+        (
+            "refused: 1,024 erased names, the first wrong",
+            name(1, 1_024, 1_024),
+        ),
+        ("refused: 129 words, the first wrong", word(129, 0, 0)),
+        (
+            "refused: 129 words, 65 strings, the first wrong",
+            string(129, 65, 0),
+        ),
+        ("refused: 513 words, the first wrong", word(513, 0, 0)),
+        (
+            "refused: 513 words, 65 strings, the first wrong",
+            string(513, 65, 0),
+        ),
+        ("refused: 2,049 words, the first wrong", word(2_049, 0, 0)),
+        ("refused: 8,192 words, the first wrong", word(8_192, 0, 0)),
+        ("refused: 8,192 words, a string, wrong", string(8_192, 1, 0)),
+        (
+            "refused: 8,192 words, 1,024 erased names, the first string wrong",
+            string(8_192, 1_024, 1_024),
+        ),
     ]
 }
 

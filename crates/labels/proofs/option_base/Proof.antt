@@ -23,8 +23,8 @@ shared-slice-read-n c = base-inside (c .before .before .before .before .before .
 has-requires : tie.Need-has-requires
 has-requires c κs = search needs
 
-any-array-requires : tie.Need-any-array-requires
-any-array-requires c κs = search needs
+late-base-requires : tie.Need-late-base-requires
+late-base-requires c κs = search needs
 
 say-base-requires : tie.Need-say-base-requires
 say-base-requires c κs = search needs
@@ -39,7 +39,7 @@ same-length-2 : tie.Need-same-length-2
 same-length-2 c = search needs
 
 returns : tie.Need-returns
-returns c = base-collects (c .before .before .before .before .before .before .before .before .before .before .before .before .before .before .before .before .before .pre .1) (c .before .before .before .before .before .before .before .before .before .before .has .ensures) (c .before .before .before .before .before .before .before .before .any-array .ensures) (c .before .before .before .before .before .before .say-base .ensures) (c .before .before .enter .ensures)
+returns c = base-collects (c .before .before .before .before .before .before .before .before .before .before .before .before .before .before .before .before .before .pre .1) (c .before .before .before .before .before .before .before .before .before .before .has .ensures) (c .before .before .before .before .before .before .before .before .late-base .ensures) (c .before .before .before .before .before .before .say-base .ensures) (c .before .before .enter .ensures)
 
 pub option-base-spec : {M : Type 1} → statement M
 option-base-spec =
@@ -51,7 +51,7 @@ option-base-spec =
     mul-n
     shared-slice-read-n
     has-requires
-    any-array-requires
+    late-base-requires
     say-base-requires
     enter-requires
     same-length

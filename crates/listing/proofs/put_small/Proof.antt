@@ -15,8 +15,8 @@ same-length c = search needs
 returns : tie.Need-returns
 returns c = search needs
 
-put-middle-requires-2 : tie.Need-put-middle-requires-2
-put-middle-requires-2 c κs = search needs
+put-names-small-requires : tie.Need-put-names-small-requires
+put-names-small-requires c κs = search needs
 
 same-length-2 : tie.Need-same-length-2
 same-length-2 c = search needs
@@ -24,8 +24,8 @@ same-length-2 c = search needs
 returns-2 : tie.Need-returns-2
 returns-2 c = search needs
 
-put-middle-requires-3 : tie.Need-put-middle-requires-3
-put-middle-requires-3 c κs = search needs
+put-names-small-requires-2 : tie.Need-put-names-small-requires-2
+put-names-small-requires-2 c κs = search needs
 
 same-length-3 : tie.Need-same-length-3
 same-length-3 c = search needs
@@ -54,14 +54,14 @@ slice-aggregate-put-read-6 c = search needs
 put-read-requires : tie.Need-put-read-requires
 put-read-requires c κs = (c .before .before .before .before .before .before .before .before .before .before .before .before .before .before .before .pre, c .before .before .before .before .before .before .before .before .before .if2 .left, c .before .before .before .before .before .before .before .before .before .before .before .if1 .left, c .before .before .before .before .before .before .before .if3 .left, (let h : 384 ≤ 12288 = omega arith in h), (let h : 384 ≤ 12288 = omega arith in h), c .before .before .before .before .before .before .before .before .before .before .before .if1 .left, made 384 384)
 
-put-middle-requires-4 : tie.Need-put-middle-requires-4
-put-middle-requires-4 c κs = search needs
+put-middle-requires-2 : tie.Need-put-middle-requires-2
+put-middle-requires-2 c κs = search needs
 
 same-length-4 : tie.Need-same-length-4
 same-length-4 c = search needs
 
 returns-4 : tie.Need-returns-4
-returns-4 c = again (c .before .before .before .before .if4 .taken) (c .before .before .before .before .before .before .before .before .before .before .before .before .before .put-read .ensures) (c .before .before .put-middle4 .ensures)
+returns-4 c = again (c .before .before .before .before .if4 .taken) (c .before .before .before .before .before .before .before .before .before .before .before .before .before .put-read .ensures) (c .before .before .put-middle2 .ensures)
 
 same-length-5 : tie.Need-same-length-5
 same-length-5 c = search needs
@@ -76,10 +76,10 @@ put-small-spec =
     put-middle-requires
     same-length
     returns
-    put-middle-requires-2
+    put-names-small-requires
     same-length-2
     returns-2
-    put-middle-requires-3
+    put-names-small-requires-2
     same-length-3
     returns-3
     slice-aggregate-put-read
@@ -89,7 +89,7 @@ put-small-spec =
     slice-aggregate-put-read-5
     slice-aggregate-put-read-6
     put-read-requires
-    put-middle-requires-4
+    put-middle-requires-2
     same-length-4
     returns-4
     same-length-5

@@ -1,0 +1,96 @@
+-- put_names_tiny: the sizes that are asked have room in these buffers.
+use Prim.Native.Nat.{_≤_}
+use native.Mathlib.Omega.{arith}
+use Rattle.listing.proofs.Laws.{made, again}
+use borrow.Author.Needs.{needs}
+use Rattle.listing.proofs.put_names_tiny.Statement.{statement}
+use Rattle.listing.proofs.put_names_tiny.Tie as tie
+
+put-names-small-requires : tie.Need-put-names-small-requires
+put-names-small-requires c κs = search needs
+
+same-length : tie.Need-same-length
+same-length c = search needs
+
+returns : tie.Need-returns
+returns c = search needs
+
+put-names-small-requires-2 : tie.Need-put-names-small-requires-2
+put-names-small-requires-2 c κs = search needs
+
+same-length-2 : tie.Need-same-length-2
+same-length-2 c = search needs
+
+returns-2 : tie.Need-returns-2
+returns-2 c = search needs
+
+put-names-small-requires-3 : tie.Need-put-names-small-requires-3
+put-names-small-requires-3 c κs = search needs
+
+same-length-3 : tie.Need-same-length-3
+same-length-3 c = search needs
+
+returns-3 : tie.Need-returns-3
+returns-3 c = search needs
+
+slice-aggregate-put-read : tie.Need-slice-aggregate-put-read
+slice-aggregate-put-read c = search needs
+
+slice-aggregate-put-read-2 : tie.Need-slice-aggregate-put-read-2
+slice-aggregate-put-read-2 c = search needs
+
+slice-aggregate-put-read-3 : tie.Need-slice-aggregate-put-read-3
+slice-aggregate-put-read-3 c = search needs
+
+slice-aggregate-put-read-4 : tie.Need-slice-aggregate-put-read-4
+slice-aggregate-put-read-4 c = search needs
+
+slice-aggregate-put-read-5 : tie.Need-slice-aggregate-put-read-5
+slice-aggregate-put-read-5 c = search needs
+
+slice-aggregate-put-read-6 : tie.Need-slice-aggregate-put-read-6
+slice-aggregate-put-read-6 c = search needs
+
+put-read-requires : tie.Need-put-read-requires
+put-read-requires c κs = (c .before .before .before .before .before .before .before .before .before .before .before .before .before .before .before .pre, c .before .before .before .before .before .before .before .before .before .if2 .left, c .before .before .before .before .before .before .before .before .before .before .before .if1 .left, c .before .before .before .before .before .before .before .if3 .left, (let h : 384 ≤ 12288 = omega arith in h), (let h : 384 ≤ 12288 = omega arith in h), c .before .before .before .before .before .before .before .before .before .before .before .if1 .left, made 384 384)
+
+put-names-small-requires-4 : tie.Need-put-names-small-requires-4
+put-names-small-requires-4 c κs = search needs
+
+same-length-4 : tie.Need-same-length-4
+same-length-4 c = search needs
+
+returns-4 : tie.Need-returns-4
+returns-4 c = again (c .before .before .before .before .if4 .taken) (c .before .before .before .before .before .before .before .before .before .before .before .before .before .put-read .ensures) (c .before .before .put-names-small4 .ensures)
+
+same-length-5 : tie.Need-same-length-5
+same-length-5 c = search needs
+
+returns-5 : tie.Need-returns-5
+returns-5 c = c .before .before .before .before .before .before .before .before .before .put-read .ensures .wrote (c .if4 .left)
+
+pub put-names-tiny-spec : {M : Type 1} → statement M
+put-names-tiny-spec =
+    tie.close
+    (tie.spec
+    put-names-small-requires
+    same-length
+    returns
+    put-names-small-requires-2
+    same-length-2
+    returns-2
+    put-names-small-requires-3
+    same-length-3
+    returns-3
+    slice-aggregate-put-read
+    slice-aggregate-put-read-2
+    slice-aggregate-put-read-3
+    slice-aggregate-put-read-4
+    slice-aggregate-put-read-5
+    slice-aggregate-put-read-6
+    put-read-requires
+    put-names-small-requires-4
+    same-length-4
+    returns-4
+    same-length-5
+    returns-5)

@@ -3,3 +3,5 @@ pub mod Marks
 pub mod Expressions
 pub mod Lists
 pub mod ByKind
+pub mod Walk
+pub mod Bodies

@@ -6,3 +6,5 @@ pub mod Lists
 pub mod Targets
 pub mod ByKind
 pub mod Statements
+pub mod Walk
+pub mod Bodies

@@ -186,7 +186,7 @@ fn put_read(
     )
 }
 
-// Many strings or erased names, in 61,440 bytes of buffers; 1,024 rows, about as many as 2,048 words can make, and 512 diagnostics.
+// Many words, strings or erased names, in 73,728 bytes of buffers; 1,024 rows and 1,024 diagnostics, about as many as 2,048 words can make.
 fn put_names_middle(out: &mut [u8], image: &[u8], s: Shape) -> usize
     requires { ⌜ Shaped (now image) (s .strings) (s .words) (s .erased) (s .bytes) ⌝ }
     ensures { λ r. ⌜ Wrote (listingOf (now (image .entry))) (now (out .entry)) (now (out .exit)) 0 r ⌝ }
@@ -197,7 +197,7 @@ fn put_names_middle(out: &mut [u8], image: &[u8], s: Shape) -> usize
     let mut ends = [0u32; 1024];
     let mut words = [0u32; 2048];
     let mut erased = [0u32; 1024];
-    let mut notes = [0u32; 3072];
+    let mut notes = [0u32; 6144];
     let mut rows = [0u32; 6144];
     let mut resolved = [0u32; 2048];
     let t = put_read(
@@ -217,13 +217,13 @@ fn put_names_middle(out: &mut [u8], image: &[u8], s: Shape) -> usize
     t.at
 }
 
-// In 29,184 bytes of buffers; 256 rows and 256 diagnostics. Many words make many rows likely, so that they get all the room at once.
+// In 33,280 bytes of buffers; 512 rows and 512 diagnostics, about as many as 1,024 words can make, so that few programs are run twice.
 fn put_middle(out: &mut [u8], image: &[u8], s: Shape) -> usize
     requires { ⌜ Shaped (now image) (s .strings) (s .words) (s .erased) (s .bytes) ⌝ }
     ensures { λ r. ⌜ Wrote (listingOf (now (image .entry))) (now (out .entry)) (now (out .exit)) 0 r ⌝ }
 {
-    if 2048 < s.words {
-        return put_full(out, image, s);
+    if 1024 < s.words {
+        return put_names_middle(out, image, s);
     }
     if 64 < s.strings {
         return put_names_middle(out, image, s);
@@ -232,11 +232,11 @@ fn put_middle(out: &mut [u8], image: &[u8], s: Shape) -> usize
         return put_names_middle(out, image, s);
     }
     let mut ends = [0u32; 64];
-    let mut words = [0u32; 2048];
+    let mut words = [0u32; 1024];
     let mut erased = [0u32; 64];
-    let mut notes = [0u32; 1536];
-    let mut rows = [0u32; 1536];
-    let mut resolved = [0u32; 2048];
+    let mut notes = [0u32; 3072];
+    let mut rows = [0u32; 3072];
+    let mut resolved = [0u32; 1024];
     let t = put_read(
         out,
         image,

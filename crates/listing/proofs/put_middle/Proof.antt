@@ -6,8 +6,8 @@ use borrow.Author.Needs.{needs}
 use Rattle.listing.proofs.put_middle.Statement.{statement}
 use Rattle.listing.proofs.put_middle.Tie as tie
 
-put-full-requires : tie.Need-put-full-requires
-put-full-requires c κs = search needs
+put-names-middle-requires : tie.Need-put-names-middle-requires
+put-names-middle-requires c κs = search needs
 
 same-length : tie.Need-same-length
 same-length c = search needs
@@ -15,8 +15,8 @@ same-length c = search needs
 returns : tie.Need-returns
 returns c = search needs
 
-put-names-middle-requires : tie.Need-put-names-middle-requires
-put-names-middle-requires c κs = search needs
+put-names-middle-requires-2 : tie.Need-put-names-middle-requires-2
+put-names-middle-requires-2 c κs = search needs
 
 same-length-2 : tie.Need-same-length-2
 same-length-2 c = search needs
@@ -24,8 +24,8 @@ same-length-2 c = search needs
 returns-2 : tie.Need-returns-2
 returns-2 c = search needs
 
-put-names-middle-requires-2 : tie.Need-put-names-middle-requires-2
-put-names-middle-requires-2 c κs = search needs
+put-names-middle-requires-3 : tie.Need-put-names-middle-requires-3
+put-names-middle-requires-3 c κs = search needs
 
 same-length-3 : tie.Need-same-length-3
 same-length-3 c = search needs
@@ -52,16 +52,16 @@ slice-aggregate-put-read-6 : tie.Need-slice-aggregate-put-read-6
 slice-aggregate-put-read-6 c = search needs
 
 put-read-requires : tie.Need-put-read-requires
-put-read-requires c κs = (c .before .before .before .before .before .before .before .before .before .before .before .before .before .before .before .pre, c .before .before .before .before .before .before .before .before .before .if2 .left, c .before .before .before .before .before .before .before .before .before .before .before .if1 .left, c .before .before .before .before .before .before .before .if3 .left, (let h : 1536 ≤ 12288 = omega arith in h), (let h : 1536 ≤ 12288 = omega arith in h), c .before .before .before .before .before .before .before .before .before .before .before .if1 .left, made 1536 1536)
+put-read-requires c κs = (c .before .before .before .before .before .before .before .before .before .before .before .before .before .before .before .pre, c .before .before .before .before .before .before .before .before .before .if2 .left, c .before .before .before .before .before .before .before .before .before .before .before .if1 .left, c .before .before .before .before .before .before .before .if3 .left, (let h : 3072 ≤ 12288 = omega arith in h), (let h : 3072 ≤ 12288 = omega arith in h), c .before .before .before .before .before .before .before .before .before .before .before .if1 .left, made 3072 3072)
 
-put-full-requires-2 : tie.Need-put-full-requires-2
-put-full-requires-2 c κs = search needs
+put-full-requires : tie.Need-put-full-requires
+put-full-requires c κs = search needs
 
 same-length-4 : tie.Need-same-length-4
 same-length-4 c = search needs
 
 returns-4 : tie.Need-returns-4
-returns-4 c = again (c .before .before .before .before .if4 .taken) (c .before .before .before .before .before .before .before .before .before .before .before .before .before .put-read .ensures) (c .before .before .put-full2 .ensures)
+returns-4 c = again (c .before .before .before .before .if4 .taken) (c .before .before .before .before .before .before .before .before .before .before .before .before .before .put-read .ensures) (c .before .before .put-full .ensures)
 
 same-length-5 : tie.Need-same-length-5
 same-length-5 c = search needs
@@ -73,13 +73,13 @@ pub put-middle-spec : {M : Type 1} → statement M
 put-middle-spec =
     tie.close
     (tie.spec
-    put-full-requires
+    put-names-middle-requires
     same-length
     returns
-    put-names-middle-requires
+    put-names-middle-requires-2
     same-length-2
     returns-2
-    put-names-middle-requires-2
+    put-names-middle-requires-3
     same-length-3
     returns-3
     slice-aggregate-put-read
@@ -89,7 +89,7 @@ put-middle-spec =
     slice-aggregate-put-read-5
     slice-aggregate-put-read-6
     put-read-requires
-    put-full-requires-2
+    put-full-requires
     same-length-4
     returns-4
     same-length-5

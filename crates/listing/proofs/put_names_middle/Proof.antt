@@ -37,7 +37,7 @@ put-read-requires : tie.Need-put-read-requires
 put-read-requires c κs =
     let p = c .before .before .before .before .before .before .before .before .before .before .before .pre in
     let w = c .before .before .before .before .before .before .before .if1 .left in
-    (p, p .strings-fit, w, p .erased-fit, (let h : 6144 ≤ 12288 = omega arith in h), (let h : 3072 ≤ 12288 = omega arith in h), w, made 6144 3072)
+    (p, p .strings-fit, w, p .erased-fit, (let h : 6144 ≤ 12288 = omega arith in h), (let h : 6144 ≤ 12288 = omega arith in h), w, made 6144 6144)
 
 put-full-requires-2 : tie.Need-put-full-requires-2
 put-full-requires-2 c κs = search needs

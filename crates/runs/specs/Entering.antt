@@ -1,5 +1,5 @@
--- A row put into a buffer that has two runs: in the place of one with its key, or into the late run, which is joined to the first when it has a
--- block's rows. Assumes nothing.
+-- A row put into a buffer that has two runs: in the place of one with its key, or into the late run, which is joined to the first when it has 32
+-- rows. Assumes nothing.
 use mathlib.Core.Path.{_≡_, refl, sym, ap, _∙_, subst}
 use mathlib.Core.Bool.{true, false}
 use mathlib.Core.Logic.{_⊎_, inl, inr}
@@ -23,10 +23,10 @@ use Rattle.table.specs.declared.Found.the-variants.{At, Nothing}
 use Rattle.table.specs.declared.Put.{Put}
 use Rattle.table.specs.declared.Put.the-variants.{Full, Done}
 use Rattle.merge.specs.Laws.{count-more, insert-first, apart-insert}
-use Rattle.runs.specs.Runs.{rowOf, rowIn, firstRun, Runs, Keeps, PutIn, Old, TakenOut}
+use Rattle.runs.specs.Runs.{rowOf, rowIn, Runs, Parted, Near, Keeps, PutIn, Old, TakenOut}
 use Rattle.runs.specs.Union.{apart-none, none-apart, insert-late, insert-at, insert-at-length, insert-most, find-at, apart-other, remove-none, remove-both, apart-remove}
 use Rattle.runs.specs.Parts.{restOf, putRest, wide-append, runs-count, first-holds, late-part, row-first, row-late, both-first, runs-parts}
-use Rattle.runs.specs.Laws.{holds-keeps, keeps-fits, keeps-count, keeps-runs}
+use Rattle.runs.specs.Laws.{holds-keeps, keeps-fits, keeps-count}
 
 -- ---- the words from a place on, lent and given back
 
@@ -136,126 +136,138 @@ unfolding key
 key-words row k e = e
 
 -- where no row has the key, none of the first run has
-pub old-is : {rows : List Row} {n : ℕ} {buf : List ℕ} (K : Keeps rows n buf) (k : ℕ) (r : Found) → rowIn buf r ≡ find k rows → Old k rows (K .first) buf r
-old-is K k (At i) f = f
-old-is {rows} K k Nothing f = go (find k (K .first)) refl
+pub old-is : {rows : List Row} {m n : ℕ} {buf : List ℕ} (P : Parted rows m n buf) (k : ℕ) (r : Found) → rowIn buf r ≡ find k rows → Old k rows (P .first) buf r
+old-is P k (At i) f = f
+old-is {rows} P k Nothing f = go (find k (P .first)) refl
   where
-    go : (o : Option Row) → find k (K .first) ≡ o → find k (K .first) ≡ none
+    go : (o : Option Row) → find k (P .first) ≡ o → find k (P .first) ≡ none
     go none p = p
     go (some x) p =
-        let g : some x ≡ none = both-first (K .runs) k x (sym p) ∙ ap (find k) (sym (K .all)) ∙ sym f in
+        let g : some x ≡ none = both-first (P .runs) k x (sym p) ∙ ap (find k) (sym (P .all)) ∙ sym f in
         let z : _≡_ {A = ℕ} 0 1 = cc in
         absurd (omega arith)
 
 module _ {rows : List Row} {n : ℕ} {buf : List ℕ} (K : Keeps rows n buf) (row : Row) (w : length row ≡ width) where
   -- the row with its key is replaced, in either run
   pub keeps-set : (i : ℕ) → i < n → some (rowOf buf i) ≡ find (key row) rows → Keeps (insert row rows) n (take (i * width) buf ++ (row ++ drop (i * width + width) buf))
-  keeps-set i h f = go (order i (firstRun n))
+  keeps-set i h f = go (order i (K .at))
     where
       there : key (rowOf buf i) ≡ key row
       there = find-key (key row) rows (rowOf buf i) (sym f)
 
-      go : (i < firstRun n) ⊎ (firstRun n ≤ i) → Keeps (insert row rows) n (take (i * width) buf ++ (row ++ drop (i * width + width) buf))
+      go : (i < K .at) ⊎ (K .at ≤ i) → Keeps (insert row rows) n (take (i * width) buf ++ (row ++ drop (i * width + width) buf))
       go (inl q) =
-          let e : key (getD (K .first) i []) ≡ key row = ap key (sym (row-first (K .runs) i q)) ∙ there in
-          let l : i < length (K .first) = omega (arith, K .runs .split) in
+          let e : key (getD (K .parted .first) i []) ≡ key row = ap key (sym (row-first (K .parted .runs) i q)) ∙ there in
+          let l : i < length (K .parted .first) = omega (arith, K .parted .runs .split) in
           record {
-            first = insert row (K .first);
-            late = K .late;
-            runs = set-first (K .runs) row w i q e;
-            all = ap (insert row) (K .all)
-                ∙ insert-first (K .first) (K .late) row (apart-none (key row) (K .first) (K .late) (getD (K .first) i []) (K .runs .apart) (find-at 0 (key row) (K .first) (K .runs .first-table) i l e));
+            at = K .at;
+            near = K .near;
+            parted = record {
+              first = insert row (K .parted .first);
+              late = K .parted .late;
+              runs = set-first (K .parted .runs) row w i q e;
+              all = ap (insert row) (K .parted .all)
+                  ∙ insert-first (K .parted .first) (K .parted .late) row (apart-none (key row) (K .parted .first) (K .parted .late) (getD (K .parted .first) i []) (K .parted .runs .apart) (find-at 0 (key row) (K .parted .first) (K .parted .runs .first-table) i l e));
+            };
           }
       go (inr q) =
-          let j : ℕ = i - firstRun n in
-          let s : firstRun n + (i - firstRun n) ≡ i = omega arith in
-          let l : i - firstRun n < n - firstRun n = omega arith in
-          let e : key (getD (K .late) j []) ≡ key row = ap key (sym (row-late (K .runs) j l)) ∙ ap (λ (k : ℕ). key (rowOf buf k)) s ∙ there in
+          let j : ℕ = i - K .at in
+          let s : K .at + (i - K .at) ≡ i = omega arith in
+          let l : i - K .at < n - K .at = omega arith in
+          let e : key (getD (K .parted .late) j []) ≡ key row = ap key (sym (row-late (K .parted .runs) j l)) ∙ ap (λ (k : ℕ). key (rowOf buf k)) s ∙ there in
           record {
-            first = K .first;
-            late = insert row (K .late);
-            runs = subst (λ (k : ℕ). Runs (K .first) (insert row (K .late)) (firstRun n) n (take (k * width) buf ++ (row ++ drop (k * width + width) buf))) s (set-late (K .runs) row w j l e);
-            all = ap (insert row) (K .all) ∙ insert-late 0 (K .first) (K .late) row (K .runs .late-table);
+            at = K .at;
+            near = K .near;
+            parted = record {
+              first = K .parted .first;
+              late = insert row (K .parted .late);
+              runs = subst (λ (k : ℕ). Runs (K .parted .first) (insert row (K .parted .late)) (K .at) n (take (k * width) buf ++ (row ++ drop (k * width + width) buf))) s (set-late (K .parted .runs) row w j l e);
+              all = ap (insert row) (K .parted .all) ∙ insert-late 0 (K .parted .first) (K .parted .late) row (K .parted .runs .late-table);
+            };
           }
 
   -- as the code finds it, and writes over it
-  pub put-set : (k : ℕ) → k ≡ key row → (r : Found) (i : ℕ) → r ≡ At i → Within n r → Old k rows (K .first) buf r → (after : List ℕ)
+  pub put-set : (k : ℕ) → k ≡ key row → (r : Found) (i : ℕ) → r ≡ At i → Within n r → Old k rows (K .parted .first) buf r → (after : List ℕ)
       → after ≡ take (i * width) buf ++ (row ++ drop (i * width + length row) buf) → length after ≡ length buf → PutIn (insert row rows) (length buf) (Done n) after
   put-set k e r i q h f after a l =
-      let g : some (rowOf buf i) ≡ find (key row) rows = subst (Old k rows (K .first) buf) q f ∙ ap (λ (j : ℕ). find j rows) e in
+      let g : some (rowOf buf i) ≡ find (key row) rows = subst (Old k rows (K .parted .first) buf) q f ∙ ap (λ (j : ℕ). find j rows) e in
       let b : take (i * width) buf ++ (row ++ drop (i * width + width) buf) ≡ after = ap (λ (j : ℕ). take (i * width) buf ++ (row ++ drop (i * width + j) buf)) (sym w) ∙ sym a in
       put-done (length buf) l (subst (Keeps (insert row rows) n) b (keeps-set i (subst (Within n) q h) g))
 
-  -- ---- into the late run
+-- ---- into the late run
 
-  module _ (m : ℕ) (e : m ≡ firstRun n) (f : find (key row) (K .first) ≡ none) where
-    new-is : insert row rows ≡ insertAll (insert row (K .late)) (K .first)
-    new-is = ap (insert row) (K .all) ∙ insert-late 0 (K .first) (K .late) row (K .runs .late-table)
+module _ {rows : List Row} {n : ℕ} {buf : List ℕ} (m : ℕ) (P : Parted rows m n buf) (b : Near m n) (row : Row) (w : length row ≡ width) where
+  module _ (f : find (key row) (P .first) ≡ none) where
+    new-is : insert row rows ≡ insertAll (insert row (P .late)) (P .first)
+    new-is = ap (insert row) (P .all) ∙ insert-late 0 (P .first) (P .late) row (P .runs .late-table)
 
-    new-count : length (insert row rows) ≡ m + length (insert row (K .late))
+    new-count : length (insert row rows) ≡ m + length (insert row (P .late))
     new-count =
         ap length new-is
-        ∙ count-more (K .first) (insert row (K .late)) (insert-table 0 row (K .late) (K .runs .late-table) w zero-le) (apart-insert (K .first) (K .late) row f (K .runs .apart))
-        ∙ omega (arith, K .runs .split)
+        ∙ count-more (P .first) (insert row (P .late)) (insert-table 0 row (P .late) (P .runs .late-table) w zero-le) (apart-insert (P .first) (P .late) row f (P .runs .apart))
+        ∙ omega (arith, P .runs .split)
 
     -- the late run was joined to the first
-    pub late-joined : (k : ℕ) (after : List ℕ) → length after ≡ length buf → Holds (insertAll (insert row (K .late)) (K .first)) k after → PutIn (insert row rows) (length buf) (Done k) after
+    pub late-joined : (k : ℕ) (after : List ℕ) → length after ≡ length buf → Holds (insertAll (insert row (P .late)) (P .first)) k after → PutIn (insert row rows) (length buf) (Done k) after
     late-joined k after l H = put-done (length buf) l (holds-keeps (subst (λ (x : List Row). Holds x k after) (sym new-is) H))
 
     -- what was done to the late run, as a table of its own
     module _ (r : Put) (tail : List ℕ) (I : (rs : List Row) → Holds rs (n - m) (restOf buf (m * width)) → Inserted row rs (length (restOf buf (m * width))) r tail) where
-      done : Inserted row (K .late) (length (restOf buf (m * width))) r tail
-      done = I (K .late) (late-part (keeps-runs K m e))
+      done : Inserted row (P .late) (length (restOf buf (m * width))) r tail
+      done = I (P .late) (late-part (P .runs))
 
       -- the row is in
-      pub late-runs : (c : ℕ) → r ≡ Done c → Runs (K .first) (insert row (K .late)) m (m + c) (putRest buf (m * width) tail)
+      pub late-runs : (c : ℕ) → r ≡ Done c → Runs (P .first) (insert row (P .late)) m (m + c) (putRest buf (m * width) tail)
       late-runs c q =
-          let R : Runs (K .first) (K .late) m n buf = keeps-runs K m e in
-          let D : Inserted row (K .late) (length (restOf buf (m * width))) (Done c) tail = subst (λ (x : Put). Inserted row (K .late) (length (restOf buf (m * width))) x tail) q done in
-          let H : Holds (insert row (K .late)) c tail = inserted-holds (K .late) (n - m) (restOf buf (m * width)) (late-part R) row w c tail D in
-          subst (Runs (K .first) (insert row (K .late)) m (m + c)) (sym (rest-back buf tail (m * width))) (
-          runs-parts (first-holds R) (length-take-le (m * width) buf (omega (arith, keeps-fits K))) H (apart-insert (K .first) (K .late) row f (K .runs .apart)))
+          let R : Runs (P .first) (P .late) m n buf = P .runs in
+          let D : Inserted row (P .late) (length (restOf buf (m * width))) (Done c) tail = subst (λ (x : Put). Inserted row (P .late) (length (restOf buf (m * width))) x tail) q done in
+          let H : Holds (insert row (P .late)) c tail = inserted-holds (P .late) (n - m) (restOf buf (m * width)) (late-part R) row w c tail D in
+          subst (Runs (P .first) (insert row (P .late)) m (m + c)) (sym (rest-back buf tail (m * width))) (
+          runs-parts (first-holds R) (length-take-le (m * width) buf (omega (arith, holds-fits (P .runs .filled)))) H (apart-insert (P .first) (P .late) row f (P .runs .apart)))
 
-      -- and fewer than a block are
+      -- and the late run has fewer than 32 rows
       pub late-kept : (c : ℕ) → r ≡ Done c → length (putRest buf (m * width) tail) ≡ length buf → (c ≡ 32 → ⊥) → PutIn (insert row rows) (length buf) (Done (m + c)) (putRest buf (m * width) tail)
       late-kept c q l h =
-          let R : Runs (K .first) (insert row (K .late)) m (m + c) (putRest buf (m * width) tail) = late-runs c q in
-          let s : m ≡ firstRun (m + c) = omega (arith, h, insert-most row (K .late), runs-count R, runs-count (K .runs)) in
+          let R : Runs (P .first) (insert row (P .late)) m (m + c) (putRest buf (m * width) tail) = late-runs c q in
+          let s : m + c < m + 32 = omega (arith, h, b .2, insert-most row (P .late), runs-count R, runs-count (P .runs)) in
           put-done (length buf) l (record {
-            first = K .first;
-            late = insert row (K .late);
-            runs = subst (λ (j : ℕ). Runs (K .first) (insert row (K .late)) j (m + c) (putRest buf (m * width) tail)) s R;
-            all = new-is;
+            at = m;
+            near = (b .0, omega arith, s, b .3);
+            parted = record { first = P .first; late = insert row (P .late); runs = R; all = new-is };
           })
 
       -- it has no room
       pub late-full : r ≡ Full → (after : List ℕ) → PutIn (insert row rows) (length buf) Full after
       late-full q after =
           let part : List ℕ = restOf buf (m * width) in
-          let D : Inserted row (K .late) (length part) Full tail = subst (λ (x : Put). Inserted row (K .late) (length part) x tail) q done in
-          let over : length part < length (insert row (K .late)) * width = leb-false (length (insert row (K .late)) * width) (length part) (room-full (length part) row (K .late) tail D) in
+          let D : Inserted row (P .late) (length part) Full tail = subst (λ (x : Put). Inserted row (P .late) (length part) x tail) q done in
+          let over : length part < length (insert row (P .late)) * width = leb-false (length (insert row (P .late)) * width) (length part) (room-full (length part) row (P .late) tail D) in
           put-full (length buf) after (omega (arith, rest-length buf (m * width), new-count))
 
 -- ---- taken out of the late run, where the first has no such row
 
 -- rows taken out of the late run alone, while none of the first is between lo and hi, are taken out of the table
-pub out-late : {rows : List Row} {n : ℕ} {buf : List ℕ} (K : Keeps rows n buf) (m : ℕ) → m ≡ firstRun n → (lo hi : ℕ) → lo ≤ hi → ltb (rank lo (K .first)) (rank hi (K .first)) ≡ false
+pub out-late : {rows : List Row} {n : ℕ} {buf : List ℕ} (m : ℕ) (P : Parted rows m n buf) → Near m n → (lo hi : ℕ) → lo ≤ hi → ltb (rank lo (P .first)) (rank hi (P .first)) ≡ false
     → (r : ℕ) (tail : List ℕ) → ((rs : List Row) → Holds rs (n - m) (restOf buf (m * width)) → Removed lo hi rs (length (restOf buf (m * width))) r tail)
     → TakenOut (remove lo hi rows) (m + r) (putRest buf (m * width) tail)
-out-late {rows} {n} {buf} K m e lo hi h f r tail I =
-    let R : Runs (K .first) (K .late) m n buf = keeps-runs K m e in
-    let D : Removed lo hi (K .late) (length (restOf buf (m * width))) r tail = I (K .late) (late-part R) in
-    let H : Holds (remove lo hi (K .late)) r tail = removed-holds (K .late) (n - m) (restOf buf (m * width)) (late-part R) lo hi r h tail D in
-    let N : Runs (K .first) (remove lo hi (K .late)) m (m + r) (putRest buf (m * width) tail) =
-    subst (Runs (K .first) (remove lo hi (K .late)) m (m + r)) (sym (rest-back buf tail (m * width))) (
-    runs-parts (first-holds R) (length-take-le (m * width) buf (omega (arith, keeps-fits K))) H (apart-remove lo hi (K .first) (K .late) h (R .apart))) in
-    let s : m ≡ firstRun (m + r) = omega (arith, e, D .answer, remove-len lo hi (K .late), runs-count R) in
+out-late {rows} {n} {buf} m P b lo hi h f r tail I =
+    let R : Runs (P .first) (P .late) m n buf = P .runs in
+    let D : Removed lo hi (P .late) (length (restOf buf (m * width))) r tail = I (P .late) (late-part R) in
+    let H : Holds (remove lo hi (P .late)) r tail = removed-holds (P .late) (n - m) (restOf buf (m * width)) (late-part R) lo hi r h tail D in
+    let N : Runs (P .first) (remove lo hi (P .late)) m (m + r) (putRest buf (m * width) tail) =
+    subst (Runs (P .first) (remove lo hi (P .late)) m (m + r)) (sym (rest-back buf tail (m * width))) (
+    runs-parts (first-holds R) (length-take-le (m * width) buf (omega (arith, holds-fits (P .runs .filled)))) H (apart-remove lo hi (P .first) (P .late) h (R .apart))) in
+    let s : m + r < m + 32 = omega (arith, b .2, D .answer, remove-len lo hi (P .late), runs-count R) in
     let kept : Keeps (remove lo hi rows) (m + r) (putRest buf (m * width) tail) =
     record {
-      first = K .first;
-      late = remove lo hi (K .late);
-      runs = subst (λ (j : ℕ). Runs (K .first) (remove lo hi (K .late)) j (m + r) (putRest buf (m * width) tail)) s N;
-      all = ap (remove lo hi) (K .all) ∙ remove-both 0 lo hi (K .first) (K .late) h (R .late-table) (R .first-table)
-          ∙ ap (insertAll (remove lo hi (K .late))) (remove-none 0 lo hi (K .first) (R .first-table) h (ltb-false (rank lo (K .first)) (rank hi (K .first)) f));
+      at = m;
+      near = (b .0, omega arith, s, b .3);
+      parted = record {
+        first = P .first;
+        late = remove lo hi (P .late);
+        runs = N;
+        all = ap (remove lo hi) (P .all) ∙ remove-both 0 lo hi (P .first) (P .late) h (R .late-table) (R .first-table)
+            ∙ ap (insertAll (remove lo hi (P .late))) (remove-none 0 lo hi (P .first) (R .first-table) h (ltb-false (rank lo (P .first)) (rank hi (P .first)) f));
+      };
     } in
     record { answer = sym (keeps-count kept); after = kept }

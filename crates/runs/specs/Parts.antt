@@ -23,7 +23,7 @@ use Rattle.merge.specs.Merge.{Apart}
 use Rattle.merge.specs.Laws.{count-more, all-table}
 use Rattle.runs.specs.Runs.{rowOf, rowIn, Runs}
 use Rattle.runs.specs.Places.{row-filled}
-use Rattle.runs.specs.Union.{find-rest, find-among, find-below, find-beyond, rank-both, all-none, all-append, apart-append, table-front, table-back, table-append, apart-none}
+use Rattle.runs.specs.Union.{find-rest, find-among, find-below, find-beyond, rank-both, all-none, all-append, apart-append, table-less, table-front, table-back, table-append, apart-none}
 
 -- two runs of rows of w words, one after the other, are rows of w words
 pub wide-append : (w : ℕ) (a c : List Row) → Wide w a → Wide w c → Wide w (a ++ c)
@@ -116,6 +116,22 @@ module _ {first late : List Row} {m n : ℕ} {buf : List ℕ} (R : Runs first la
   key-late h =
       let e : m ≡ length first + 0 = omega (arith, R .split) in
       key-of-row (R .filled) m h ∙ ap (λ (j : ℕ). key (getD (first ++ late) j [])) e ∙ ap key (getD-append-add first late 0 [])
+
+  -- the keys that stand in the first run rise
+  pub first-less : (i j x y : ℕ) → i < j → j < m → x ≡ keyOf (getD buf (i * width) 0) (getD buf (i * width + 1) 0)
+      → y ≡ keyOf (getD buf (j * width) 0) (getD buf (j * width + 1) 0) → x < y
+  first-less i j x y h l e f =
+      omega (arith, e ∙ key-first i (omega arith), f ∙ key-first j l, table-less 0 first (R .first-table) i j h (omega (arith, R .split)))
+
+  -- and so do those in the late one
+  pub late-less : (i j x y : ℕ) → m ≤ i → i < j → j < n → x ≡ keyOf (getD buf (i * width) 0) (getD buf (i * width + 1) 0)
+      → y ≡ keyOf (getD buf (j * width) 0) (getD buf (j * width + 1) 0) → x < y
+  late-less i j x y a h l e f =
+      let p : i ≡ length first + (i - m) = omega (arith, R .split) in
+      let q : j ≡ length first + (j - m) = omega (arith, R .split) in
+      let u : x ≡ key (getD late (i - m) []) = e ∙ key-of-row (R .filled) i (omega arith) ∙ ap (λ (k : ℕ). key (getD (first ++ late) k [])) p ∙ ap key (getD-append-add first late (i - m) []) in
+      let v : y ≡ key (getD late (j - m) []) = f ∙ key-of-row (R .filled) j l ∙ ap (λ (k : ℕ). key (getD (first ++ late) k [])) q ∙ ap key (getD-append-add first late (j - m) []) in
+      omega (arith, u, v, table-less 0 late (R .late-table) (i - m) (j - m) (omega arith) (omega (arith, runs-count)))
 
   -- the table that both together are
   pub both-count : length (insertAll late first) ≡ n

@@ -1,9 +1,10 @@
 -- What a buffer keeps while rows are entered. These are definitions, for contracts inside and proofs.
 use mathlib.Core.Path.{_≡_}
 use mathlib.Core.Bool.{true}
+use mathlib.Core.Logic.{_⊎_}
 use mathlib.Core.List.{List, _++_}
 use mathlib.Core.Option.{Option, none, some}
-use Prim.Native.Nat.{ℕ, _-_, _*_, _%_}
+use Prim.Native.Nat.{ℕ, _+_, _*_, _%_, _≤_, _<_}
 use lib.ListN.{length, take, drop}
 use Rattle.words.specs.Word.{pick}
 use Rattle.table.specs.Rows.{Row, width, Table, find, insertAll, Filled}
@@ -31,16 +32,26 @@ pub record Runs (first late : List Row) (m n : ℕ) (buf : List ℕ) : Type 0 wh
   pub late-table : Table 0 late
   pub apart : Apart late first
 
--- how many of n rows the first run has: whole blocks of 32, so that a new row moves at most 31
-abbrev pub firstRun : ℕ → ℕ
-firstRun n = n - n % 32
+-- so many of n rows may be the first run: whole blocks of 16, none or at least two, so that a new row moves at most 31
+abbrev pub Near : ℕ → ℕ → Type 0
+Near m n = (m % 16 ≡ 0) × (m ≤ n) × (n < m + 32) × (m ≡ 16 → ⊥)
 
--- the buffer keeps this table of n rows: that of both runs
-pub record Keeps (rows : List Row) (n : ℕ) (buf : List ℕ) : Type 0 where
+-- and there is no such number above m
+abbrev pub Last : ℕ → ℕ → Type 0
+Last m n = Near m n × ((n < 32) ⊎ (n < m + 16))
+
+-- the table is that of both runs, the first of m rows
+pub record Parted (rows : List Row) (m n : ℕ) (buf : List ℕ) : Type 0 where
   pub first : List Row
   pub late : List Row
-  pub runs : Runs first late (firstRun n) n buf
+  pub runs : Runs first late m n buf
   pub all : rows ≡ insertAll late first
+
+-- the buffer keeps this table of n rows
+pub record Keeps (rows : List Row) (n : ℕ) (buf : List ℕ) : Type 0 where
+  pub at : ℕ
+  pub near : Near at n
+  pub parted : Parted rows at n buf
 
 -- a row that was found is the table's; where none was, the first run has none with the key
 abbrev pub Old : (k : ℕ) (rows first : List Row) → List ℕ → Found → Type 0

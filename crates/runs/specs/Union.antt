@@ -98,6 +98,13 @@ rank-both b k rows (x ∷ xs) t a =
     go (inl o) ih = omega (arith, ih, rank-insert-low k x rows o (a .0), rank-lt k x xs o)
     go (inr o) ih = omega (arith, ih, rank-insert-high k x rows o (a .0), rank-ge k x xs o, rank-above (suc (key x)) k xs (t .2) (omega arith))
 
+-- the keys of a table rise
+pub table-less : (b : ℕ) (rows : List Row) → Table b rows → (i j : ℕ) → i < j → j < length rows → key (getD rows i []) < key (getD rows j [])
+table-less b [] t i j h l = absurd (not-suc-le-zero l)
+table-less b (r ∷ rs) t i zero h l = absurd (not-suc-le-zero h)
+table-less b (r ∷ rs) t zero (suc j) h l = table-above rs (t .2) j (le-of-suc-le-suc l)
+table-less b (r ∷ rs) t (suc i) (suc j) h l = table-less (suc (key r)) rs (t .2) i j (le-of-suc-le-suc h) (le-of-suc-le-suc l)
+
 -- ---- a table in two parts
 
 -- the first part of a table is one

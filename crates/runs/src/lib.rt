@@ -1,5 +1,6 @@
 // Rows that are entered in any order. The buffer has two runs, one after the other: new rows go into the late one, so that at most 31 rows move, and
-// when it has 32 rows the two are made one.
+// when it has 32 rows the two are made one. The first has whole blocks of 16 rows, all of them or all but one: so the late run can lose rows and get them
+// again, whatever their number, without a move of the others.
 use table::Found;
 use table::Put;
 use table::WIDTH;
@@ -11,13 +12,36 @@ ghost use lib.ListN.{length};
 ghost use lib.Dec.{ltb};
 ghost use Rattle.table.specs.Rows.{Row, width, key, rank, find as findRow, insert as insertRow, insertAll, remove as removeRows, Holds};
 ghost use Rattle.table.specs.Answers.{Within, Fit};
-ghost use Rattle.runs.specs.Runs.{rowIn, Runs, firstRun, Keeps, Old, PutIn, TakenOut};
+ghost use Rattle.runs.specs.Runs.{rowIn, Runs, Parted, Near, Last, Keeps, Old, PutIn, TakenOut};
 
-// How many rows are in the first run: whole blocks of 32.
-fn first_run(count: usize) -> usize
-    ensures { λ r. ⌜ r ≡ firstRun count ⌝ }
+// How many rows are in whole blocks of 16; fewer than two blocks don't count.
+fn last_block(count: usize) -> usize
+    ensures { λ r. ⌜ Last r count ⌝ }
 {
-    count - count % 32
+    if count < 32 {
+        return 0;
+    }
+    count - count % 16
+}
+
+// How many rows are in the first run: without the last block where the order breaks before it. The last test never fails: for it the compiler branches at the one before.
+fn split(b: &[u32], count: usize) -> usize
+    requires { ⌜ count * width ≤ length (now b) ⌝ }
+    ensures within { λ r. ⌜ r ≤ count ⌝ }
+    ensures near { λ r. ⌜ Near r count ⌝ }
+    ensures parted { λ r. ⌜ ((rows : List Row) → Keeps rows count (now (b .entry)) → Parted rows r count (now (b .entry))) ⌝ }
+{
+    let m = last_block(count);
+    if m <= 32 {
+        return m;
+    }
+    if table::key_at(b, m - 17) < table::key_at(b, m - 16) {
+        return m;
+    }
+    if table::key_at(b, m - 16) < table::key_at(b, m - 1) {
+        return m - 16;
+    }
+    m
 }
 
 // The row with the key k among the first m rows, the first run.
@@ -59,7 +83,7 @@ fn find_long(b: &[u32], count: usize, k: u64) -> Found
     ensures within { λ r. ⌜ Within count r ⌝ }
     ensures found { λ r. ⌜ ((rows : List Row) → Keeps rows count (now (b .entry)) → rowIn (now (b .entry)) r ≡ findRow k rows) ⌝ }
 {
-    let m = first_run(count);
+    let m = split(b, count);
     match find_first(b, m, k) {
         Found::At(i) => Found::At(i),
         Found::Nothing => find_late(b, m, count, k),
@@ -93,7 +117,7 @@ pub fn any_between(b: &[u32], count: usize, lo: u64, hi: u64) -> bool
     requires { ⌜ (count * width ≤ length (now b)) × (lo ≤ hi) ⌝ }
     ensures { λ r. ⌜ ((rows : List Row) → Keeps rows count (now (b .entry)) → r ≡ ltb (rank lo rows) (rank hi rows)) ⌝ }
 {
-    let m = first_run(count);
+    let m = split(b, count);
     if any_in(&b[..m * WIDTH], m, lo, hi) {
         return true;
     }
@@ -128,7 +152,7 @@ pub fn settle(b: &mut [u32], count: usize)
     if count < 32 {
         return;
     }
-    let m = first_run(count);
+    let m = split(b, count);
     join(b, m, count);
 }
 
@@ -136,7 +160,7 @@ pub fn settle(b: &mut [u32], count: usize)
 fn put_late(b: &mut [u32], m: usize, count: usize, row: &[u32]) -> Put
     requires { ⌜ (count * width ≤ length (now b)) × (m ≤ count) × (length (now row) ≡ width) ⌝ }
     ensures room { λ r. ⌜ Fit width (length (now (b .entry))) r ⌝ }
-    ensures after { λ r. ⌜ ((rows : List Row) (K : Keeps rows count (now (b .entry))) → m ≡ firstRun count → findRow (key (now (row .entry))) (K .first) ≡ none
+    ensures after { λ r. ⌜ ((rows : List Row) (P : Parted rows m count (now (b .entry))) → Near m count → findRow (key (now (row .entry))) (P .first) ≡ none
         → PutIn (insertRow (now (row .entry)) rows) (length (now (b .entry))) r (now (b .exit))) ⌝ }
 {
     let put = table::insert(&mut b[m * WIDTH..], count - m, row);
@@ -156,7 +180,7 @@ fn put_late(b: &mut [u32], m: usize, count: usize, row: &[u32]) -> Put
 fn find_old(b: &[u32], count: usize, k: u64) -> Found
     requires { ⌜ count * width ≤ length (now b) ⌝ }
     ensures within { λ r. ⌜ Within count r ⌝ }
-    ensures found { λ r. ⌜ ((rows : List Row) (K : Keeps rows count (now (b .entry))) → Old k rows (K .first) (now (b .entry)) r) ⌝ }
+    ensures found { λ r. ⌜ ((rows : List Row) (K : Keeps rows count (now (b .entry))) → Old k rows (K .parted .first) (now (b .entry)) r) ⌝ }
 {
     if count < 32 {
         return Found::Nothing;
@@ -177,7 +201,7 @@ pub fn insert(b: &mut [u32], count: usize, row: &[u32]) -> Put
             Put::Done(count)
         }
         Found::Nothing => {
-            let m = first_run(count);
+            let m = split(b, count);
             put_late(b, m, count, row)
         }
     }
@@ -189,9 +213,9 @@ pub fn remove(b: &mut [u32], count: usize, lo: u64, hi: u64) -> usize
     ensures fewer { λ r. ⌜ r ≤ count ⌝ }
     ensures after { λ r. ⌜ ((rows : List Row) → Keeps rows count (now (b .entry)) → TakenOut (removeRows lo hi rows) r (now (b .exit))) ⌝ }
 {
-    let m = first_run(count);
+    let m = split(b, count);
     if any_in(&b[..m * WIDTH], m, lo, hi) {
-        settle(b, count);
+        join(b, m, count);
         return table::remove(b, count, lo, hi);
     }
     let n = table::remove(&mut b[m * WIDTH..], count - m, lo, hi);

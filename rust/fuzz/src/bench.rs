@@ -463,8 +463,8 @@ fn refused() -> Vec<(&'static str, Raw)> {
     ]
 }
 
-/// A TYPE with three fields and without fields in turn. The rows of unused array parameters stand behind it, so many that the first field is the 32nd
-/// row of the late run.
+/// A TYPE with three fields and without fields in turn. The rows of unused array parameters stand behind it, so many that the first field is the last
+/// row of a block.
 fn shrinking() -> Vec<Stmt> {
     let first = at(
         1,

@@ -6,33 +6,33 @@ use native.Mathlib.Nat.{le-of-eq}
 use lib.Seq.{length-take-le}
 use lib.Dec.{ltb}
 use Rattle.table.specs.Rows.{Row, rank}
-use Rattle.runs.specs.Laws.{keeps-runs}
 use Rattle.runs.specs.Parts.{first-holds, late-part, between-first, between-late}
 use borrow.Author.Needs.{needs}
 use Rattle.runs.proofs.any_between.Statement.{statement}
 use Rattle.runs.proofs.any_between.Tie as tie
 
-first-run-requires : tie.Need-first-run-requires
-first-run-requires c κs = search needs
+split-requires : tie.Need-split-requires
+split-requires c κs = search needs
 
 mul-any-in : tie.Need-mul-any-in
 mul-any-in c = search needs
 
 slice-aggregate-any-in : tie.Need-slice-aggregate-any-in
-slice-aggregate-any-in c = sym (length-take-le _ _ (omega (arith, c .before .first-run .ensures, c .before .before .before .pre .0)))
+slice-aggregate-any-in c = sym (length-take-le _ _ (omega (arith, c .before .split .ensures .0, c .before .before .before .pre .0)))
 
 any-in-requires : tie.Need-any-in-requires
-any-in-requires c κs = le-of-eq (sym (length-take-le _ _ (omega (arith, c .before .first-run .ensures, c .before .before .before .pre .0))))
+any-in-requires c κs = le-of-eq (sym (length-take-le _ _ (omega (arith, c .before .split .ensures .0, c .before .before .before .pre .0))))
 
 returns : tie.Need-returns
 returns c =
     let f = c .before in
-    let m = f .before .before .first-run in
+    let m = f .before .before .split in
     let s = f .before .before .before .before in
     λ rows K.
-    let R = keeps-runs K (m .result) (m .ensures) in
-    sym (ap (λ (l : List Row). ltb (rank (s .args .lo) l) (rank (s .args .hi) l)) (K .all)
-    ∙ between-first R (s .args .lo) (s .args .hi) (s .pre .1) (sym (f .any-in .ensures (K .first) (first-holds R)) ∙ c .if1 .taken))
+    let P = m .ensures .1 .1 rows K in
+    let R = P .runs in
+    sym (ap (λ (l : List Row). ltb (rank (s .args .lo) l) (rank (s .args .hi) l)) (P .all)
+    ∙ between-first R (s .args .lo) (s .args .hi) (s .pre .1) (sym (f .any-in .ensures (P .first) (first-holds R)) ∙ c .if1 .taken))
 
 mul-any-in-2 : tie.Need-mul-any-in-2
 mul-any-in-2 c = search needs
@@ -58,19 +58,20 @@ any-in-requires-2 c κs = search needs
 returns-2 : tie.Need-returns-2
 returns-2 c =
     let f = c .before .before .before in
-    let m = f .before .before .first-run in
+    let m = f .before .before .split in
     let s = f .before .before .before .before in
     λ rows K.
-    let R = keeps-runs K (m .result) (m .ensures) in
-    c .any-in2 .ensures (K .late) (late-part R)
-    ∙ between-late R (s .args .lo) (s .args .hi) (s .pre .1) (sym (f .any-in .ensures (K .first) (first-holds R)) ∙ c .before .before .if1 .left)
-    ∙ ap (λ (l : List Row). ltb (rank (s .args .lo) l) (rank (s .args .hi) l)) (sym (K .all))
+    let P = m .ensures .1 .1 rows K in
+    let R = P .runs in
+    c .any-in2 .ensures (P .late) (late-part R)
+    ∙ between-late R (s .args .lo) (s .args .hi) (s .pre .1) (sym (f .any-in .ensures (P .first) (first-holds R)) ∙ c .before .before .if1 .left)
+    ∙ ap (λ (l : List Row). ltb (rank (s .args .lo) l) (rank (s .args .hi) l)) (sym (P .all))
 
 pub any-between-spec : {M : Type 1} → statement M
 any-between-spec =
     tie.close
     (tie.spec
-    first-run-requires
+    split-requires
     mul-any-in
     slice-aggregate-any-in
     any-in-requires

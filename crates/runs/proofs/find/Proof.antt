@@ -1,4 +1,4 @@
--- Fewer rows than a block are one run; else `find_long` finds it. Assumes nothing.
+-- Fewer than 32 rows are one run; else `find_long` finds it. Assumes nothing.
 use Rattle.runs.specs.Laws.{keeps-short}
 use Rattle.runs.specs.Places.{row-filled}
 use Rattle.runs.specs.Parts.{found-part}

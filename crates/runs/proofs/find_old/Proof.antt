@@ -7,13 +7,13 @@ use Rattle.runs.proofs.find_old.Statement.{statement}
 use Rattle.runs.proofs.find_old.Tie as tie
 
 returns : tie.Need-returns
-returns c = (tt, λ rows K. none-first (K .runs) _ (omega (arith, c .if1 .taken)))
+returns c = (tt, λ rows K. none-first (K .parted .runs) _ (omega (arith, c .if1 .taken, K .near .0, K .near .1, K .near .3)))
 
 find-long-requires : tie.Need-find-long-requires
 find-long-requires c κs = search needs
 
 returns-2 : tie.Need-returns-2
-returns-2 c = (c .find-long .ensures .0, λ rows K. old-is K _ (c .find-long .result) (c .find-long .ensures .1 rows K))
+returns-2 c = (c .find-long .ensures .0, λ rows K. old-is (K .parted) _ (c .find-long .result) (c .find-long .ensures .1 rows K))
 
 pub find-old-spec : {M : Type 1} → statement M
 find-old-spec = tie.close (tie.spec returns find-long-requires returns-2)

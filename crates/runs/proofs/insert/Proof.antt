@@ -5,7 +5,7 @@ use Prim.Native.Nat.{ℕ, _<_}
 use native.Mathlib.Omega.{arith}
 use Rattle.table.specs.Rows.{key, find}
 use Rattle.table.specs.Answers.{Within}
-use Rattle.runs.specs.Runs.{Old}
+use Rattle.runs.specs.Runs.{Old, Parted, Keeps}
 use Rattle.runs.specs.Entering.{key-words, put-set}
 use borrow.Author.Needs.{needs}
 use Rattle.runs.proofs.insert.Statement.{statement}
@@ -46,8 +46,8 @@ put-words-requires c κs = omega (arith, found (c .before .before), start (c .be
 enum-told : tie.Need-enum-told
 enum-told c = search needs
 
-first-run-requires : tie.Need-first-run-requires
-first-run-requires c κs = search needs
+split-requires : tie.Need-split-requires
+split-requires c κs = search needs
 
 put-late-requires : tie.Need-put-late-requires
 put-late-requires c κs = search needs
@@ -72,12 +72,14 @@ returns-2 : tie.Need-returns-2
 returns-2 c =
     let p = c .before .before .put-late in
     let m = c .before .before .before .before in
-    let f = m .before .before .before in
+    let f = m .before .before .before .before in
     let s = start f in (
       p .ensures .0,
       λ rows K.
-          let none-there : find (f .before .before .key-of .result) (K .first) ≡ none = subst (Old (f .before .before .key-of .result) rows (K .first) (s .args .b .now)) (m .before .enum-told .given .1) (f .find-old .ensures .1 rows K) in
-          p .ensures .1 rows K (m .first-run .ensures) (subst (λ (k : ℕ). find k (K .first) ≡ none) (key-is f) none-there),
+          let P : Parted rows (m .split .result) (s .args .count) (s .args .b .now) = m .split .ensures .1 .1 rows K in
+          let N : Keeps rows (s .args .count) (s .args .b .now) = record { at = m .split .result; near = m .split .ensures .1 .0; parted = P } in
+          let none-there : find (f .before .before .key-of .result) (P .first) ≡ none = subst (Old (f .before .before .key-of .result) rows (P .first) (s .args .b .now)) (m .before .before .enum-told .given .1) (f .find-old .ensures .1 rows N) in
+          p .ensures .1 rows P (m .split .ensures .1 .0) (subst (λ (k : ℕ). find k (P .first) ≡ none) (key-is f) none-there),
     )
 
 pub insert-spec : {M : Type 1} → statement M
@@ -92,7 +94,7 @@ insert-spec =
     mul-put-words
     put-words-requires
     enum-told
-    first-run-requires
+    split-requires
     put-late-requires
     same-length
     returns

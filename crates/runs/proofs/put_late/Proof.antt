@@ -66,9 +66,9 @@ returns c =
     let s = i .before .before .before .before in
     let j = c .before .before .join in (
       fit p,
-      λ rows K e f.
-          late-joined K (s .args .row .now) (s .pre .2) (s .args .m) e f _ (j .last .0) (same-length c)
-          (j .ensures _ _ (late-runs K (s .args .row .now) (s .pre .2) (s .args .m) e f (i .insert .result) (i .insert .last .0) (i .insert .ensures .1) (p .put .given .0 .0) (p .put .given .1))),
+      λ rows P b f.
+          late-joined (s .args .m) P b (s .args .row .now) (s .pre .2) f _ (j .last .0) (same-length c)
+          (j .ensures _ _ (late-runs (s .args .m) P b (s .args .row .now) (s .pre .2) f (i .insert .result) (i .insert .last .0) (i .insert .ensures .1) (p .put .given .0 .0) (p .put .given .1))),
     )
 
 add-t20 : tie.Need-add-t20
@@ -81,7 +81,7 @@ returns-2 : tie.Need-returns-2
 returns-2 c =
     let i = c .before .before .before .before in
     let s = i .before .before .before .before in
-    (tt, λ rows K e f. late-full K (s .args .row .now) (s .pre .2) (s .args .m) e f (i .insert .result) (i .insert .last .0) (i .insert .ensures .1) (c .enum-told .given .1) _)
+    (tt, λ rows P b f. late-full (s .args .m) P b (s .args .row .now) (s .pre .2) f (i .insert .result) (i .insert .last .0) (i .insert .ensures .1) (c .enum-told .given .1) _)
 
 same-length-3 : tie.Need-same-length-3
 same-length-3 c = search needs
@@ -92,8 +92,8 @@ returns-3 c =
     let i = p .before .before .before .before in
     let s = i .before .before .before .before in (
       fit p,
-      λ rows K e f.
-          late-kept K (s .args .row .now) (s .pre .2) (s .args .m) e f (i .insert .result) (i .insert .last .0) (i .insert .ensures .1) (p .put .given .0 .0) (p .put .given .1) (same-length-3 c)
+      λ rows P b f.
+          late-kept (s .args .m) P b (s .args .row .now) (s .pre .2) f (i .insert .result) (i .insert .last .0) (i .insert .ensures .1) (p .put .given .0 .0) (p .put .given .1) (same-length-3 c)
           (c .if1 .left),
     )
 

@@ -2,7 +2,7 @@
 use mathlib.Core.Path.{sym, subst}
 use mathlib.Core.List.{List}
 use Rattle.table.specs.Rows.{Row, Holds}
-use Rattle.runs.specs.Laws.{keeps-short, keeps-runs}
+use Rattle.runs.specs.Laws.{keeps-short}
 use borrow.Author.Needs.{needs}
 use Rattle.runs.proofs.settle.Statement.{statement}
 use Rattle.runs.proofs.settle.Tie as tie
@@ -10,8 +10,8 @@ use Rattle.runs.proofs.settle.Tie as tie
 returns : tie.Need-returns
 returns c = λ rows K. keeps-short K (c .if1 .taken)
 
-first-run-requires : tie.Need-first-run-requires
-first-run-requires c κs = search needs
+split-requires : tie.Need-split-requires
+split-requires c κs = search needs
 
 join-requires : tie.Need-join-requires
 join-requires c κs = search needs
@@ -24,7 +24,8 @@ returns-2 c =
     let j = c .before .before .join in
     let m = c .before .before .before .before in
     λ rows K.
-    subst (λ (l : List Row). Holds l (m .before .before .before .args .count) (j .last .0)) (sym (K .all)) (j .ensures (K .first) (K .late) (keeps-runs K (m .first-run .result) (m .first-run .ensures)))
+    let P = m .split .ensures .1 .1 rows K in
+    subst (λ (l : List Row). Holds l (m .before .before .before .before .args .count) (j .last .0)) (sym (P .all)) (j .ensures (P .first) (P .late) (P .runs))
 
 pub settle-spec : {M : Type 1} → statement M
-settle-spec = tie.close (tie.spec returns first-run-requires join-requires same-length returns-2)
+settle-spec = tie.close (tie.spec returns split-requires join-requires same-length returns-2)

@@ -6,7 +6,7 @@ ghost use Prim.Native.Nat.{ℕ, _<_, _≤_, _+_};
 ghost use lib.ListN.{length, getD, take, drop};
 ghost use lib.Dec.{eqb};
 ghost use mathlib.Core.List.{List, []};
-ghost use Rattle.tree.specs.Sorts.{many, opt, expr as exprSort, stmt as stmtSort, body as bodySort, TypeRef};
+ghost use Rattle.tree.specs.Sorts.{many, opt, expr as exprSort, stmt as stmtSort, body as bodySort, GotoTarget, TypeRef, PrintItem};
 ghost use Rattle.tree.specs.Tree.{between, strings};
 ghost use Rattle.tree.specs.Codes.{partCodes, stmtCodes, codes, joined, pack, sortAt, rowOf, chain, allRows};
 ghost use Rattle.tree.specs.Reader.{wordAt, neverAt, fieldAt, stmtAt, programAt};

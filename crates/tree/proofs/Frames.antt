@@ -212,6 +212,10 @@ module _ (ws ns : List ℕ) (n : ℕ) where
   pub row-goes : {f : Frame} {r left at m : ℕ} {s : Step} → f ≡ record { fields = 0; row = r; times = 1; left = left } → s ≡ rowStep left (rowOf r) m → at < m → m ≤ length ws → Goes ws ns n at s (Into m f)
   row-goes {f} {r} {left} {at} {m} {s} q e a b = subst (λ (x : Frame). Goes ws ns n at s (Into m x)) (sym q) (into (e ∙ sym (frame-row r left m)) a b (omega arith) (omega arith))
 
+  -- an expression behind a word
+  pub expr-goes : {f : Frame} {left at m : ℕ} {s : Step} → f ≡ record { fields = 9; row = 0; times = 0; left = left } → s ≡ stepOf (exprAt ws (strings ns n) left m) → at < m → m ≤ length ws → Goes ws ns n at s (Into m f)
+  expr-goes {f} {left} {at} {m} {s} q e a b = subst (λ (x : Frame). Goes ws ns n at s (Into m x)) (sym q) (into (e ∙ sym (frame-9 left m)) a b (omega arith) (omega arith))
+
   -- one row at the same place
   pub row-same : {f : Frame} {r left at : ℕ} {s : Sort} → f ≡ record { fields = 0; row = r; times = 1; left = left } → (s ≡ opt (rowOf r)) ⊎ (s ≡ group (rowOf r)) → fieldStep ws ns n left s at ≡ rowStep left (rowOf r) at → Turned ws ns n left at s (Into at f)
   row-same {f} {r} {left} {at} {s} q k e = subst (λ (x : Frame). Turned ws ns n left at s (Into at x)) (sym q) (same k (e ∙ sym (frame-row r left at)))

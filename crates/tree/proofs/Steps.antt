@@ -183,6 +183,16 @@ pub is-own : (i : ℕ) {k : ℕ} → k ≡ i → ltb i 16 ≡ true → sortAt k 
 unfolding sortAt
 is-own i e h = ap sortAt e ∙ rw h (ap (λ (l : List Sort). getD l i never) singles-are)
 
+-- 11 is where GOTO goes
+pub is-target : {k : ℕ} → k ≡ 11 → sortAt k ≡ GotoTarget
+unfolding allRows chain parts
+is-target e = is-own 11 e refl
+
+-- 13 is an item of PRINT
+pub is-item : {k : ℕ} → k ≡ 13 → sortAt k ≡ PrintItem
+unfolding allRows chain parts
+is-item e = is-own 13 e refl
+
 -- 16 to 63 are options of a row
 pub sort-opt : (s : ℕ) → 16 ≤ s → s < 64 → sortAt s ≡ opt (rowOf (s - 16))
 unfolding sortAt
@@ -300,6 +310,17 @@ module _ (ws ns : List ℕ) (n : ℕ) (sub : ℕ → Got Expr) (subS : ℕ → G
       let z : getD ws at 0 ≡ wordOf k 0 → ⊥ = λ y. omega arith in
       simp (lt-ltb at (length ws) h, ne-eqb (getD ws at 0) (wordOf k 0) z) (last that _ (chain-yes (suc k) rs j at h (omega arith) (omega arith) q))
 
+  -- by the kind and the payload of a word: it is none of the heads
+  heads-no : (k : ℕ) (rs : List Sorts) (at : ℕ) → at < length ws → (payOf (getD ws at 0) ≡ 0 → k ≤ kindOf (getD ws at 0) → kindOf (getD ws at 0) < k + length rs → ⊥) → Wrong at ≡ stepOf (fieldAt ws ns n sub subS (chain k rs) at)
+  heads-no k rs at h f =
+      chain-no k rs at h (λ j i e.
+      let z : kindOf (getD ws at 0) ≡ k + j = omega (arith, e) in
+      f (omega (arith, e)) (omega (arith, z)) (omega (arith, z, i)))
+
+  -- it is the j-th
+  heads-go : (k : ℕ) (rs : List Sorts) (j at : ℕ) {r : Step} → at < length ws → j < length rs → payOf (getD ws at 0) ≡ 0 → kindOf (getD ws at 0) ≡ k + j → r ≡ stepOf (rowAt ws ns n sub subS (getD rs j nil) (at + 1)) → r ≡ stepOf (fieldAt ws ns n sub subS (chain k rs) at)
+  heads-go k rs j at h i p q e = chain-yes k rs j at h i (omega (arith, p, q)) e
+
   -- a row
   pub row-more : (s : Sort) (ss : Sorts) (m : ℕ) → stepOf (rowAt ws ns n sub subS (s & ss) m) ≡ then (stepOf (fieldAt ws ns n sub subS s m)) (λ m′. stepOf (rowAt ws ns n sub subS ss m′))
   unfolding rowAt
@@ -336,10 +357,6 @@ module _ (ws ns : List ℕ) (n : ℕ) (sub : ℕ → Got Expr) (subS : ℕ → G
   unfolding rowAt stepOf
   row-one s m e = e ∙ sym (row-more s nil m ∙ then-read _)
 
-  type-yes : (j at : ℕ) {r : Step} → at < length ws → j < 6 → payOf (getD ws at 0) ≡ 0 → kindOf (getD ws at 0) ≡ 40 + j → r ≡ stepOf (rowAt ws ns n sub subS (getD typeRows j nil) (at + 1)) → r ≡ stepOf (fieldAt ws ns n sub subS TypeRef at)
-  unfolding chain
-  type-yes j at h i p k e = chain-yes 40 typeRows j at h i (omega (arith, p, k)) e
-
   -- past the words no type is
   pub type-end : (at : ℕ) → length ws ≤ at → Wrong (length ws) ≡ stepOf (fieldAt ws ns n sub subS TypeRef at)
   unfolding chain
@@ -348,27 +365,80 @@ module _ (ws ns : List ℕ) (n : ℕ) (sub : ℕ → Got Expr) (subS : ℕ → G
   -- a word that is none of the heads 40 to 45 is wrong
   pub type-no : (at : ℕ) → at < length ws → (payOf (getD ws at 0) ≡ 0 → 40 ≤ kindOf (getD ws at 0) → kindOf (getD ws at 0) ≤ 45 → ⊥) → Wrong at ≡ stepOf (fieldAt ws ns n sub subS TypeRef at)
   unfolding chain
-  type-no at h f =
-      chain-no 40 typeRows at h (λ j i e.
-      let k : kindOf (getD ws at 0) ≡ 40 + j = omega (arith, e) in
-      f (omega (arith, e)) (omega (arith, k)) (omega (arith, k, i)))
+  type-no at h f = heads-no 40 typeRows at h (λ p a b. f p a (let z : kindOf (getD ws at 0) < 46 = b in omega (arith, z)))
 
   -- 40 to 43: nothing follows
   pub type-plain : (at : ℕ) → at < length ws → payOf (getD ws at 0) ≡ 0 → 40 ≤ kindOf (getD ws at 0) → kindOf (getD ws at 0) ≤ 43 → Read (record { at = at + 1 }) ≡ stepOf (fieldAt ws ns n sub subS TypeRef at)
-  unfolding rowAt stepOf
+  unfolding chain rowAt stepOf
   type-plain at h p a b =
-      type-yes (kindOf (getD ws at 0) - 40) at h (omega arith) p (omega arith)
+      heads-go 40 typeRows (kindOf (getD ws at 0) - 40) at h (omega arith) p (omega arith)
       (rw (plain-row (kindOf (getD ws at 0) - 40) (omega arith)) refl)
 
   -- 44: a length follows
   pub type-length : (at : ℕ) {r : Step} → at < length ws → payOf (getD ws at 0) ≡ 0 → kindOf (getD ws at 0) ≡ 44 → r ≡ stepOf (wordAt ws 4 (between 0 16777216) (at + 1)) → r ≡ stepOf (fieldAt ws ns n sub subS TypeRef at)
-  unfolding fieldAt
-  type-length at h p k e = type-yes 4 at h (omega arith) p k (row-one whole (at + 1) (last word _ e))
+  unfolding chain fieldAt
+  type-length at h p k e = heads-go 40 typeRows 4 at h (omega arith) p k (row-one whole (at + 1) (last word _ e))
 
   -- 45: a name follows
   pub type-name : (at : ℕ) {r : Step} → at < length ws → payOf (getD ws at 0) ≡ 0 → kindOf (getD ws at 0) ≡ 45 → r ≡ stepOf (wordAt ws 2 (λ (x : ℕ). eqb (getD ns x 0) 1) (at + 1)) → r ≡ stepOf (fieldAt ws ns n sub subS TypeRef at)
-  unfolding fieldAt
-  type-name at h p k e = type-yes 5 at h (omega arith) p k (row-one named (at + 1) (last word _ e))
+  unfolding chain fieldAt
+  type-name at h p k e = heads-go 40 typeRows 5 at h (omega arith) p k (row-one named (at + 1) (last word _ e))
+
+  -- a target's heads
+  abbrev targetRows : List Sorts
+  targetRows = (whole & nil) ∷ (named & nil) ∷ []
+
+  -- past the words no target is
+  pub target-end : (at : ℕ) → length ws ≤ at → Wrong (length ws) ≡ stepOf (fieldAt ws ns n sub subS GotoTarget at)
+  unfolding chain
+  target-end at h = chain-end 48 targetRows at h
+
+  -- a word that is neither of the heads 48 and 49 is wrong
+  pub target-no : (at : ℕ) → at < length ws → (payOf (getD ws at 0) ≡ 0 → 48 ≤ kindOf (getD ws at 0) → kindOf (getD ws at 0) ≤ 49 → ⊥) → Wrong at ≡ stepOf (fieldAt ws ns n sub subS GotoTarget at)
+  unfolding chain
+  target-no at h f = heads-no 48 targetRows at h (λ p a b. f p a (let z : kindOf (getD ws at 0) < 50 = b in omega (arith, z)))
+
+  -- 48: a line's number follows
+  pub target-line : (at : ℕ) {r : Step} → at < length ws → payOf (getD ws at 0) ≡ 0 → kindOf (getD ws at 0) ≡ 48 → r ≡ stepOf (wordAt ws 4 (between 0 16777216) (at + 1)) → r ≡ stepOf (fieldAt ws ns n sub subS GotoTarget at)
+  unfolding chain fieldAt
+  target-line at h p k e = heads-go 48 targetRows 0 at h (omega arith) p k (row-one whole (at + 1) (last word _ e))
+
+  -- 49: a label's name follows
+  pub target-label : (at : ℕ) {r : Step} → at < length ws → payOf (getD ws at 0) ≡ 0 → kindOf (getD ws at 0) ≡ 49 → r ≡ stepOf (wordAt ws 2 (λ (x : ℕ). eqb (getD ns x 0) 1) (at + 1)) → r ≡ stepOf (fieldAt ws ns n sub subS GotoTarget at)
+  unfolding chain fieldAt
+  target-label at h p k e = heads-go 48 targetRows 1 at h (omega arith) p k (row-one named (at + 1) (last word _ e))
+
+  -- the heads of an item of PRINT
+  abbrev itemRows : List Sorts
+  itemRows = (expr & nil) ∷ nil ∷ nil ∷ []
+
+  bare-row : (j : ℕ) → 1 ≤ j → j < 3 → getD itemRows j nil ≡ nil
+  bare-row zero g h = absurd (omega arith)
+  bare-row (suc zero) g h = refl
+  bare-row (suc (suc zero)) g h = refl
+  bare-row (suc (suc (suc j))) g h = absurd (omega arith)
+
+  -- past the words no item is
+  pub item-end : (at : ℕ) → length ws ≤ at → Wrong (length ws) ≡ stepOf (fieldAt ws ns n sub subS PrintItem at)
+  unfolding chain
+  item-end at h = chain-end 32 itemRows at h
+
+  -- a word that is none of the heads 32 to 34 is wrong
+  pub item-no : (at : ℕ) → at < length ws → (payOf (getD ws at 0) ≡ 0 → 32 ≤ kindOf (getD ws at 0) → kindOf (getD ws at 0) ≤ 34 → ⊥) → Wrong at ≡ stepOf (fieldAt ws ns n sub subS PrintItem at)
+  unfolding chain
+  item-no at h f = heads-no 32 itemRows at h (λ p a b. f p a (let z : kindOf (getD ws at 0) < 35 = b in omega (arith, z)))
+
+  -- 32: an expression follows
+  pub item-expr : (at : ℕ) {r : Step} → at < length ws → payOf (getD ws at 0) ≡ 0 → kindOf (getD ws at 0) ≡ 32 → r ≡ stepOf (sub (at + 1)) → r ≡ stepOf (fieldAt ws ns n sub subS PrintItem at)
+  unfolding chain
+  item-expr at h p k e = heads-go 32 itemRows 0 at h (omega arith) p k (row-one expr (at + 1) (expr-arm (at + 1) e))
+
+  -- 33 and 34: nothing follows
+  pub item-plain : (at : ℕ) → at < length ws → payOf (getD ws at 0) ≡ 0 → 33 ≤ kindOf (getD ws at 0) → kindOf (getD ws at 0) ≤ 34 → Read (record { at = at + 1 }) ≡ stepOf (fieldAt ws ns n sub subS PrintItem at)
+  unfolding chain rowAt stepOf
+  item-plain at h p a b =
+      heads-go 32 itemRows (kindOf (getD ws at 0) - 32) at h (omega arith) p (omega arith)
+      (rw (bare-row (kindOf (getD ws at 0) - 32) (omega arith) (omega arith)) refl)
 
   -- the word is none of the heads from `first` on: it is wrong
   pub choice-no : (first count r at : ℕ) → r + count ≤ 93 → at < length ws → (payOf (getD ws at 0) ≡ 0 → first ≤ kindOf (getD ws at 0) → kindOf (getD ws at 0) - first < count → ⊥) → Wrong at ≡ stepOf (fieldAt ws ns n sub subS (chain first (take count (drop r allRows))) at)

@@ -6,7 +6,7 @@ ghost use Prim.Native.Nat.{ℕ, _<_, _≤_, _+_};
 ghost use lib.ListN.{length, getD, take, drop};
 ghost use lib.Dec.{eqb};
 ghost use mathlib.Core.List.{List, []};
-ghost use Rattle.tree.specs.Sorts.{many, opt, expr as exprSort, stmt as stmtSort, body as bodySort, TypeRef};
+ghost use Rattle.tree.specs.Sorts.{many, opt, expr as exprSort, stmt as stmtSort, body as bodySort, GotoTarget, TypeRef, PrintItem};
 ghost use Rattle.tree.specs.Tree.{between, strings};
 ghost use Rattle.tree.specs.Codes.{partCodes, stmtCodes, codes, joined, pack, sortAt, rowOf, chain, allRows};
 ghost use Rattle.tree.specs.Reader.{wordAt, neverAt, fieldAt, stmtAt, programAt};
@@ -316,6 +316,27 @@ fn type_ref(c: Cursor, words: &[u32], names: &[u8], n: u32, left: usize) -> Step
     }
 }
 
+// where GOTO goes: a line's number or a label's name, each behind its head
+fn goto_target(c: Cursor, words: &[u32], names: &[u8], n: u32, left: usize) -> Step
+    ensures { λ r. ⌜ r ≡ stepOf (fieldAt (now (words .entry)) (now (names .entry)) n (exprAt (now (words .entry)) (strings (now (names .entry)) n) left) (stmtAt (now (words .entry)) (now (names .entry)) n left) GotoTarget (c .at)) ⌝ }
+{
+    let at = c.at;
+    if words.len() <= at {
+        return Step::Wrong(words.len());
+    }
+    let w = words[at];
+    if w % 16777216 != 0 {
+        return Step::Wrong(at);
+    }
+    let next = Cursor { at: at + 1 };
+    let k = w / 16777216;
+    match k {
+        48 => mark(next, words, 4, 0, 16777216),
+        49 => next.name(words, names),
+        _ => Step::Wrong(at),
+    }
+}
+
 // a turn with no frame
 fn bare(kind: u8, at: usize) -> Turn
     ensures { λ r. ⌜ r ≡ bareOf kind at ⌝ }
@@ -521,6 +542,30 @@ fn choice(c: Cursor, words: &[u32], left: usize, first: u32, count: u32, r: usiz
     bare(2, at)
 }
 
+// an item of PRINT: a head alone, or one behind which an expression is left
+fn item(c: Cursor, words: &[u32], left: usize) -> Turn
+    ensures { λ t. ⌜ ((ns : List ℕ) (n : ℕ) → Goes (now (words .entry)) ns n (c .at) (fieldStep (now (words .entry)) ns n left PrintItem (c .at)) t) ⌝ }
+{
+    let at = c.at;
+    if words.len() <= at {
+        return bare(2, words.len());
+    }
+    let w = words[at];
+    if w % 16777216 != 0 {
+        return bare(2, at);
+    }
+    let k = w / 16777216;
+    match k {
+        32 => Turn {
+            kind: 1,
+            at: at + 1,
+            frame: one_field(9, left),
+        },
+        33 | 34 => bare(0, at + 1),
+        _ => bare(2, at),
+    }
+}
+
 // the word 0, or a row that is left
 fn optional(c: Cursor, words: &[u32], left: usize, row: usize) -> Turn
     ensures { λ r. ⌜ ((ns : List ℕ) (n : ℕ) → Turned (now (words .entry)) ns n left (c .at) (opt (rowOf row)) r) ⌝ }
@@ -559,9 +604,9 @@ fn look(c: Cursor, words: &[u32], names: &[u8], n: u32, left: usize, sort: u8) -
         8 => told(mark(c, words, 9, 0, 18)),
         9 => expression(c, words, names, n, left),
         10 => statement(c, words, left),
-        11 => choice(c, words, left, 48, 2, 22),
+        11 => told(goto_target(c, words, names, n, left)),
         12 => told(type_ref(c, words, names, n, left)),
-        13 => choice(c, words, left, 32, 3, 30),
+        13 => item(c, words, left),
         14 => choice(c, words, left, 36, 3, 33),
         15 => choice(c, words, left, 52, 3, 36),
         16..=63 => optional(c, words, left, sort as usize - 16),

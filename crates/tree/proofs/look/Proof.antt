@@ -4,7 +4,7 @@ use mathlib.Core.Logic.{inr}
 use Rattle.words.specs.Laws.{PastArms, beyond}
 use Rattle.tree.specs.Sorts.{name, text, mark}
 use Rattle.tree.specs.Frames.{goes}
-use Rattle.tree.proofs.Steps.{name-word, is-own, sort-opt, sort-many, sort-group, leaf-arm, never-arm, group-arm}
+use Rattle.tree.proofs.Steps.{name-word, is-own, is-target, is-item, sort-opt, sort-many, sort-group, leaf-arm, never-arm, group-arm}
 use Rattle.tree.proofs.Frames.{told-goes, row-same, look-arm}
 use borrow.Author.Needs.{needs}
 use Rattle.tree.proofs.look.Statement.{statement}
@@ -70,23 +70,26 @@ expression-requires c κs = search needs
 statement-requires : tie.Need-statement-requires
 statement-requires c κs = search needs
 
-choice-requires : tie.Need-choice-requires
-choice-requires c κs = search needs
-
-type-ref-requires : tie.Need-type-ref-requires
-type-ref-requires c κs = search needs
+goto-target-requires : tie.Need-goto-target-requires
+goto-target-requires c κs = search needs
 
 told-requires-10 : tie.Need-told-requires-10
 told-requires-10 c κs = search needs
 
+type-ref-requires : tie.Need-type-ref-requires
+type-ref-requires c κs = search needs
+
+told-requires-11 : tie.Need-told-requires-11
+told-requires-11 c κs = search needs
+
+item-requires : tie.Need-item-requires
+item-requires c κs = search needs
+
+choice-requires : tie.Need-choice-requires
+choice-requires c κs = search needs
+
 choice-requires-2 : tie.Need-choice-requires-2
 choice-requires-2 c κs = search needs
-
-choice-requires-3 : tie.Need-choice-requires-3
-choice-requires-3 c κs = search needs
-
-choice-requires-4 : tie.Need-choice-requires-4
-choice-requires-4 c κs = search needs
 
 sub-optional : tie.Need-sub-optional
 unfolding PastArms
@@ -141,19 +144,19 @@ returns-11 : tie.Need-returns-11
 returns-11 c = look-arm _ _ _ _ (is-own 10 (c .before .match .keys11) refl) (goes (c .statement .ensures _ _))
 
 returns-12 : tie.Need-returns-12
-returns-12 c = look-arm _ _ _ _ (is-own 11 (c .before .match .keys12) refl) (goes (c .choice .ensures _ _))
+returns-12 c = look-arm _ _ _ _ (is-target (c .before .before .match .keys12)) (goes (told-goes _ _ _ _ (c .before .goto-target .ensures) (c .told10 .ensures)))
 
 returns-13 : tie.Need-returns-13
-returns-13 c = look-arm _ _ _ _ (is-own 12 (c .before .before .match .keys13) refl) (goes (told-goes _ _ _ _ (c .before .type-ref .ensures) (c .told10 .ensures)))
+returns-13 c = look-arm _ _ _ _ (is-own 12 (c .before .before .match .keys13) refl) (goes (told-goes _ _ _ _ (c .before .type-ref .ensures) (c .told11 .ensures)))
 
 returns-14 : tie.Need-returns-14
-returns-14 c = look-arm _ _ _ _ (is-own 13 (c .before .match .keys14) refl) (goes (c .choice2 .ensures _ _))
+returns-14 c = look-arm _ _ _ _ (is-item (c .before .match .keys14)) (goes (c .item .ensures _ _))
 
 returns-15 : tie.Need-returns-15
-returns-15 c = look-arm _ _ _ _ (is-own 14 (c .before .match .keys15) refl) (goes (c .choice3 .ensures _ _))
+returns-15 c = look-arm _ _ _ _ (is-own 14 (c .before .match .keys15) refl) (goes (c .choice .ensures _ _))
 
 returns-16 : tie.Need-returns-16
-returns-16 c = look-arm _ _ _ _ (is-own 15 (c .before .match .keys16) refl) (goes (c .choice4 .ensures _ _))
+returns-16 c = look-arm _ _ _ _ (is-own 15 (c .before .match .keys16) refl) (goes (c .choice2 .ensures _ _))
 
 returns-17 : tie.Need-returns-17
 unfolding PastArms
@@ -189,12 +192,13 @@ look-spec =
     told-requires-9
     expression-requires
     statement-requires
-    choice-requires
-    type-ref-requires
+    goto-target-requires
     told-requires-10
+    type-ref-requires
+    told-requires-11
+    item-requires
+    choice-requires
     choice-requires-2
-    choice-requires-3
-    choice-requires-4
     sub-optional
     optional-requires
     sub-list

@@ -26,7 +26,7 @@ use Rattle.views.specs.View.{View, Label, LabelName, OptionBase, Const, view}
 use Rattle.steps.specs.State.{State, Step, running, stopped, _⨾_, asking, when, fits, change, enter, push}
 use Rattle.steps.specs.declared.Counts.{Counts}
 use Rattle.steps.specs.Held.{Fit, Held, Does, Notes, Rows, entering, pushing, noting}
-use Rattle.steps.specs.Compose.{Stays, then, asked, rows-does, notes-does, stays-then, stays-when, stays-pick, stays-enter, stays-push, stopped-does}
+use Rattle.steps.specs.Compose.{Stays, then, asked, rows-does, notes-does, stays-when, stays-pick, stays-enter, stays-push, stopped-does}
 use Rattle.fold.specs.Value.{literalKind, lowOf, highOf}
 use Rattle.fold.specs.declared.Fold.{Fold}
 use Rattle.fold.specs.declared.Fold.the-variants.{Is, Overflow, NotConstant}

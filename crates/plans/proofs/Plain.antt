@@ -3,7 +3,7 @@ use Prim.Native.Nat.{ℕ, _+_, _*_, _%_, _≤_, max}
 use native.Mathlib.Nat.{mul-le-mul-left, add-mul, one-mul, zero-mul}
 use native.Mathlib.Omega.{arith}
 use mathlib.Core.Path.{_≡_, refl, sym, ap, ap₂, subst, _∙_}
-use mathlib.Core.List.{List, [], _∷_, _++_, append-nil}
+use mathlib.Core.List.{List, _∷_, _++_, append-nil}
 use lib.ListN.{length, take, drop, getD, length-append}
 use lib.Seq.{take-append-seam}
 use Rattle.words.specs.Word.{wordOf, payOf}
@@ -15,7 +15,7 @@ use Rattle.tree.specs.Tree.{one, row, rows, Tree, word, list, this, that, done,
 use Rattle.tree.specs.Stands.{Stands}
 use Rattle.tree.specs.Codes.{parts, allRows, rowOf}
 use Rattle.tree.proofs.Steps.{small-row}
-use Rattle.plans.specs.Pieces.{Piece, pieces, written}
+use Rattle.plans.specs.Pieces.{pieces, written}
 use Rattle.plans.specs.Plans.{Opened, Planned, Plain, Flat}
 
 -- ---- the rows that are flat, by their numbers

@@ -1,5 +1,4 @@
 // What a field of a statement is, by its sort: some words and then rows of fields; and the scope of its bodies. A walk over statements of all kinds goes by it.
-ghost use mathlib.Core.Path.{_≡_};
 ghost use Prim.Native.Nat.{_+_, _≤_, _<_};
 ghost use mathlib.Core.Logic.{_≢_};
 ghost use lib.ListN.{take, drop};

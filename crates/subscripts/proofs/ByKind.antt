@@ -4,30 +4,27 @@ use native.Mathlib.Omega.{arith}
 use mathlib.Core.Path.{_≡_, refl, sym, ap, ap₂, subst, _∙_}
 use mathlib.Core.Bool.{Bool, true, false, not, _&&_, false≢true}
 use mathlib.Mathlib.Data.Bool.Basic.{and-elim-left, and-elim-right}
-use mathlib.Core.List.{List, [], _∷_, _++_}
-use mathlib.Core.Option.{Option, none as nothing, some}
+use mathlib.Core.List.{List}
+use mathlib.Core.Option.{Option, none as nothing}
 use lib.Dec.{eqb, ltb}
-use lib.ListN.{length, getD}
+use lib.ListN.{getD}
 use borrow.Author.Tests.{le-leb, lt-leb, ne-eqb, eqb-true, eqb-false, ltb-true, ltb-false}
-use Rattle.words.specs.Word.{kindOf, payOf}
+use Rattle.words.specs.Word.{kindOf}
 use Rattle.words.specs.Each.{tuple}
 use Rattle.expr.specs.Expr.{Expr}
 use Rattle.expr.specs.Stands as W
-use Rattle.expr.proofs.Parts.{wrote-first, pay-is}
 use Rattle.expr.proofs.Steps.{past}
-use Rattle.tree.specs.Sorts.{Sort, leaf, expr, stmt, many, group, either, never, Sorts, nil, _&_, opt, exprs, quoted, PrintItem, LValue as LValueRow, Kind, sorts, numberOf, kindAt, kinds, let′, print, input, lineInput, swap, read}
+use Rattle.tree.specs.Sorts.{Sort, leaf, expr, stmt, many, group, either, never, Sorts, nil, _&_, Kind, sorts, numberOf, kindAt, kinds}
 use Rattle.tree.specs.KindLaws.{noneOf, same-kinds}
-use Rattle.tree.specs.Tree.{strings, Shape, one, row, rows, Tree, word, value, Stmt, list, part, this, that, done, cons, none, more, wordsT, Right}
-use Rattle.tree.specs.Stands.{Stands, SomeTree}
-use Rattle.tree.proofs.Nodes.{cons-left, cons-right, cons-last, part-row, value-there}
-use Rattle.skip.specs.Shape.{SomeExpr}
+use Rattle.tree.specs.Tree.{Shape, one, row, rows, Tree, word, value, Stmt, list, part, this, that, done, cons, none, more}
+use Rattle.tree.specs.Stands.{Stands}
 use Rattle.plans.proofs.Walk.{head-kind, of-number, fields}
-use Rattle.views.specs.View.{LValue, lvalue, optional, expressions, items}
-use Rattle.views.specs.Uses.{own, plain, uses}
+use Rattle.views.specs.View.{expressions}
+use Rattle.views.specs.Uses.{plain, uses}
 use Rattle.views.specs.KindLaws.{targetKinds, uses-plain}
-use Rattle.subscripts.specs.Subscripts.{orElse, firstOf, inExpr, inLvalue, inStmt, subscriptCount}
+use Rattle.subscripts.specs.Subscripts.{orElse, inExpr, inStmt, subscriptCount}
 use Rattle.subscripts.specs.Code.{targeted}
-use Rattle.subscripts.proofs.Expressions.{orElse-none, firstOf-append}
+use Rattle.subscripts.proofs.Expressions.{orElse-none}
 
 -- the use of a name in an expression
 abbrev pub usedIn : ℕ → Expr → Option ℕ

@@ -8,7 +8,6 @@ use mathlib.Core.List.{List, [], _∷_, _++_}
 use mathlib.Core.Option.{Option, none as nothing, some}
 use lib.Dec.{eqb}
 use lib.ListN.{length, getD}
-use borrow.Author.Tests.{eq-eqb, ne-eqb}
 use Rattle.words.specs.Word.{wordOf, kindOf, payOf, pick}
 use Rattle.expr.specs.Expr.{Strings, Expr, Exprs, Lit, Var, Elem, Unary, Binary, Call, Field, Paren, none, more, many, words, wordsAll, Valid, Valids, kindE}
 use Rattle.expr.specs.Stands.{Wrote, Stands, StandsAll}
@@ -18,9 +17,9 @@ use Rattle.skip.specs.Shape.{SomeExpr, front, children, back}
 use Rattle.skip.specs.declared.Shape.{Shape}
 use Rattle.skip.proofs.Laws.{ShapedAt, inside}
 use Rattle.subscripts.specs.Subscripts.{orElse, firstOf, subscripted, inExpr, inExprs}
-use Rattle.subscripts.specs.Notes.{Mark, noted}
+use Rattle.subscripts.specs.Notes.{noted}
 use Rattle.subscripts.specs.Code.{useOf, Marks, hereOf, HereNotes, NotesExpr, SomeExprs, NotesExprs}
-use Rattle.subscripts.proofs.Marks.{noted-same, noted-none}
+use Rattle.subscripts.proofs.Marks.{noted-same}
 
 -- ---- one use or else another
 

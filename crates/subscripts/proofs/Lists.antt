@@ -17,7 +17,7 @@ use Rattle.tree.specs.Stands.{Stands, SomeTree}
 use Rattle.tree.proofs.Nodes.{cons-last, value-there, InList, in-list, in-more}
 use Rattle.skip.specs.Shape.{SomeExpr}
 use Rattle.views.specs.Uses.{own}
-use Rattle.subscripts.specs.Subscripts.{orElse, firstOf, inExpr}
+use Rattle.subscripts.specs.Subscripts.{firstOf, inExpr}
 use Rattle.subscripts.specs.Notes.{Mark, noted}
 use Rattle.subscripts.specs.Code.{Marks, NotesExpr, NotesOwn}
 use Rattle.subscripts.proofs.Marks.{noted-same}

@@ -1,14 +1,14 @@
 // `subscript_count`: how many subscripts a body gives a name the first time it subscripts it. One read-only walk notes the first uses of many names at once.
 ghost use mathlib.Core.Path.{_≡_};
-ghost use mathlib.Core.List.{List, [], _∷_};
+ghost use mathlib.Core.List.{List};
 ghost use mathlib.Core.Bool.{true, false};
 ghost use mathlib.Core.Option.{some, none};
 ghost use Prim.Native.Nat.{ℕ, _+_, _<_};
 ghost use lib.Dec.{eqb};
-ghost use lib.ListN.{length, getD};
+ghost use lib.ListN.{getD};
 ghost use Rattle.words.specs.Word.{kindOf, pick};
 ghost use Rattle.expr.specs.Expr.{Expr};
-ghost use Rattle.tree.specs.Sorts.{stmt as stmtSort, expr as exprSort, nil, _&_, exprs as exprsSort, opt, many, LValue, PrintItem, body};
+ghost use Rattle.tree.specs.Sorts.{stmt as stmtSort, expr as exprSort, nil, _&_, opt, many, LValue, PrintItem, body};
 ghost use Rattle.tree.specs.Tree.{Tree, one, row as rowShape};
 ghost use Rattle.tree.specs.Stands.{Stands, SomeTree};
 ghost use Rattle.tree.specs.Codes.{sortAt, rowOf};

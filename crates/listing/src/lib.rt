@@ -186,7 +186,7 @@ fn put_read(
     )
 }
 
-// Many words, strings or erased names, in 73,728 bytes of buffers; 1,024 rows and 1,024 diagnostics, about as many as 2,048 words can make.
+// Many words, strings or erased names, in 73,728 bytes of buffers; 1,024 rows and 1,024 diagnostics, one for two words.
 fn put_names_middle(out: &mut [u8], image: &[u8], s: Shape) -> usize
     requires { ⌜ Shaped (now image) (s .strings) (s .words) (s .erased) (s .bytes) ⌝ }
     ensures { λ r. ⌜ Wrote (listingOf (now (image .entry))) (now (out .entry)) (now (out .exit)) 0 r ⌝ }
@@ -217,7 +217,7 @@ fn put_names_middle(out: &mut [u8], image: &[u8], s: Shape) -> usize
     t.at
 }
 
-// In 33,280 bytes of buffers; 512 rows and 512 diagnostics, about as many as 1,024 words can make, so that few programs are run twice.
+// In 33,280 bytes of buffers; 512 rows and 512 diagnostics, one for two words, so that few programs are run twice.
 fn put_middle(out: &mut [u8], image: &[u8], s: Shape) -> usize
     requires { ⌜ Shaped (now image) (s .strings) (s .words) (s .erased) (s .bytes) ⌝ }
     ensures { λ r. ⌜ Wrote (listingOf (now (image .entry))) (now (out .entry)) (now (out .exit)) 0 r ⌝ }
@@ -254,7 +254,7 @@ fn put_middle(out: &mut [u8], image: &[u8], s: Shape) -> usize
     t.at
 }
 
-// Many strings or erased names, in 24,576 bytes of buffers; 256 rows, about as many as 512 words can make, and 256 diagnostics.
+// Many strings or erased names, in 24,576 bytes of buffers; 256 rows and 256 diagnostics, one for two words.
 fn put_names_small(out: &mut [u8], image: &[u8], s: Shape) -> usize
     requires { ⌜ Shaped (now image) (s .strings) (s .words) (s .erased) (s .bytes) ⌝ }
     ensures { λ r. ⌜ Wrote (listingOf (now (image .entry))) (now (out .entry)) (now (out .exit)) 0 r ⌝ }
@@ -322,7 +322,7 @@ fn put_small(out: &mut [u8], image: &[u8], s: Shape) -> usize
     t.at
 }
 
-// Many strings or erased names for so few words, in 6,144 bytes of buffers; 64 rows, about as many as 128 words can make, and 64 diagnostics.
+// Many strings or erased names for so few words, in 6,144 bytes of buffers; 64 rows and 64 diagnostics, one for two words.
 fn put_names_tiny(out: &mut [u8], image: &[u8], s: Shape) -> usize
     requires { ⌜ Shaped (now image) (s .strings) (s .words) (s .erased) (s .bytes) ⌝ }
     ensures { λ r. ⌜ Wrote (listingOf (now (image .entry))) (now (out .entry)) (now (out .exit)) 0 r ⌝ }

@@ -409,12 +409,12 @@ fn arrays_alone(
 }
 
 // The first use of a name in a body, from the notes of its uses where they have room for it.
-fn used_noted(words: &[u32], body: usize, past: usize, notes: &[usize], name: u32) -> Use
-    requires { ⌜ SomeBody (now words) body past × Told (now words) body 0 (now notes) × (name < 16777216) ⌝ }
+fn used_noted(words: &[u32], body: usize, past: usize, uses: &[usize], name: u32) -> Use
+    requires { ⌜ SomeBody (now words) body past × Told (now words) body 0 (now uses) × (name < 16777216) ⌝ }
     ensures { λ r. ⌜ ((ns : List ℕ) (n : ℕ) (v : Tree Expr (one bodySort)) → Stands (now (words .entry)) ns n body v past → useOf r ≡ subscriptCount (λ name (e : Expr). inExpr name e) name v) ⌝ }
 {
-    if 2 * name as usize + 1 < notes.len() {
-        return subscripts::first_use(notes, 0, name);
+    if 2 * name as usize + 1 < uses.len() {
+        return subscripts::first_use(uses, 0, name);
     }
     used(words, body, past, name)
 }
@@ -428,16 +428,16 @@ fn array_noted(
     line: u32,
     body: usize,
     past: usize,
-    notes: &[usize],
+    uses: &[usize],
     p: ParamAt,
 ) -> Counts
-    requires { ⌜ SomeBody (now words) body past × Told (now words) body 0 (now notes) × (p .name < 16777216) × (s .rows * width ≤ length (now b)) ⌝ }
+    requires { ⌜ SomeBody (now words) body past × Told (now words) body 0 (now uses) × (p .name < 16777216) × (s .rows * width ≤ length (now b)) ⌝ }
     ensures { λ r. ⌜ ((t : Tree Seen (one bodySort)) → BodyAt (now (words .entry)) body past t → Enters (ParamOf p) (λ q N D. arrayParam (plain N D) scope line t q) s r (now (b .entry)) (now (b .exit))) ⌝ }
 {
     if !p.array {
         return s;
     }
-    let u = used_noted(words, body, past, notes, p.name);
+    let u = used_noted(words, body, past, uses, p.name);
     ranked(b, s, scope, line, p.name, u)
 }
 
@@ -452,25 +452,25 @@ fn arrays_noted(
     past: usize,
     from: usize,
     count: u32,
-    notes: &mut [usize],
+    uses: &mut [usize],
 ) -> Counts
-    requires { ⌜ SomeBody (now words) body past × SomeParams (now words) from count × (s .rows * width ≤ length (now b)) × Blank (now notes) ⌝ }
+    requires { ⌜ SomeBody (now words) body past × SomeParams (now words) from count × (s .rows * width ≤ length (now b)) × Blank (now uses) ⌝ }
     ensures { λ r. ⌜ ((t : Tree Seen (one bodySort)) → BodyAt (now (words .entry)) body past t → Enters (ParamsAt (now (words .entry)) from count) (λ ps N D. each (arrayParam (plain N D) scope line t) ps) s r (now (b .entry)) (now (b .exit))) ⌝ }
 {
-    subscripts::first_uses(words, body, notes, 0);
+    subscripts::first_uses(words, body, uses, 0);
     let mut c = s;
     let mut at = from;
     let mut i = 0;
     while i < count {
         let p = param(words, at);
-        c = array_noted(words, b, c, scope, line, body, past, notes, p);
+        c = array_noted(words, b, c, scope, line, body, past, uses, p);
         at = p.next;
         i += 1;
     }
     c
 }
 
-// With notes for 64 names: the names of a short program come first.
+// With room for the uses of 64 names, for a program of at most 64 strings: its names have numbers below 64.
 fn few_names(
     words: &[u32],
     b: &mut [u32],
@@ -485,22 +485,11 @@ fn few_names(
     requires { ⌜ SomeBody (now words) body past × SomeParams (now words) from count × (s .rows * width ≤ length (now b)) ⌝ }
     ensures { λ r. ⌜ ((t : Tree Seen (one bodySort)) → BodyAt (now (words .entry)) body past t → Enters (ParamsAt (now (words .entry)) from count) (λ ps N D. each (arrayParam (plain N D) scope line t) ps) s r (now (b .entry)) (now (b .exit))) ⌝ }
 {
-    let mut notes = [0usize; 128];
-    arrays_noted(
-        words,
-        b,
-        s,
-        scope,
-        line,
-        body,
-        past,
-        from,
-        count,
-        &mut notes,
-    )
+    let mut uses = [0usize; 128];
+    arrays_noted(words, b, s, scope, line, body, past, from, count, &mut uses)
 }
 
-// With notes for all names that a table of strings may have.
+// With room for the uses of 1,024 names, as many as a table of strings may have.
 fn many_names(
     words: &[u32],
     b: &mut [u32],
@@ -515,19 +504,8 @@ fn many_names(
     requires { ⌜ SomeBody (now words) body past × SomeParams (now words) from count × (s .rows * width ≤ length (now b)) ⌝ }
     ensures { λ r. ⌜ ((t : Tree Seen (one bodySort)) → BodyAt (now (words .entry)) body past t → Enters (ParamsAt (now (words .entry)) from count) (λ ps N D. each (arrayParam (plain N D) scope line t) ps) s r (now (b .entry)) (now (b .exit))) ⌝ }
 {
-    let mut notes = [0usize; 2048];
-    arrays_noted(
-        words,
-        b,
-        s,
-        scope,
-        line,
-        body,
-        past,
-        from,
-        count,
-        &mut notes,
-    )
+    let mut uses = [0usize; 2048];
+    arrays_noted(words, b, s, scope, line, body, past, from, count, &mut uses)
 }
 
 // How many of the parameters are arrays.
@@ -546,7 +524,7 @@ fn arrays(words: &[u32], from: usize, count: u32) -> u32
     n
 }
 
-// The array parameters: one walk for several, since the body may be long.
+// The array parameters: one walk for two or more, since the body may be long; `few` says that there are at most 64 strings.
 fn array_params(
     words: &[u32],
     b: &mut [u32],

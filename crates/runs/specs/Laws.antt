@@ -12,7 +12,7 @@ use Rattle.table.specs.Laws.{order, order₃}
 use Rattle.table.specs.Answers.{Removed}
 use Rattle.table.specs.Buffers.{removed-holds}
 use Rattle.table.specs.Images.{holds-fits}
-use Rattle.runs.specs.Runs.{rowOf, Runs, Parted, Near, Last, Keeps, TakenOut}
+use Rattle.runs.specs.Runs.{rowOf, Parted, Near, Last, Keeps, TakenOut}
 use Rattle.runs.specs.Places.{rows-filled, each-of, each-all}
 use Rattle.runs.specs.Parts.{runs-count, row-first, row-late, both-count, both-table, holds-runs, parts-all, runs-short, runs-order, first-less, late-less}
 
@@ -75,7 +75,7 @@ module _ {rows : List Row} {n : ℕ} {buf : List ℕ} (K : Keeps rows n buf) whe
     here : K .at ≡ m → Parted rows m n buf
     here e = subst (λ (j : ℕ). Parted rows j n buf) e (K .parted)
 
-    -- there is no block before
+    -- 0 or 32 rows: the first run can't be a block shorter
     pub parted-short : m ≤ 32 → Parted rows m n buf
     parted-short h = go either
       where
@@ -107,7 +107,7 @@ module _ {rows : List Row} {n : ℕ} {buf : List ℕ} (K : Keeps rows n buf) whe
           go (inl s) = absurd (omega (arith, first-less (K .parted .runs) (m - 17) (m - 16) x y (omega arith) (omega arith) e f))
           go (inr s) = subst (λ (j : ℕ). Parted rows j n buf) (omega arith) (K .parted)
 
-    -- and then its keys rise
+    -- a last block whose keys do not rise is not the late run's (no block is so: the code's last test always holds)
     pub parted-never : (y z : ℕ) → 32 < m → y ≡ keyOf (getD buf ((m - 16) * width) 0) (getD buf ((m - 16) * width + 1) 0) → z ≡ keyOf (getD buf ((m - 1) * width) 0) (getD buf ((m - 1) * width + 1) 0)
         → z ≤ y → Parted rows m n buf
     parted-never y z long f g q = go either

@@ -1,6 +1,6 @@
 // Rows that are entered in any order. The buffer has two runs, one after the other: new rows go into the late one, so that at most 31 rows move, and
-// when it has 32 rows the two are made one. The first has whole blocks of 16 rows, all of them or all but one: so the late run can lose rows and get them
-// again, whatever their number, without a move of the others.
+// when it has 32 rows the two are made one. The first has whole blocks of 16 rows, all of them or all but one: so a few rows can be taken out and
+// entered again, however many there are in all, without the runs being made one each time.
 use table::Found;
 use table::Put;
 use table::WIDTH;
@@ -24,7 +24,8 @@ fn last_block(count: usize) -> usize
     count - count % 16
 }
 
-// How many rows are in the first run: without the last block where the order breaks before it. The last test never fails: for it the compiler branches at the one before.
+// How many rows are in the first run: without the last block where the order breaks before it. The last test always holds; it is there so that the compiler
+// makes a branch of the one before.
 fn split(b: &[u32], count: usize) -> usize
     requires { ⌜ count * width ≤ length (now b) ⌝ }
     ensures within { λ r. ⌜ r ≤ count ⌝ }

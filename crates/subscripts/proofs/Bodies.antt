@@ -6,17 +6,18 @@ use mathlib.Core.Bool.{Bool, true, false, false≢true}
 use mathlib.Core.List.{List}
 use mathlib.Core.Option.{Option, none as nothing}
 use lib.ListN.{length, getD, replicate}
-use borrow.Author.Tests.{le-leb, lt-ltb}
 use Rattle.words.specs.Word.{payOf}
 use Rattle.expr.specs.Expr.{Expr}
 use Rattle.tree.specs.Sorts.{stmt, nil, _&_, body}
 use Rattle.tree.specs.Tree.{one, row, rows, Tree, done, cons, none, more, count}
 use Rattle.tree.specs.Stands.{Stands, SomeTree}
+use Rattle.tree.specs.Memo.{zero-at}
 use Rattle.tree.proofs.Nodes.{cons-last, in-list, in-more}
 use Rattle.subscripts.specs.Subscripts.{orElse, subscriptCount}
 use Rattle.subscripts.specs.Notes.{Mark, free, taken, used, markOf, room, markAt, Noted, Blank}
 use Rattle.subscripts.specs.Code.{Marks, NotesStmt, Told}
 use Rattle.subscripts.proofs.Marks.{noted-as, noted-not, noted-wide, noted-join, used-noted}
+use Rattle.subscripts.proofs.Table.{room-there}
 use Rattle.subscripts.proofs.Expressions.{orElse-assoc, orElse-none}
 use Rattle.subscripts.proofs.ByKind.{usedIn}
 
@@ -43,16 +44,7 @@ mark-taken p (suc c) z = refl
 
 -- a table of two words has room for its first name
 pub two-room : (name : ℕ) (t : List ℕ) → length t ≡ 2 → room name t name ≡ true
-unfolding room
-two-room name t q =
-    let a : name ≤ name = omega arith in
-    let b : 2 * (name - name) + 1 < length t = omega (arith, q) in
-    rw (le-leb name name a, lt-ltb (2 * (name - name) + 1) (length t) b) refl
-
-zero-at : (k i : ℕ) → _≡_ {A = ℕ} (getD (replicate {A = ℕ} k 0) i 0) 0
-zero-at zero i = refl
-zero-at (suc k) zero = refl
-zero-at (suc k) (suc i) = zero-at k i
+two-room name t q = room-there name t name (omega arith) (omega (arith, q))
 
 -- where both words are 0, the mark is free
 pub two-free : (name : ℕ) → markAt name (replicate {A = ℕ} 2 0) name ≡ free

@@ -19,7 +19,6 @@ use Rattle.tree.specs.KindLaws.{noneOf, same-kinds}
 use Rattle.tree.specs.Tree.{Shape, one, row, rows, Tree, word, value, Stmt, list, part, this, that, done, cons, none, more}
 use Rattle.tree.specs.Stands.{Stands}
 use Rattle.plans.proofs.Walk.{head-kind, of-number, fields}
-use Rattle.views.specs.View.{expressions}
 use Rattle.views.specs.Uses.{plain, uses}
 use Rattle.views.specs.KindLaws.{targetKinds, uses-plain}
 use Rattle.subscripts.specs.Subscripts.{orElse, inExpr, inStmt, subscriptCount}

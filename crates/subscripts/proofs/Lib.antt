@@ -1,4 +1,4 @@
--- The count of subscripts, expression by expression and target by target, and the walk over statements.
+-- The laws of the notes and of their table, the uses in expressions, targets and statements as they are noted, and the walk over statements and bodies.
 pub mod Marks
 pub mod Table
 pub mod Expressions

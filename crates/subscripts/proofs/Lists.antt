@@ -3,7 +3,7 @@ use Prim.Native.Nat.{ℕ, _+_, _<_, _≤_}
 use native.Mathlib.Omega.{arith}
 use mathlib.Core.Path.{_≡_, refl, sym, ap, _∙_}
 use mathlib.Core.List.{List, [], _∷_, append-nil}
-use mathlib.Core.Option.{Option, none as nothing}
+use mathlib.Core.Option.{Option}
 use lib.ListN.{length, getD}
 use Rattle.words.specs.Word.{wordOf, kindOf, payOf}
 use Rattle.expr.specs.Expr.{Expr, Lit, Var, Elem, Unary, Binary, Call, Field, Paren, kindE}
@@ -12,7 +12,7 @@ use Rattle.expr.specs.Stands as W
 use Rattle.expr.proofs.Parts.{wrote-first, kind-is}
 use Rattle.expr.proofs.Nodes.{kind-of, within}
 use Rattle.tree.specs.Sorts.{Sorts, expr, nil, _&_, opt, many, PrintItem}
-use Rattle.tree.specs.Tree.{strings, Shape, one, row, rows, Tree, word, value, list, part, this, that, done, cons, none, more, count, wordsT, Right}
+use Rattle.tree.specs.Tree.{strings, Shape, one, row, rows, Tree, value, part, this, that, done, cons, none, more, count, wordsT, Right}
 use Rattle.tree.specs.Stands.{Stands, SomeTree}
 use Rattle.tree.proofs.Nodes.{cons-last, value-there, InList, in-list, in-more}
 use Rattle.skip.specs.Shape.{SomeExpr}

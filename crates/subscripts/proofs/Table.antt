@@ -73,7 +73,8 @@ module _ (base : ℕ) (t : List ℕ) (x : ℕ) where
   unfolding room
   room-short h g = rw (le-leb base x h, le-ltb (2 * (x - base) + 1) (length t) g) refl
 
-  room-there : base ≤ x → 2 * (x - base) + 1 < length t → room base t x ≡ true
+  -- a name whose two words are in the table has room
+  pub room-there : base ≤ x → 2 * (x - base) + 1 < length t → room base t x ≡ true
   unfolding room
   room-there h g = rw (le-leb base x h, lt-ltb (2 * (x - base) + 1) (length t) g) refl
 

@@ -3,9 +3,9 @@ use Prim.Native.Nat.{ℕ}
 use mathlib.Core.Path.{_≡_, refl}
 use mathlib.Core.List.{List, [], _∷_}
 use mathlib.Core.Option.{Option, none as nothing, some}
-use Rattle.expr.specs.Expr.{Expr, Exprs, Lit, Integer, Elem, Binary, Call, Paren, none as e0, more as e1, many}
+use Rattle.expr.specs.Expr.{Expr, Lit, Integer, Elem, Binary, Call, Paren, none as e0, more as e1, many}
 use Rattle.tree.specs.Sorts.{LValue, sorts, print, input, selectCase, call, fieldAssign}
-use Rattle.tree.specs.Tree.{Shape, Tree, one, row, rows, word, value, Stmt, list, part, this, that, done, cons, none, more}
+use Rattle.tree.specs.Tree.{Shape, Tree, row, word, value, Stmt, list, part, this, that, done, cons, none, more}
 use Rattle.views.specs.Build.{Statement, program, rowsIn, exprRows, target, letS, subS}
 use Rattle.views.specs.View.{items, rowsOf, lvalue, optional, expressions, expression}
 use Rattle.views.specs.Uses.{uses, plain, own}

@@ -1,4 +1,4 @@
--- `Subscripts` says what is counted; `Code` is what the walk promises, the others are laws and examples.
+-- `Subscripts` says what is counted; `Notes` is what the walk notes, `Code` what it promises, the others are laws and examples.
 pub mod Subscripts
 pub mod Blind
 pub mod Examples

@@ -27,8 +27,8 @@ pub struct Use {
     pub count: u32,
 }
 
-// The notes are a table with two words for each name from `base` on: the place of the statement that has the name's first use so far, or one near it that
-// orders uses within the statement, and one more than the number of its subscripts; 0 where there is none.
+// The notes are a table with two words for each name from `base` on: the place of the statement that has the name's first use so far, or one of the next
+// two, which orders the uses within the statement, and one more than the number of its subscripts; 0 where there is none.
 
 // Notes a use of the name f with n subscripts at k, unless one at k or before is there.
 fn note(t: &mut [usize], base: u32, k: usize, f: u32, n: u32)

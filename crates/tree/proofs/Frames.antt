@@ -1,8 +1,8 @@
 -- Laws of frames: their next field, their next row, and the turns that leave them. Assumes nothing.
 use Prim.Native.Nat.{ℕ, zero, suc, _+_, _-_, _*_, _/_, _%_, _<_, _≤_}
 use mathlib.Core.Path.{_≡_, refl, sym, ap, subst, _∙_}
-use mathlib.Core.List.{List, [], _∷_, _++_}
-use mathlib.Core.Logic.{_⊎_, inl, inr}
+use mathlib.Core.List.{List, [], _++_}
+use mathlib.Core.Logic.{_⊎_}
 use native.Mathlib.Omega.{arith}
 use lib.ListN.{length, getD, List·getD-map}
 use Rattle.words.specs.Word.{payOf}
@@ -18,10 +18,10 @@ use Rattle.tree.specs.Sorts.{Sort, expr, stmt, many, group, opt, Sorts, 
 use Rattle.tree.specs.Tree.{strings}
 use Rattle.tree.specs.Codes.{partCodes, stmtCodes, codes, pack, parts, allRows, rowOf, sortAt, unpack, sortsOf, unpacked}
 use Rattle.tree.specs.Reader.{wordAt, rowsAt, fieldAt, rowAt, stmtAt, programAt}
-use Rattle.tree.specs.Frames.{Past, Into, Refused, TooDeep, toldOf, restOf, againOf, fieldStep, frameAt, Goes, past, into, refused, deep as low, Turned, goes, same}
+use Rattle.tree.specs.Frames.{Into, toldOf, restOf, againOf, fieldStep, frameAt, Goes, past, into, refused, deep as low, Turned, same}
 use Rattle.tree.specs.declared.Frame.{Frame}
 use Rattle.tree.specs.declared.Turn.{Turn}
-use Rattle.tree.proofs.Steps.{then-read, is-own, row-none, row-more, row-one, rows-none, rows-more, expr-arm, leaf-arm, stmt-arm, many-go}
+use Rattle.tree.proofs.Steps.{then-read, is-own, row-more, row-one, rows-none, rows-more, expr-arm, leaf-arm, stmt-arm, many-go}
 
 -- ---- fields in one number
 

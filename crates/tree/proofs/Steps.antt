@@ -1,5 +1,5 @@
 -- Rows of fields, as a sequence of answers. Assumes nothing.
-use Prim.Native.Nat.{ℕ, zero, suc, _+_, _-_, _*_, _/_, _%_, _<_, _≤_, max}
+use Prim.Native.Nat.{ℕ, zero, suc, _+_, _-_, _<_, _≤_}
 use mathlib.Core.Path.{_≡_, refl, sym, ap, subst, _∙_}
 use mathlib.Core.List.{List, [], _∷_, _++_, map}
 use mathlib.Core.Bool.{Bool, true, false, _&&_}
@@ -8,12 +8,11 @@ use native.Mathlib.Omega.{arith}
 use native.Mathlib.Numerals.{add-one, sub-one}
 use native.Mathlib.Nat.{le-trans, le-of-eq}
 use lib.ListN.{length, getD, take, drop, drop-of-length-le, List·getD-map}
-use lib.Seq.{drop-cons}
 use lib.Dec.{ltb, leb, eqb}
-use borrow.Author.Tests.{lt-ltb, le-ltb, le-leb, lt-leb, eq-eqb, ne-eqb, ltb-true, leb-true, eqb-true}
+use borrow.Author.Tests.{lt-ltb, le-ltb, le-leb, lt-leb, eq-eqb, ne-eqb, ltb-true, leb-true}
 use Rattle.expr.specs.Expr.{Expr}
 use Rattle.words.specs.Word.{wordOf, pick, kindOf, payOf}
-use Rattle.expr.specs.Got.{Got, got, wrong, deep, bind}
+use Rattle.expr.specs.Got.{Got, got, wrong, bind}
 use Rattle.expr.specs.Reader.{leafAt, nameAt, exprAt}
 use Rattle.expr.specs.Answer.{stepOf, then}
 use Rattle.expr.specs.declared.Cursor.{Cursor}
@@ -23,8 +22,8 @@ use Rattle.expr.proofs.Steps.{step-map, step-bind, last, stop, next-leaf}
 use types.Run.{OneOf}
 use denote.Enum.Declared.{tagOf}
 use Rattle.expr.proofs.Step.{the-type}
-use Rattle.tree.specs.Sorts.{Leaf, Sort, leaf, expr, stmt, many, group, either, never, Sorts, nil, _&_, flag, whole, letter, oneOf, named, quoted, opt, exprs, body, GotoTarget, TypeRef, PrintItem, CaseClause, ResumeTarget, Kind, sorts, kinds, kindAt, lock}
-use Rattle.tree.specs.Tree.{strings, Shape, one, row, rows, Tree, word, value, Stmt, list, part, this, that, done, cons, none, more, kindL, okL, between}
+use Rattle.tree.specs.Sorts.{Leaf, Sort, leaf, expr, stmt, many, group, either, never, Sorts, nil, _&_, flag, whole, letter, oneOf, named, quoted, opt, GotoTarget, TypeRef, PrintItem, sorts, kinds, kindAt, lock}
+use Rattle.tree.specs.Tree.{strings, one, row, Tree, word, value, Stmt, list, part, this, that, kindL, okL, between}
 use Rattle.tree.specs.Codes.{parts, allRows, rowOf, singles, sortAt, decode, chain, partCodes, stmtCodes, codes, decoded}
 use Rattle.tree.specs.Reader.{wordAt, neverAt, isAt, stmtHead, rowsAt, fieldAt, rowAt, restAt, stmtAt}
 
@@ -325,11 +324,6 @@ module _ (ws ns : List ℕ) (n : ℕ) (sub : ℕ → Got Expr) (subS : ℕ → G
   pub row-more : (s : Sort) (ss : Sorts) (m : ℕ) → stepOf (rowAt ws ns n sub subS (s & ss) m) ≡ then (stepOf (fieldAt ws ns n sub subS s m)) (λ m′. stepOf (rowAt ws ns n sub subS ss m′))
   unfolding rowAt
   row-more s ss m = step-bind _ _ _ (λ v m′. step-map _ _)
-
-  -- without fields nothing is read
-  pub row-none : (c : Cursor) → stepOf (rowAt ws ns n sub subS nil (c .at)) ≡ Read c
-  unfolding rowAt stepOf
-  row-none c = refl
 
   -- a list without its head fails as the head does
   pub many-stop : (ss : Sorts) (at : ℕ) {s : Step} → s ≡ stepOf (leafAt ws 1 16777216 at) → OneOf (1 ∷ 2 ∷ []) (tagOf the-type s) → s ≡ stepOf (fieldAt ws ns n sub subS (many ss) at)

@@ -41,7 +41,8 @@ pub record Past (ws ns : List ℕ) (n : ℕ) (memo : List ℕ) (at r : ℕ) : Ty
 
 -- ---- a memo of zeros remembers nothing
 
-zero-at : (k i : ℕ) → _≡_ {A = ℕ} (getD (replicate {A = ℕ} k 0) i 0) 0
+-- a word of zeros is 0, and so is one past them
+pub zero-at : (k i : ℕ) → _≡_ {A = ℕ} (getD (replicate {A = ℕ} k 0) i 0) 0
 zero-at zero i = refl
 zero-at (suc k) zero = refl
 zero-at (suc k) (suc i) = zero-at k i

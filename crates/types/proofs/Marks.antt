@@ -9,17 +9,13 @@ use lib.ListN.{length, getD, set, replicate, length-set, length-replicate}
 use lib.Seq.{getD-set-same, getD-set-other}
 use borrow.Author.Tests.{eqb-true, eqb-false, eq-eqb, ne-eqb}
 use Rattle.words.specs.Word.{pick}
+use Rattle.tree.specs.Memo.{zero-at}
 use Rattle.views.specs.View.{head, arg, FieldDecl}
 use Rattle.table.specs.Rows.{Row}
 use Rattle.table.specs.Laws.{pick-true, pick-false}
 use Rattle.runs.specs.Runs.{Keeps}
 use Rattle.types.specs.Types.{typeCode, said, codeOf, fieldCode, Below, Marks, Codes}
 use Rattle.types.proofs.Laws.{said-kept, said-rejected}
-
-zero-at : (n x : ℕ) → _≡_ {A = ℕ} (getD (replicate {A = ℕ} n 0) x 0) 0
-zero-at zero x = refl
-zero-at (suc n) zero = refl
-zero-at (suc n) (suc x) = zero-at n x
 
 -- at first all are 0
 pub below-one : (n : ℕ) → n ≡ 1024 → Below 1 (replicate {A = ℕ} n 0)

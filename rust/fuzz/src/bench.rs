@@ -24,7 +24,7 @@ pub enum Made {
 }
 
 impl Made {
-    fn listing<'a>(&'a self, lent: &'a [u8]) -> &'a [u8] {
+    pub fn listing<'a>(&'a self, lent: &'a [u8]) -> &'a [u8] {
         match self {
             Made::Lent(length) => &lent[..*length],
             Made::Own(bytes) => bytes,
@@ -96,7 +96,7 @@ fn middle<T: Copy>(mut all: Vec<T>, order: impl FnMut(&T, &T) -> std::cmp::Order
 const SAMPLE: Duration = Duration::from_micros(20);
 
 /// The median time of a side's call on an image, each sample being the mean of a few calls.
-fn time(side: &Side, file: &[u8], out: &mut [u8], runs: usize) -> Duration {
+pub fn time(side: &Side, file: &[u8], out: &mut [u8], runs: usize) -> Duration {
     let mut sample = |calls: u32| {
         let mut made = Vec::with_capacity(calls as usize);
         let start = Instant::now();
@@ -381,7 +381,20 @@ fn found() -> Vec<(&'static str, Raw)> {
             "one array, DIMmed 1,150 times, the last of 1,000 erased names",
             image::build(&again(999, 1_150), &names(1_000), &[]),
         ),
+        (
+            "274 line numbers, mixed",
+            plain(line_numbers((0..274).map(mixed))),
+        ),
+        (
+            "TYPEs of two fields and of none in turn, 1,017 of 1,000 names, mixed",
+            plain(fields_in_turn()),
+        ),
+        (
+            "SUBs, 877 of 500 names, mixed, of one parameter each",
+            plain(subs_again()),
+        ),
         ("18 OPTION BASE", plain(bases(18))),
+        ("128 OPTION BASE", plain(bases(128))),
         (
             "730 OPTION BASE after 140 line numbers",
             plain(line_numbers(0..140).into_iter().chain(bases(730)).collect()),
@@ -391,11 +404,60 @@ fn found() -> Vec<(&'static str, Raw)> {
             image::build(&[], &[], &(0..66).map(long_name).collect::<Vec<_>>()),
         ),
         ("ON GOTO of 2,300 line numbers", one(on_goto(2_300))),
+        (
+            "ON GOTO of 283 line numbers, four times",
+            plain(vec![at(1, on_goto(283)); 4]),
+        ),
+        (
+            "PRINT of 1,500 empty items, twice",
+            plain(vec![at(1, print(1_500)); 2]),
+        ),
     ]
 }
 
-/// Refused programs, which the original's side decodes up to what is wrong. Each is just past a size by which the proved side chooses its buffers, or as large
-/// as may be.
+/// A number below 1,000, spread over them all.
+fn mixed(n: usize) -> usize {
+    n * 1_031 % 8_192 % 1_000
+}
+
+/// TYPEs of two fixed strings and TYPEs without fields in turn, on lines of eight digits.
+fn fields_in_turn() -> Vec<Stmt> {
+    let field = |i| FieldDecl {
+        name: name_of(i),
+        ty: TypeRef::FixedString(5),
+    };
+    let fields = |n| (0..2 * ((n + 1) % 2)).map(field).collect();
+    (0..1_017)
+        .map(|n| at(16_000_000 + n, type_of(mixed(n), fields(n))))
+        .collect()
+}
+
+/// SUBs of one parameter, about half of them defined before, on lines of eight digits.
+fn subs_again() -> Vec<Stmt> {
+    let param = |n| Param {
+        name: name_of(n),
+        byval: true,
+        array: false,
+        ty: Some(TypeRef::Integer),
+    };
+    (0..877)
+        .map(|n| mixed(n) % 500)
+        .map(|n| at(16_000_000 + n, sub_of(n, vec![param(n)], vec![])))
+        .collect()
+}
+
+fn print(count: usize) -> StmtKind {
+    StmtKind::Print {
+        file_num: None,
+        items: vec![PrintItem::Empty; count],
+        newline: true,
+        using: None,
+        write: false,
+    }
+}
+
+/// Refused programs, which the original's side decodes up to what is wrong: the smallest, those just past a size by which the proved side chooses its buffers,
+/// and the largest.
 fn refused() -> Vec<(&'static str, Raw)> {
     let sized = |words: usize, strings: usize, erased: u32| {
         let program: Vec<Stmt> = (1..words).map(|n| at(n, StmtKind::Cls)).collect();
@@ -453,6 +515,7 @@ fn refused() -> Vec<(&'static str, Raw)> {
             "refused: 513 words, 65 strings, the first wrong",
             string(513, 65, 0),
         ),
+        ("refused: 1,025 words, the first wrong", word(1_025, 0, 0)),
         ("refused: 2,049 words, the first wrong", word(2_049, 0, 0)),
         ("refused: 8,192 words, the first wrong", word(8_192, 0, 0)),
         ("refused: 8,192 words, a string, wrong", string(8_192, 1, 0)),

@@ -12,6 +12,8 @@ pub mod judged;
 pub mod limit;
 pub mod program;
 pub mod rng;
+#[cfg(all(original, analyser))]
+pub mod slow;
 
 use image::raw::Raw;
 use rng::Rng;

@@ -21,12 +21,12 @@ use Rattle.procedures.proofs.arrays_noted.Statement.{statement}
 use Rattle.procedures.proofs.arrays_noted.Tie as tie
 
 abbrev Inv-loop : tie.InvT-loop
-Inv-loop words b₀ scope line body past from count notes c₀ at₀ i₀ b c at i =
+Inv-loop words b₀ scope line body past from count uses c₀ at₀ i₀ b c at i =
     (length b ≡ length b₀) × (c .notes ≡ c₀ .notes) × (c .rows * width ≤ length b)
     × ((t : Tree Seen (one bodySort)) → BodyAt words body past t → Walked (λ ps. (d : List ℕ) → c₀ .notes * noteWidth ≤ length d → Does (λ N D. each (arrayParam (plain N D) scope line t) ps) c₀ c b₀ d b d) words from count at i)
 
 abbrev μ-loop : tie.MeasureT-loop
-μ-loop words b₀ scope line body past from count notes c₀ at₀ i₀ b c at i = count - i
+μ-loop words b₀ scope line body past from count uses c₀ at₀ i₀ b c at i = count - i
 
 first-uses-requires : tie.Need-first-uses-requires Inv-loop μ-loop
 first-uses-requires c κs = (body-tree (c .before .before .before .before .pre .0), c .before .before .before .before .pre .3)

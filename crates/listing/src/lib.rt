@@ -396,11 +396,48 @@ fn put_tiny(out: &mut [u8], image: &[u8], s: Shape) -> usize
     t.at
 }
 
+// In 472 bytes of buffers; 8 rows and 4 diagnostics.
+fn put_least(out: &mut [u8], image: &[u8], s: Shape) -> usize
+    requires { ⌜ Shaped (now image) (s .strings) (s .words) (s .erased) (s .bytes) ⌝ }
+    ensures { λ r. ⌜ Wrote (listingOf (now (image .entry))) (now (out .entry)) (now (out .exit)) 0 r ⌝ }
+{
+    if 16 < s.words {
+        return put_tiny(out, image, s);
+    }
+    if 8 < s.strings {
+        return put_tiny(out, image, s);
+    }
+    if 4 < s.erased {
+        return put_tiny(out, image, s);
+    }
+    let mut ends = [0u32; 8];
+    let mut words = [0u32; 16];
+    let mut erased = [0u32; 4];
+    let mut notes = [0u32; 24];
+    let mut rows = [0u32; 48];
+    let mut resolved = [0u32; 16];
+    let t = put_read(
+        out,
+        image,
+        s,
+        &mut ends,
+        &mut words,
+        &mut erased,
+        &mut notes,
+        &mut rows,
+        &mut resolved,
+    );
+    if t.short {
+        return put_tiny(out, image, s);
+    }
+    t.at
+}
+
 fn put_listing(out: &mut [u8], image: &[u8]) -> usize
     ensures { λ r. ⌜ Wrote (listingOf (now (image .entry))) (now (out .entry)) (now (out .exit)) 0 r ⌝ }
 {
     match open(image) {
-        Opened::Whole(s) => put_tiny(out, image, s),
+        Opened::Whole(s) => put_least(out, image, s),
         Opened::Malformed => put_refusal(out, 5),
     }
 }

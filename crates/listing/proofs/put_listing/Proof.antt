@@ -12,8 +12,8 @@ open-requires c κs = search needs
 enum-known-s : tie.Need-enum-known-s
 enum-known-s c = search needs
 
-put-tiny-requires : tie.Need-put-tiny-requires
-put-tiny-requires c κs = shaped (c .before .before .before .before .before .before .before .args .image .now) (c .before .before .s .given .0 .0) (sym (c .before .before .s .given .1) ∙ c .before .before .before .before .open .ensures)
+put-least-requires : tie.Need-put-least-requires
+put-least-requires c κs = shaped (c .before .before .before .before .before .before .before .args .image .now) (c .before .before .s .given .0 .0) (sym (c .before .before .s .given .1) ∙ c .before .before .before .before .open .ensures)
 
 enum-told : tie.Need-enum-told
 enum-told c = search needs
@@ -39,7 +39,7 @@ put-listing-spec =
     (tie.spec
     open-requires
     enum-known-s
-    put-tiny-requires
+    put-least-requires
     enum-told
     put-refusal-requires
     same-length

@@ -1,4 +1,5 @@
 -- `used_noted`: the notes have the first use where they have room for the name, else the body is asked. Assumes nothing.
+use native.Mathlib.Omega.{arith}
 use mathlib.Core.Path.{_∙_}
 use borrow.Author.Needs.{needs}
 use Rattle.procedures.proofs.Noted.{room-below}
@@ -12,7 +13,7 @@ add-if1 : tie.Need-add-if1
 add-if1 c = search needs
 
 first-use-requires : tie.Need-first-use-requires
-first-use-requires c κs = room-below _ _ (c .if1 .taken)
+first-use-requires c κs = room-below _ _ (omega (arith, c .if1 .taken))
 
 returns : tie.Need-returns
 returns c = λ ns n v s. c .first-use .ensures ∙ c .before .before .before .before .pre .1 .gives ns n v _ s _ (room-below _ _ (c .before .if1 .taken))

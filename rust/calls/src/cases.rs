@@ -181,19 +181,7 @@ fn cause(case: &mut Case, cause: u32) -> bool {
             case.raw.tree[last - usize::from(literal)] = WRONG;
         }
         // a hundred levels and a right head below, before the wrong word if there is one
-        3 if tree => {
-            let list = matches!(entry, ResolveArgs);
-            let expr = [vec![PAREN; 100], LITERAL.to_vec()].concat();
-            let wrong = case.raw.tree.contains(&WRONG);
-            case.raw.tree = match entry {
-                ReadExpression | Expression | PastExpression | ConstEval | ResolveExpr => expr,
-                _ if list => [vec![1 << 24 | 1], expr].concat(),
-                _ => [vec![1 << 24 | 1], nested(100), vec![CLS]].concat(),
-            };
-            if wrong {
-                case.raw.tree.push(WRONG);
-            }
-        }
+        3 if tree => deepen(case),
         4 if whole => case.raw.erased = vec![1, 1],
         6 if rows => case.rows[0] = 1,
         7 if matches!(entry, Collect | Analyse) => case.rows.truncate(5),
@@ -212,6 +200,23 @@ fn cause(case: &mut Case, cause: u32) -> bool {
         _ => return false,
     }
     true
+}
+
+/// A hundred levels in place of the tree, and behind them the wrong word if there was one.
+fn deepen(case: &mut Case) {
+    use Entry::*;
+    let entry = case.entry;
+    let list = matches!(entry, ResolveArgs);
+    let expr = [vec![PAREN; 100], LITERAL.to_vec()].concat();
+    let wrong = case.raw.tree.contains(&WRONG);
+    case.raw.tree = match entry {
+        ReadExpression | Expression | PastExpression | ConstEval | ResolveExpr => expr,
+        _ if list => [vec![1 << 24 | 1], expr].concat(),
+        _ => [vec![1 << 24 | 1], nested(100), vec![CLS]].concat(),
+    };
+    if wrong {
+        case.raw.tree.push(WRONG);
+    }
 }
 
 /// DO loops in one another, so many, the innermost with one statement to come.
@@ -255,42 +260,47 @@ fn pairs_of_causes(to: &mut Vec<Case>) {
 
 // ---- R-IN-06, R-IN-07: each size at its limit and one past it
 
+/// Each sized input, so many past its limit.
+fn sized(to: &mut Vec<Case>, over: usize) {
+    let mut raw = table(&["A"]);
+    raw.tree = vec![CLS; 8192 + over];
+    raw.tree[0] = 1 << 24 | (8191 + over as u32);
+    to.push(Case::new(
+        format!("{} words", 8192 + over),
+        Entry::Accept,
+        &[],
+        &raw,
+    ));
+    let texts: Vec<String> = (0..1024 + over).map(|i| format!("A{i:05}")).collect();
+    let mut raw = table(&texts.iter().map(String::as_str).collect::<Vec<_>>());
+    raw.tree = vec![1 << 24];
+    to.push(Case::new(
+        format!("{} strings", 1024 + over),
+        Entry::Builtin,
+        &[5],
+        &raw,
+    ));
+    raw.erased = (0..1024 + over as u32).collect();
+    raw.ends.truncate(1024);
+    raw.bytes.truncate(6 * 1024);
+    if over == 1 {
+        raw.erased.push(7);
+    }
+    to.push(Case::new(
+        format!("{} erased", 1024 + over),
+        Entry::Accept,
+        &[],
+        &raw,
+    ));
+    let mut raw = Raw::default();
+    raw.set_strings(&[vec![b'A'; 16384 + over]]);
+    let label = format!("{} bytes", 16384 + over);
+    to.push(Case::new(label, Entry::TypeWords, &[41, 0], &raw));
+}
+
 fn sizes(to: &mut Vec<Case>) {
     for over in [0, 1] {
-        let mut raw = table(&["A"]);
-        raw.tree = vec![CLS; 8192 + over];
-        raw.tree[0] = 1 << 24 | (8191 + over as u32);
-        to.push(Case::new(
-            format!("{} words", 8192 + over),
-            Entry::Accept,
-            &[],
-            &raw,
-        ));
-        let texts: Vec<String> = (0..1024 + over).map(|i| format!("A{i:05}")).collect();
-        let mut raw = table(&texts.iter().map(String::as_str).collect::<Vec<_>>());
-        raw.tree = vec![1 << 24];
-        to.push(Case::new(
-            format!("{} strings", 1024 + over),
-            Entry::Builtin,
-            &[5],
-            &raw,
-        ));
-        raw.erased = (0..1024 + over as u32).collect();
-        raw.ends.truncate(1024);
-        raw.bytes.truncate(6 * 1024);
-        if over == 1 {
-            raw.erased.push(7);
-        }
-        to.push(Case::new(
-            format!("{} erased", 1024 + over),
-            Entry::Accept,
-            &[],
-            &raw,
-        ));
-        let mut raw = Raw::default();
-        raw.set_strings(&[vec![b'A'; 16384 + over]]);
-        let label = format!("{} bytes", 16384 + over);
-        to.push(Case::new(label, Entry::TypeWords, &[41, 0], &raw));
+        sized(to, over);
     }
     // rows, diagnostics and outputs have no limit
     let mut case = right(
@@ -303,6 +313,20 @@ fn sizes(to: &mut Vec<Case>) {
 }
 
 // ---- R-ENT-06 to R-ENT-08: every place of a tree, and past its end
+
+/// The entries that resolve, at every place of the tree.
+fn resolved_places(to: &mut Vec<Case>, raw: &Raw) {
+    for at in 0..raw.tree.len() as u32 + 3 {
+        for (entry, numbers) in [
+            (Entry::ResolveExpr, [0, 0, at]),
+            (Entry::ResolveArgs, [0, 0, at]),
+        ] {
+            let mut case = Case::new(format!("{entry:?} at {at}"), entry, &numbers, raw);
+            case.out = vec![DIRT; 14];
+            to.push(case);
+        }
+    }
+}
 
 fn places(to: &mut Vec<Case>) {
     let raw = program(
@@ -331,16 +355,7 @@ fn places(to: &mut Vec<Case>) {
             &raw,
         ));
     }
-    for at in 0..raw.tree.len() as u32 + 3 {
-        for (entry, numbers) in [
-            (Entry::ResolveExpr, [0, 0, at]),
-            (Entry::ResolveArgs, [0, 0, at]),
-        ] {
-            let mut case = Case::new(format!("{entry:?} at {at}"), entry, &numbers, &raw);
-            case.out = vec![DIRT; 14];
-            to.push(case);
-        }
-    }
+    resolved_places(to, &raw);
     // a float that isn't finite is told at its high word
     let mut raw = table(&["A"]);
     raw.tree = vec![DIRT, 16 << 24, 27 << 24, 0, 0x7ff0_0000, DIRT];
@@ -386,6 +401,13 @@ fn whole_trees(to: &mut Vec<Case>) {
 // ---- R-DEP-06: depth counts from the reading place
 
 fn depths(to: &mut Vec<Case>) {
+    deep_pairs(to);
+    first_faults(to);
+    deep_loops(to);
+}
+
+/// Parentheses about the limit, from the tree's first word and from a later one.
+fn deep_pairs(to: &mut Vec<Case>) {
     for (pairs, deepest) in [(98, 0), (99, 0), (100, 0), (100, 1), (101, 0)] {
         for before in [0, 3] {
             let inner = if deepest == 1 { [9 << 24; 3] } else { LITERAL };
@@ -413,7 +435,10 @@ fn depths(to: &mut Vec<Case>) {
             }
         }
     }
-    // the first fault decides: a wrong word before the deep head, and after it
+}
+
+/// The first fault decides: a wrong word before the deep head, and after it.
+fn first_faults(to: &mut Vec<Case>) {
     let deep = [vec![PAREN; 100], LITERAL.to_vec()].concat();
     for (label, sides) in [
         ("wrong before deep", [vec![WRONG], deep.clone()]),
@@ -436,6 +461,10 @@ fn depths(to: &mut Vec<Case>) {
             ));
         }
     }
+}
+
+/// Loops about the limit.
+fn deep_loops(to: &mut Vec<Case>) {
     for levels in [98, 99, 100] {
         let last = [[CLS].to_vec(), vec![DIRT; 2]].concat();
         let mut raw = table(&["A"]);
@@ -473,61 +502,65 @@ fn over(label: String, entry: Entry, rows: Vec<u32>) -> Case {
     case
 }
 
+/// Right rows of every kind: kind, name and words.
+const RIGHT_ROWS: [(u32, u32, &[u32]); 24] = [
+    (128, 0, &[0, 2, 0, 0, 0]),
+    (129, 1, &[0, 0, 0, 0, 0]),
+    (130, 1, &[0, 8, 3, 0, 0]),
+    (131, 1, &[0, 2, 4, 40, 0]),
+    (131, 1, &[0, 2, 4, 44, 9]),
+    (131, 1, &[0, 2, 4, 45, 3]),
+    (132, 1, &[0, 24, 5, 0, 0]),
+    (132, 1, &[0, 25, 5, 0, 0]),
+    (132, 1, &[0, 26, 5, 0, 0]),
+    (132, 1, &[0, 27, 5, 0, 0]),
+    (132, 1, &[0, 28, 0, 0, 0]),
+    (133, 1, &[2, 1, 3, 1, 0]),
+    (134, 1, &[2, 41, 0, 0, 0]),
+    (134, 1, &[2, 44, 7, 0, 0]),
+    (135, 1, &[0, 1, 3, 0, 0]),
+    (135, 1, &[0, 0, 3, 43, 0]),
+    (136, 1, &[0, 2, 3, 0, 0]),
+    (137, 1, &[1, 0, 0, 0, 0]),
+    (138, 1, &[2, 3, 0, 0, 0]),
+    (139, 1, &[2, 3, 0, 0, 0]),
+    (140, 1, &[0, 0, 0, 0, 0]),
+    (141, 1, &[0, 0, 0, 0, 0]),
+    (142, 1, &[2, 0, 0, 0, 0]),
+    (143, 0, &[0, 1, 0, 0, 0]),
+];
+
+/// What each word of them is set to.
+const VALUES: [u32; 24] = [
+    0,
+    1,
+    2,
+    3,
+    4,
+    5,
+    6,
+    39,
+    40,
+    43,
+    44,
+    45,
+    46,
+    65_535,
+    65_536,
+    16_777_215,
+    16_777_216,
+    0x7fef_ffff,
+    0x7ff0_0000,
+    0x7fff_ffff,
+    0x8000_0000,
+    0x8000_0001,
+    0xfff0_0000,
+    u32::MAX,
+];
+
 fn rules(to: &mut Vec<Case>) {
-    let rights: [(u32, u32, &[u32]); 24] = [
-        (128, 0, &[0, 2, 0, 0, 0]),
-        (129, 1, &[0, 0, 0, 0, 0]),
-        (130, 1, &[0, 8, 3, 0, 0]),
-        (131, 1, &[0, 2, 4, 40, 0]),
-        (131, 1, &[0, 2, 4, 44, 9]),
-        (131, 1, &[0, 2, 4, 45, 3]),
-        (132, 1, &[0, 24, 5, 0, 0]),
-        (132, 1, &[0, 25, 5, 0, 0]),
-        (132, 1, &[0, 26, 5, 0, 0]),
-        (132, 1, &[0, 27, 5, 0, 0]),
-        (132, 1, &[0, 28, 0, 0, 0]),
-        (133, 1, &[2, 1, 3, 1, 0]),
-        (134, 1, &[2, 41, 0, 0, 0]),
-        (134, 1, &[2, 44, 7, 0, 0]),
-        (135, 1, &[0, 1, 3, 0, 0]),
-        (135, 1, &[0, 0, 3, 43, 0]),
-        (136, 1, &[0, 2, 3, 0, 0]),
-        (137, 1, &[1, 0, 0, 0, 0]),
-        (138, 1, &[2, 3, 0, 0, 0]),
-        (139, 1, &[2, 3, 0, 0, 0]),
-        (140, 1, &[0, 0, 0, 0, 0]),
-        (141, 1, &[0, 0, 0, 0, 0]),
-        (142, 1, &[2, 0, 0, 0, 0]),
-        (143, 0, &[0, 1, 0, 0, 0]),
-    ];
-    const VALUES: [u32; 24] = [
-        0,
-        1,
-        2,
-        3,
-        4,
-        5,
-        6,
-        39,
-        40,
-        43,
-        44,
-        45,
-        46,
-        65_535,
-        65_536,
-        16_777_215,
-        16_777_216,
-        0x7fef_ffff,
-        0x7ff0_0000,
-        0x7fff_ffff,
-        0x8000_0000,
-        0x8000_0001,
-        0xfff0_0000,
-        u32::MAX,
-    ];
     let mut entries = OVER_ROWS.iter().cycle();
-    for (kind, name, words) in rights {
+    for (kind, name, words) in RIGHT_ROWS {
         for payload in [0, 1, 2, 4, 5, 0x00ff_ffff] {
             let rows = row(kind, payload, words).to_vec();
             let entry = *entries.next().expect("a cycle");
@@ -547,7 +580,15 @@ fn rules(to: &mut Vec<Case>) {
             }
         }
     }
-    // whole numbers of 64 bits at their ends, and one past them
+    whole_numbers(to);
+    for kind in [0, 127, 144, 255] {
+        let rows = row(kind, 1, &[]).to_vec();
+        to.push(over(format!("a row of kind {kind}"), Entry::TypedVar, rows));
+    }
+}
+
+/// Whole numbers of 64 bits at their ends, and one past them.
+fn whole_numbers(to: &mut Vec<Case>) {
     for kind in [24, 25] {
         for value in [
             -2_147_483_649i64,
@@ -563,20 +604,23 @@ fn rules(to: &mut Vec<Case>) {
             to.push(over(label, Entry::ConstEval, rows.to_vec()));
         }
     }
-    for kind in [0, 127, 144, 255] {
-        let rows = row(kind, 1, &[]).to_vec();
-        to.push(over(format!("a row of kind {kind}"), Entry::TypedVar, rows));
-    }
 }
 
 // ---- R-ROW-15, R-ROW-16: the order of rows, zeros behind them, and no row against another
 
-fn orders_and_tails(to: &mut Vec<Case>) {
-    let a = row(133, 1, &[0, 1, 1, 0, 0]);
+/// Words that are lent as rows, and what they are.
+type Labelled = (&'static str, Vec<u32>);
+
+/// The row that others come before or behind.
+const ARRAY_ROW: Row = [133 << 24 | 1, 0, 1, 1, 0, 0];
+
+/// Rows in each order, and zero rows among them.
+fn orders() -> Vec<Labelled> {
+    let a = ARRAY_ROW;
     let b = row(133, 1, &[2, 1, 1, 0, 0]);
     let c = row(134, 2, &[0, 40, 0, 0, 0]);
     let zero = [0; 6];
-    let mut tables: Vec<(&str, Vec<u32>)> = vec![
+    vec![
         ("three rows", [a, b, c].concat()),
         ("falling", [a, c, b].concat()),
         ("falling at once", [b, a].concat()),
@@ -589,6 +633,12 @@ fn orders_and_tails(to: &mut Vec<Case>) {
             "a first word of 0, others not",
             [a, [0, 0, 0, 0, 0, 1]].concat(),
         ),
+    ]
+}
+
+/// Rows that lack others beside them, and no row at all.
+fn lone_rows() -> Vec<Labelled> {
+    vec![
         (
             "a field without its TYPE",
             row(131, 1, &[0, 2, 0, 40, 0]).to_vec(),
@@ -610,7 +660,13 @@ fn orders_and_tails(to: &mut Vec<Case>) {
             row(134, 1, &[0, 45, 3, 0, 0]).to_vec(),
         ),
         ("no words", vec![]),
-    ];
+    ]
+}
+
+/// Words that aren't a whole row, behind one and alone.
+fn tails() -> Vec<Labelled> {
+    let a = ARRAY_ROW;
+    let mut tables: Vec<Labelled> = Vec::new();
     for more in 1..6 {
         for last in [0, 1] {
             let mut words = a.to_vec();
@@ -626,6 +682,11 @@ fn orders_and_tails(to: &mut Vec<Case>) {
         tables.push(("too few words for one row, zero", vec![0; more]));
         tables.push(("too few words for one row", a[..more].to_vec()));
     }
+    tables
+}
+
+fn orders_and_tails(to: &mut Vec<Case>) {
+    let tables = [orders(), lone_rows(), tails()].concat();
     for (label, words) in tables {
         for entry in OVER_ROWS {
             let label = format!("{label} ({} words), {entry:?}", words.len());
@@ -676,11 +737,14 @@ fn names_and_scopes(to: &mut Vec<Case>) {
 
 // ---- R-LK-03 to R-LK-07, R-LK-11: own and module's entries, shared by each mark, DEF FN, STATIC
 
-fn visible(to: &mut Vec<Case>) {
-    let raw = table(&[
-        "ALL", "ARR", "BOTH", "FN", "MINE", "ONLY", "P", "Q", "R", "SA", "SV", "VAR", "VA", "NONE",
-    ]);
-    let n = |s: &str| number(&raw, s);
+/// The names that are looked up.
+const NAMED: [&str; 10] = [
+    "ALL", "ARR", "BOTH", "SA", "SV", "VA", "VAR", "NONE", "MINE", "ONLY",
+];
+
+/// The rows among which they are.
+fn visible_rows(raw: &Raw) -> Vec<u32> {
+    let n = |s: &str| number(raw, s);
     let scope = |s: &str| n(s) + 1;
     let mut rows = vec![
         row(135, n("P"), &[0, 0, 1, 0, 0]),
@@ -710,18 +774,24 @@ fn visible(to: &mut Vec<Case>) {
         row(139, n("VA"), &[scope("P"), 3]),
         row(139, n("NONE"), &[0, 3]),
     ];
-    let named = [
-        "ALL", "ARR", "BOTH", "SA", "SV", "VA", "VAR", "NONE", "MINE", "ONLY",
-    ];
-    for (i, name) in (1..).zip(named) {
+    for (i, name) in (1..).zip(NAMED) {
         rows.push(row(134, n(name), &[0, 45, n("R"), 0, 0]));
         rows.push(row(133, n(name), &[0, i, i, i % 2, 0]));
     }
     // those of one scope alone
     rows.retain(|r| !([n("MINE"), n("ONLY")].contains(&(r[0] & 0x00ff_ffff)) && r[1] == 0));
-    let rows = laid(rows);
+    laid(rows)
+}
+
+fn visible(to: &mut Vec<Case>) {
+    let raw = table(&[
+        "ALL", "ARR", "BOTH", "FN", "MINE", "ONLY", "P", "Q", "R", "SA", "SV", "VAR", "VA", "NONE",
+    ]);
+    let n = |s: &str| number(&raw, s);
+    let scope = |s: &str| n(s) + 1;
+    let rows = visible_rows(&raw);
     for proc in ["P", "Q", "R", "FN", "NONE"] {
-        for name in named {
+        for name in NAMED {
             for array in [0, 1] {
                 for entry in [Entry::Shares, Entry::IsStatic] {
                     let label = format!("{entry:?} {proc} {name} {array}");
@@ -735,7 +805,7 @@ fn visible(to: &mut Vec<Case>) {
     }
     for within in ["", "P", "Q", "R", "FN"] {
         let a = if within.is_empty() { 0 } else { scope(within) };
-        for name in named.iter().chain(&["P"]) {
+        for name in NAMED.iter().chain(&["P"]) {
             for entry in [
                 Entry::TypedVar,
                 Entry::TypedVarIn,
@@ -757,7 +827,13 @@ fn types(to: &mut Vec<Case>) {
     let raw = table(&[
         "A", "A!", "A#", "A$", "A%", "A&", "BIG", "EMPTY", "P", "REC",
     ]);
-    let n = |s: &str| number(&raw, s);
+    sizes_of_types(to, &raw);
+    held_types(to, &raw);
+}
+
+/// The words that a value of each type takes.
+fn sizes_of_types(to: &mut Vec<Case>, raw: &Raw) {
+    let n = |s: &str| number(raw, s);
     let records = vec![
         row(130, n("BIG"), &[0, 65_535, 1]),
         row(130, n("EMPTY"), &[]),
@@ -780,17 +856,22 @@ fn types(to: &mut Vec<Case>) {
         (45, n("A$")),
     ] {
         let label = format!("type_words {head} {arg}");
-        let mut case = Case::new(label, Entry::TypeWords, &[head, arg], &raw);
+        let mut case = Case::new(label, Entry::TypeWords, &[head, arg], raw);
         case.rows = laid(records.clone());
         to.push(case);
     }
+}
+
+/// The type that a name holds, by its suffix, by AS and where it is shared.
+fn held_types(to: &mut Vec<Case>, raw: &Raw) {
+    let n = |s: &str| number(raw, s);
     for name in ["A", "A!", "A#", "A$", "A%", "A&"] {
         let a = n(name);
         let mut case = Case::new(
             format!("suffix of {name}"),
             Entry::DeclaredType,
             &[0, a],
-            &raw,
+            raw,
         );
         to.push(case.clone());
         for (head, arg) in [
@@ -860,9 +941,18 @@ fn constant(expr: &str) -> Raw {
     ))
 }
 
-fn folds(to: &mut Vec<Case>) {
-    let binary = |op: &str, l: &str, r: &str| format!("(Binary op={op} left={l} right={r})");
-    let negated = |e: &str| format!("(Unary op=Neg operand={e})");
+/// A binary operation, as text.
+fn binary(op: &str, l: &str, r: &str) -> String {
+    format!("(Binary op={op} left={l} right={r})")
+}
+
+/// A negation, as text.
+fn negated(e: &str) -> String {
+    format!("(Unary op=Neg operand={e})")
+}
+
+/// The expressions that are folded.
+fn folded() -> Vec<String> {
     let mut exprs: Vec<String> = vec![
         "K".into(),
         "L".into(),
@@ -898,6 +988,10 @@ fn folds(to: &mut Vec<Case>) {
         exprs.push(binary(op, "K", "L"));
         exprs.push(binary(op, "1.5", "K"));
     }
+    exprs
+}
+
+fn folds(to: &mut Vec<Case>) {
     let float = |x: f64| [x.to_bits() as u32, (x.to_bits() >> 32) as u32];
     let values: [(u32, [u32; 2]); 7] = [
         (24, [0x8000_0000, 0]),
@@ -908,7 +1002,7 @@ fn folds(to: &mut Vec<Case>) {
         (27, float(-0.0)),
         (28, [0, 0]),
     ];
-    for expr in &exprs {
+    for expr in &folded() {
         let raw = constant(expr);
         to.push(Case::new(
             format!("{expr} without rows"),
@@ -938,12 +1032,13 @@ fn folds(to: &mut Vec<Case>) {
 
 // ---- `subscript_count` over a body
 
-fn subscripts(to: &mut Vec<Case>) {
+/// The bodies in which names are counted.
+fn bodies() -> [String; 12] {
     let use_of = |name: &str, count: usize| {
         let args = vec!["1"; count].join(" ");
         format!("(FnCall name={name} args=[{args}])")
     };
-    let bodies = [
+    [
         String::new(),
         "(Let name=X value=A)".to_string(),
         format!("(Let name=X value={})", use_of("A", 2)),
@@ -965,8 +1060,11 @@ fn subscripts(to: &mut Vec<Case>) {
         ),
         format!("(Sub name=S body=[(Let name=X value={})])", use_of("A", 2)),
         format!("(Call name=A args=[{}])", use_of("B", 2)),
-    ];
-    for body in &bodies {
+    ]
+}
+
+fn subscripts(to: &mut Vec<Case>) {
+    for body in &bodies() {
         let raw = program(&format!(
             "(strings \"A\" \"B\" \"no name\") (program {body})"
         ));
@@ -1112,6 +1210,25 @@ fn value_and_list(raw: &Raw) -> [(Entry, usize, usize); 2] {
 
 // ---- R-REF-08, R-RES-10: outputs of each length about the tree's, with many parentheses, dirty behind what is written
 
+/// The value and the list of arguments, in each scope and under each name.
+fn resolved_parts(to: &mut Vec<Case>, raw: &Raw, rows: &[Row]) {
+    let n = |s: &str| number(raw, s);
+    for (entry, at, size) in value_and_list(raw) {
+        for scope in [0, n("S") + 1, n("F") + 1] {
+            for name in [n("F"), n("A"), n("X")] {
+                for length in size - 1..size + 3 {
+                    let label = format!("{entry:?} {scope} {name} into {length} of {size}");
+                    let numbers = [scope, name, at as u32];
+                    let mut case = Case::new(label, entry, &numbers, raw);
+                    case.rows = laid(rows.to_vec());
+                    case.out = vec![DIRT; length];
+                    to.push(case);
+                }
+            }
+        }
+    }
+}
+
 fn resolving(to: &mut Vec<Case>) {
     let raw = program(
         "(program
@@ -1140,32 +1257,28 @@ fn resolving(to: &mut Vec<Case>) {
             to.push(case);
         }
     }
-    for (entry, at, size) in value_and_list(&raw) {
-        for scope in [0, n("S") + 1, n("F") + 1] {
-            for name in [n("F"), n("A"), n("X")] {
-                for length in size - 1..size + 3 {
-                    let label = format!("{entry:?} {scope} {name} into {length} of {size}");
-                    let numbers = [scope, name, at as u32];
-                    let mut case = Case::new(label, entry, &numbers, &raw);
-                    case.rows = laid(rows.clone());
-                    case.out = vec![DIRT; length];
-                    to.push(case);
-                }
-            }
-        }
-    }
+    resolved_parts(to, &raw, &rows);
 }
 
 // ---- R-RES-02: the parameter is found by its ordinal, and only where the procedure has its row 135
 
-fn gaps(to: &mut Vec<Case>) {
-    const F: u32 = 1;
+/// The number of the procedure's name.
+const F: u32 = 1;
+
+/// A parameter of F under this ordinal, by reference but for its mark.
+fn marked(ordinal: u32, mark: u32) -> Row {
+    row(136, F, &[ordinal, F, mark])
+}
+
+/// A parameter of F under this ordinal, by reference.
+fn param(ordinal: u32) -> Row {
+    marked(ordinal, 0)
+}
+
+/// Parameters of F with gaps between their ordinals.
+fn with_procedure() -> Vec<(&'static str, Vec<Row>)> {
     let procedure = row(135, F, &[0, 1, 9]);
-    // a parameter of F under this ordinal, by reference but for its mark
-    let marked = |ordinal, mark| row(136, F, &[ordinal, F, mark]);
-    let param = |ordinal| marked(ordinal, 0);
-    let array = row(133, F, &[0, 4, 1, 0]);
-    let tables: [(&str, Vec<Row>); 13] = [
+    vec![
         ("0 and 2", vec![procedure, param(0), param(2)]),
         ("1 and 3", vec![procedure, param(1), param(3)]),
         ("2 alone", vec![procedure, param(2)]),
@@ -1192,6 +1305,13 @@ fn gaps(to: &mut Vec<Case>) {
                 row(136, F + 1, &[1, F, 0]),
             ],
         ),
+    ]
+}
+
+/// Parameters of F where no row 135 tells of it.
+fn without_procedure() -> Vec<(&'static str, Vec<Row>)> {
+    let array = row(133, F, &[0, 4, 1, 0]);
+    vec![
         ("0 and 2 without 135", vec![param(0), param(2)]),
         ("0 to 3 without 135", (0..4).map(param).collect()),
         (
@@ -1207,7 +1327,11 @@ fn gaps(to: &mut Vec<Case>) {
             "0 and 2 without 135, an array",
             vec![array, param(0), param(2)],
         ),
-    ];
+    ]
+}
+
+fn gaps(to: &mut Vec<Case>) {
+    let tables = [with_procedure(), without_procedure()].concat();
     for pairs in [1, 2] {
         let put = |name: &str| "(Paren ".repeat(pairs) + name + &")".repeat(pairs);
         let args = ["W", "X", "Y", "Z"].map(put).join(" ");

@@ -165,15 +165,20 @@ fn type_of(head: u32, arg: u32, strings: &Strings<'_>) -> TypeRef {
     }
 }
 
-fn lookup(case: &Case, strings: &Strings<'_>) -> Answer {
-    let rows = rows(case, strings)?;
-    let [a, b, c] = case.numbers;
-    let right = match case.entry {
+/// Whether the names, scope or type asked of a lookup are right.
+fn lookup_takes(case: &Case, strings: &Strings<'_>) -> bool {
+    let [a, b, _] = case.numbers;
+    match case.entry {
         Entry::TypeWords => lent::field_type(strings, a, b),
         Entry::Shares | Entry::IsStatic => lent::name(strings, a) && lent::name(strings, b),
         _ => lent::scope(strings, a) && lent::name(strings, b),
-    };
-    asked(right)?;
+    }
+}
+
+fn lookup(case: &Case, strings: &Strings<'_>) -> Answer {
+    let rows = rows(case, strings)?;
+    let [a, b, c] = case.numbers;
+    asked(lookup_takes(case, strings))?;
     let symbols = oracle::symbols(&rows, &strings.all);
     let text = |n: u32| strings.all[n as usize];
     let flag = |yes: bool| if yes { "0 yes" } else { "0 no" }.to_string();
@@ -320,16 +325,18 @@ fn analyse(case: &mut Case) -> Answer {
     ))
 }
 
-fn resolve(case: &mut Case, strings: &Strings<'_>) -> Answer {
+/// What is resolved.
+enum What {
+    Expr(Expr),
+    Args(Vec<Expr>),
+    Program(Vec<oracle::ast::Stmt>),
+}
+
+/// What a case resolves, and from where to where it stands in the tree.
+fn decoded(case: &Case, strings: &Strings<'_>) -> Result<(What, usize, usize), Refusal> {
     let tree = &case.raw.tree;
-    let [scope, name, at] = case.numbers;
-    let from = at as usize;
-    enum What {
-        Expr(Expr),
-        Args(Vec<Expr>),
-        Program(Vec<oracle::ast::Stmt>),
-    }
-    let (what, from, end) = match case.entry {
+    let from = case.numbers[2] as usize;
+    Ok(match case.entry {
         Entry::ResolveExpr => {
             let (e, end) = codec::expression_at(tree, from, strings)?;
             (What::Expr(e), from, end)
@@ -339,19 +346,14 @@ fn resolve(case: &mut Case, strings: &Strings<'_>) -> Answer {
             (What::Args(args), from, end)
         }
         _ => (What::Program(codec::decode(tree, strings)?), 0, tree.len()),
-    };
-    let rows = rows(case, strings)?;
-    asked(match case.entry {
-        Entry::ResolveExpr => lent::scope(strings, scope),
-        Entry::ResolveArgs => lent::scope(strings, scope) && lent::name(strings, name),
-        _ => true,
-    })?;
-    if case.out.len() < end - from {
-        return refused(10);
-    }
+    })
+}
+
+/// The words of what is resolved over these rows, in this scope and among the arguments of this name.
+fn resolved(what: What, rows: &[Row], [scope, name]: [u32; 2], strings: &Strings<'_>) -> Vec<u32> {
     let numbers = codec::numbers(&strings.all);
-    let mut original = Original::over(oracle::symbols(&rows, &strings.all));
-    let written = match what {
+    let mut original = Original::over(oracle::symbols(rows, &strings.all));
+    match what {
         What::Expr(mut e) => {
             original.resolve_expr(&mut e, &oracle::scope_of(scope, &strings.all));
             // One expression's words: a list of it without the count.
@@ -366,7 +368,22 @@ fn resolve(case: &mut Case, strings: &Strings<'_>) -> Answer {
             original.resolve_array_accesses(&mut program, &oracle::sema::Scope::Module);
             codec::encode(&program, &numbers)
         }
-    };
+    }
+}
+
+fn resolve(case: &mut Case, strings: &Strings<'_>) -> Answer {
+    let [scope, name, _] = case.numbers;
+    let (what, from, end) = decoded(case, strings)?;
+    let rows = rows(case, strings)?;
+    asked(match case.entry {
+        Entry::ResolveExpr => lent::scope(strings, scope),
+        Entry::ResolveArgs => lent::scope(strings, scope) && lent::name(strings, name),
+        _ => true,
+    })?;
+    if case.out.len() < end - from {
+        return refused(10);
+    }
+    let written = resolved(what, &rows, [scope, name], strings);
     case.out[..written.len()].copy_from_slice(&written);
     Ok(format!("0 {end} {}", written.len()))
 }

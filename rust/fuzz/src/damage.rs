@@ -157,27 +157,14 @@ fn strings(rng: &mut Rng, raw: &mut Raw) {
             all.swap(at, other);
         }
         1 => all.insert(at, all[at].clone()),
-        2 => {
-            if let Some(b) = all[at].last_mut() {
-                *b = *rng.pick(&[31, 32, 126, 127, 0, 255, b'a', b'%', b'.', b'_']);
-            }
-        }
+        2 => last_byte(rng, &mut all[at]),
         3 => all[at].push(*rng.pick(b"%A9.$ ~")),
         4 => {
             let long = *rng.pick(&[39, 40, 41, 42]);
             all[at].resize(long, b'Z');
         }
         5 => all[at].clear(),
-        6 => {
-            raw.ends[at] = raw.ends[at]
-                .wrapping_add(rng.below(7) as u32)
-                .wrapping_sub(3);
-            let count = raw.ends.last().copied().unwrap_or(0);
-            if rng.coin() && count < 20_000 {
-                raw.bytes.resize(count as usize, b'A');
-            }
-            return;
-        }
+        6 => return wrong_end(rng, raw, at),
         7 => {
             all.remove(at);
         }
@@ -191,6 +178,24 @@ fn strings(rng: &mut Rng, raw: &mut Raw) {
         all.sort_unstable();
     }
     raw.set_strings(&all);
+}
+
+/// A last byte at the edge of what strings and names may have.
+fn last_byte(rng: &mut Rng, text: &mut [u8]) {
+    if let Some(b) = text.last_mut() {
+        *b = *rng.pick(&[31, 32, 126, 127, 0, 255, b'a', b'%', b'.', b'_']);
+    }
+}
+
+/// A string's end moved by up to three, perhaps with the bytes made to fit.
+fn wrong_end(rng: &mut Rng, raw: &mut Raw, at: usize) {
+    raw.ends[at] = raw.ends[at]
+        .wrapping_add(rng.below(7) as u32)
+        .wrapping_sub(3);
+    let count = raw.ends.last().copied().unwrap_or(0);
+    if rng.coin() && count < 20_000 {
+        raw.bytes.resize(count as usize, b'A');
+    }
 }
 
 fn erased(rng: &mut Rng, raw: &mut Raw) {

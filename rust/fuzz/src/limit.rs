@@ -53,15 +53,7 @@ fn sizes(rng: &mut Rng) -> Raw {
         near(MAX_BYTES),
         near(MAX_ERASED),
     );
-    // The strings share the bytes out; a name has 5 to 40 of them.
-    let mut texts: Vec<String> = (0..strings).map(|n| numbered('A', n)).collect();
-    let mut left = bytes - texts.iter().map(String::len).sum::<usize>();
-    for t in &mut texts {
-        let more = left.min(35);
-        t.push_str(&"Z".repeat(more));
-        left -= more;
-    }
-    texts.sort_unstable();
+    let texts = sharing(strings, bytes);
     let count = if rng.coin() {
         erased
     } else {
@@ -84,6 +76,19 @@ fn sizes(rng: &mut Rng) -> Raw {
     raw
 }
 
+/// So many strings that share the bytes out; a name has 5 to 40 of them.
+fn sharing(strings: usize, bytes: usize) -> Vec<String> {
+    let mut texts: Vec<String> = (0..strings).map(|n| numbered('A', n)).collect();
+    let mut left = bytes - texts.iter().map(String::len).sum::<usize>();
+    for t in &mut texts {
+        let more = left.min(35);
+        t.push_str(&"Z".repeat(more));
+        left -= more;
+    }
+    texts.sort_unstable();
+    texts
+}
+
 /// A chain of statements and expressions down to depth 99 to 102, with something at its end.
 pub fn deep(rng: &mut Rng) -> Raw {
     let depth = rng.within(98, 102);
@@ -95,13 +100,7 @@ pub fn deep(rng: &mut Rng) -> Raw {
     let e = expr_chain(rng, depth - statements);
     let mut kind = match e {
         Some(e) => holder(rng, e),
-        None => rng
-            .pick(&[
-                StmtKind::Cls,
-                StmtKind::Close(vec![]),
-                StmtKind::Randomize(None),
-            ])
-            .clone(),
+        None => bare(rng),
     };
     for _ in 1..statements {
         kind = block(rng, vec![stmt(2, kind)]);
@@ -121,19 +120,33 @@ pub fn deep(rng: &mut Rng) -> Raw {
     }
     let mut raw = image::build(&program, &[], &["B".into(), "F".into()]);
     if rng.one_in(4) {
-        // Something wrong near the end, perhaps just where it is too deep.
-        let at = raw.tree.len() - 1 - rng.below(raw.tree.len().min(6));
-        raw.tree[at] = *rng.pick(&[
-            0,
-            0x1000_0001,
-            0x1800_0000,
-            0x0100_0000,
-            0x1700_0000,
-            0x7600_0000,
-            0x7500_0000,
-        ]);
+        wrong_near_end(rng, &mut raw.tree);
     }
     raw
+}
+
+/// A statement without an expression.
+fn bare(rng: &mut Rng) -> StmtKind {
+    rng.pick(&[
+        StmtKind::Cls,
+        StmtKind::Close(vec![]),
+        StmtKind::Randomize(None),
+    ])
+    .clone()
+}
+
+/// Something wrong near the end, perhaps just where it is too deep.
+fn wrong_near_end(rng: &mut Rng, tree: &mut [u32]) {
+    let at = tree.len() - 1 - rng.below(tree.len().min(6));
+    tree[at] = *rng.pick(&[
+        0,
+        0x1000_0001,
+        0x1800_0000,
+        0x0100_0000,
+        0x1700_0000,
+        0x7600_0000,
+        0x7500_0000,
+    ]);
 }
 
 /// An expression with so many levels.
@@ -143,41 +156,46 @@ fn expr_chain(rng: &mut Rng, levels: usize) -> Option<Expr> {
     }
     let mut e = if rng.coin() { int(1) } else { var("B") };
     for _ in 1..levels {
-        e = match rng.below(8) {
-            0 => Expr::Unary {
-                op: UnaryOp::Neg,
-                operand: Box::new(e),
-            },
-            1 => Expr::Binary {
-                op: BinaryOp::Add,
-                left: Box::new(int(1)),
-                right: Box::new(e),
-            },
-            2 => Expr::Binary {
-                op: BinaryOp::Mul,
-                left: Box::new(e),
-                right: Box::new(var("B")),
-            },
-            3 => Expr::FnCall {
-                name: "F".into(),
-                args: vec![e],
-            },
-            4 => Expr::ArrayAccess {
-                name: "A".into(),
-                indices: vec![e],
-            },
-            5 => Expr::Field {
-                base: Box::new(e),
-                field: "B".into(),
-            },
-            6 => Expr::FnCall {
-                name: "A".into(),
-                args: vec![int(2), e],
-            },
-            _ => Expr::Paren(Box::new(e)),
-        };
+        e = one_level(rng, e);
     }
     Some(e)
+}
+
+/// The expression inside another one.
+fn one_level(rng: &mut Rng, e: Expr) -> Expr {
+    match rng.below(8) {
+        0 => Expr::Unary {
+            op: UnaryOp::Neg,
+            operand: Box::new(e),
+        },
+        1 => Expr::Binary {
+            op: BinaryOp::Add,
+            left: Box::new(int(1)),
+            right: Box::new(e),
+        },
+        2 => Expr::Binary {
+            op: BinaryOp::Mul,
+            left: Box::new(e),
+            right: Box::new(var("B")),
+        },
+        3 => Expr::FnCall {
+            name: "F".into(),
+            args: vec![e],
+        },
+        4 => Expr::ArrayAccess {
+            name: "A".into(),
+            indices: vec![e],
+        },
+        5 => Expr::Field {
+            base: Box::new(e),
+            field: "B".into(),
+        },
+        6 => Expr::FnCall {
+            name: "A".into(),
+            args: vec![int(2), e],
+        },
+        _ => Expr::Paren(Box::new(e)),
+    }
 }
 
 fn holder(rng: &mut Rng, e: Expr) -> StmtKind {
@@ -229,17 +247,7 @@ fn block(rng: &mut Rng, body: Vec<Stmt>) -> StmtKind {
             expr: int(1),
             cases: vec![(None, body)],
         },
-        3 => StmtKind::Sub {
-            name: "F".into(),
-            params: vec![Param {
-                name: "A".into(),
-                byval: false,
-                array: true,
-                ty: None,
-            }],
-            body,
-            is_static: false,
-        },
+        3 => sub_of(body),
         4 => StmtKind::For {
             var: "B".into(),
             start: int(1),
@@ -256,12 +264,71 @@ fn block(rng: &mut Rng, body: Vec<Stmt>) -> StmtKind {
     }
 }
 
+/// SUB F (A()) with this body.
+fn sub_of(body: Vec<Stmt>) -> StmtKind {
+    StmtKind::Sub {
+        name: "F".into(),
+        params: vec![Param {
+            name: "A".into(),
+            byval: false,
+            array: true,
+            ty: None,
+        }],
+        body,
+        is_static: false,
+    }
+}
+
 fn array(name: &str, rank: usize) -> Declarator {
     Declarator {
         name: name.into(),
         dimensions: Some(vec![int(9); rank]),
         lowers: vec![],
         ty: None,
+    }
+}
+
+/// The statements for rows of another kind, each made from a number.
+const ROW_KINDS: [fn(usize) -> StmtKind; 6] = [
+    |n| StmtKind::LabelName(numbered('L', n)),
+    |n| StmtKind::Const {
+        name: numbered('K', n),
+        value: int(n as i64),
+    },
+    |n| StmtKind::Dim {
+        decls: vec![array(&numbered('A', n), 1)],
+        shared: false,
+    },
+    |n| StmtKind::OptionBase(n as i64),
+    |n| StmtKind::TypeDef {
+        name: "T".into(),
+        fields: (0..n % 5)
+            .map(|i| FieldDecl {
+                name: numbered('F', i),
+                ty: TypeRef::Long,
+            })
+            .collect(),
+    },
+    |n| {
+        StmtKind::Static(vec![ScopeItem {
+            name: numbered('S', n),
+            array: false,
+            ty: None,
+        }])
+    },
+];
+
+/// A parameter of a kind that follows from its number.
+fn row_param(n: usize) -> Param {
+    Param {
+        name: numbered('P', n),
+        byval: false,
+        array: n % 3 == 1,
+        ty: if n.is_multiple_of(2) {
+            Some(TypeRef::Long)
+        } else {
+            None
+        },
     }
 }
 
@@ -275,57 +342,19 @@ fn rows(rng: &mut Rng) -> Raw {
     if rng.coin() {
         program.reverse();
     }
-    let param = |n: usize| Param {
-        name: numbered('P', n),
-        byval: false,
-        array: n % 3 == 1,
-        ty: if n.is_multiple_of(2) {
-            Some(TypeRef::Long)
-        } else {
-            None
-        },
-    };
-    let kinds: [fn(usize) -> StmtKind; 6] = [
-        |n| StmtKind::LabelName(numbered('L', n)),
-        |n| StmtKind::Const {
-            name: numbered('K', n),
-            value: int(n as i64),
-        },
-        |n| StmtKind::Dim {
-            decls: vec![array(&numbered('A', n), 1)],
-            shared: false,
-        },
-        |n| StmtKind::OptionBase(n as i64),
-        |n| StmtKind::TypeDef {
-            name: "T".into(),
-            fields: (0..n % 5)
-                .map(|i| FieldDecl {
-                    name: numbered('F', i),
-                    ty: TypeRef::Long,
-                })
-                .collect(),
-        },
-        |n| {
-            StmtKind::Static(vec![ScopeItem {
-                name: numbered('S', n),
-                array: false,
-                ty: None,
-            }])
-        },
-    ];
     for n in 0..last {
         let kind = match rng.below(9) {
             6 | 7 => StmtKind::Sub {
                 name: "S".into(),
-                params: (0..rng.below(5)).map(param).collect(),
+                params: (0..rng.below(5)).map(row_param).collect(),
                 body: if rng.coin() {
-                    vec![stmt(1, kinds[5](n))]
+                    vec![stmt(1, ROW_KINDS[5](n))]
                 } else {
                     vec![]
                 },
                 is_static: rng.one_in(4),
             },
-            k => kinds[k % 6](n),
+            k => ROW_KINDS[k % 6](n),
         };
         program.push(stmt(n, kind));
     }
@@ -371,13 +400,6 @@ fn diagnostics(rng: &mut Rng) -> Raw {
 /// Many declarators and parameters, so that rows and diagnostics fill up side by side.
 fn dense(rng: &mut Rng) -> Raw {
     let names: Vec<String> = (0..rng.within(50, 900)).map(|n| numbered('D', n)).collect();
-    let name = |rng: &mut Rng| rng.pick(&names).clone();
-    let ty = |rng: &mut Rng| match rng.below(6) {
-        0 => None,
-        1 => Some(TypeRef::Record("U".into())),
-        2 | 3 => Some(TypeRef::FixedString(4)),
-        _ => Some(TypeRef::Integer),
-    };
     let mut program = Vec::new();
     let mut words = 1;
     let shape = rng.below(4);
@@ -386,53 +408,15 @@ fn dense(rng: &mut Rng) -> Raw {
         let kind = match if shape == 3 { rng.below(3) } else { shape } {
             0 => {
                 words += 11 * count + 3;
-                StmtKind::Dim {
-                    decls: (0..count)
-                        .map(|_| {
-                            let dimensions = if rng.coin() {
-                                Some(vec![int(1); rng.below(2)])
-                            } else {
-                                None
-                            };
-                            Declarator {
-                                name: name(rng),
-                                dimensions,
-                                lowers: vec![],
-                                ty: ty(rng),
-                            }
-                        })
-                        .collect(),
-                    shared: rng.coin(),
-                }
+                dense_dim(rng, &names, count)
             }
             1 => {
                 words += 5 * count + 6;
-                let params: Vec<Param> = (0..count)
-                    .map(|_| Param {
-                        name: name(rng),
-                        byval: rng.coin(),
-                        array: rng.one_in(3),
-                        ty: ty(rng),
-                    })
-                    .collect();
-                StmtKind::Sub {
-                    name: name(rng),
-                    params,
-                    body: vec![],
-                    is_static: rng.coin(),
-                }
+                dense_sub(rng, &names, count)
             }
             _ => {
                 words += 4 * count + 3;
-                StmtKind::TypeDef {
-                    name: if rng.coin() { name(rng) } else { "U".into() },
-                    fields: (0..count)
-                        .map(|_| FieldDecl {
-                            name: name(rng),
-                            ty: ty(rng).unwrap_or(TypeRef::Long),
-                        })
-                        .collect(),
-                }
+                dense_type(rng, &names, count)
             }
         };
         program.push(stmt(program.len(), kind));
@@ -440,53 +424,81 @@ fn dense(rng: &mut Rng) -> Raw {
     image::build(&program, &[], &[])
 }
 
+/// What follows AS in a dense program, if anything does.
+fn dense_as(rng: &mut Rng) -> Option<TypeRef> {
+    match rng.below(6) {
+        0 => None,
+        1 => Some(TypeRef::Record("U".into())),
+        2 | 3 => Some(TypeRef::FixedString(4)),
+        _ => Some(TypeRef::Integer),
+    }
+}
+
+/// A DIM with so many declarators.
+fn dense_dim(rng: &mut Rng, names: &[String], count: usize) -> StmtKind {
+    StmtKind::Dim {
+        decls: (0..count)
+            .map(|_| {
+                let dimensions = if rng.coin() {
+                    Some(vec![int(1); rng.below(2)])
+                } else {
+                    None
+                };
+                Declarator {
+                    name: rng.pick(names).clone(),
+                    dimensions,
+                    lowers: vec![],
+                    ty: dense_as(rng),
+                }
+            })
+            .collect(),
+        shared: rng.coin(),
+    }
+}
+
+/// A SUB with so many parameters.
+fn dense_sub(rng: &mut Rng, names: &[String], count: usize) -> StmtKind {
+    let params: Vec<Param> = (0..count)
+        .map(|_| Param {
+            name: rng.pick(names).clone(),
+            byval: rng.coin(),
+            array: rng.one_in(3),
+            ty: dense_as(rng),
+        })
+        .collect();
+    StmtKind::Sub {
+        name: rng.pick(names).clone(),
+        params,
+        body: vec![],
+        is_static: rng.coin(),
+    }
+}
+
+/// A TYPE with so many fields.
+fn dense_type(rng: &mut Rng, names: &[String], count: usize) -> StmtKind {
+    StmtKind::TypeDef {
+        name: if rng.coin() {
+            rng.pick(names).clone()
+        } else {
+            "U".into()
+        },
+        fields: (0..count)
+            .map(|_| FieldDecl {
+                name: rng.pick(names).clone(),
+                ty: dense_as(rng).unwrap_or(TypeRef::Long),
+            })
+            .collect(),
+    }
+}
+
 /// A TYPE of 65,533 to 65,537 words, with rejected fields among the kept, perhaps redefined, perhaps used again.
 fn long_type(rng: &mut Rng) -> Raw {
-    let long = |n: usize| FieldDecl {
-        name: numbered('F', n),
-        ty: TypeRef::Double,
-    };
-    let of = |n: usize, t: &str| FieldDecl {
-        name: numbered('F', n),
-        ty: TypeRef::Record(t.into()),
-    };
     let mut program = Vec::new();
-    let define = |name: &str, fields: Vec<FieldDecl>| StmtKind::TypeDef {
-        name: name.into(),
-        fields,
-    };
-    // 257 words, then 255 of those are 65,535.
-    program.push(stmt(1, define("T1", (0..257).map(long).collect())));
-    let mut fields: Vec<FieldDecl> = (0..254).map(|n| of(n, "T1")).collect();
-    let rest = rng.within(255, 259);
+    let mut fields = long_fields(rng, &mut program);
     if rng.coin() {
-        program.push(stmt(2, define("T2", (0..rest).map(long).collect())));
-        fields.push(of(254, "T2"));
-    } else {
-        fields.extend((254..254 + rest).map(long));
+        insert_string(rng, &mut fields);
     }
-    if rng.coin() {
-        let at = fields.len() - rng.below(3);
-        fields.insert(
-            at,
-            FieldDecl {
-                name: "S".into(),
-                ty: TypeRef::FixedString(7),
-            },
-        );
-        if rng.coin() {
-            fields.drain(at.saturating_sub(2)..at);
-        }
-    }
-    for _ in 0..rng.below(4) {
-        let bad = match rng.below(3) {
-            0 => long(0),
-            1 => of(900, "T"),
-            _ => of(901, "NONE"),
-        };
-        let at = rng.below(fields.len() + 1);
-        fields.insert(at, bad);
-    }
+    insert_rejected(rng, &mut fields);
     if rng.one_in(3) {
         // Too many rejected fields before the passing one makes 8, after it 9.
         let bad = rng.within(2_040, 2_052);
@@ -495,10 +507,77 @@ fn long_type(rng: &mut Rng) -> Raw {
     }
     program.push(stmt(4, define("T", fields)));
     match rng.below(4) {
-        0 => program.push(stmt(5, define("T", vec![long(1)]))),
+        0 => program.push(stmt(5, define("T", vec![double(1)]))),
         1 => program.push(stmt(5, define("T3", vec![of(0, "T")]))),
         2 => program.push(stmt(5, define("T3", vec![of(0, "T"), of(1, "T1")]))),
         _ => {}
     }
     image::build(&program, &[], &[])
+}
+
+/// A field of one word.
+fn double(n: usize) -> FieldDecl {
+    FieldDecl {
+        name: numbered('F', n),
+        ty: TypeRef::Double,
+    }
+}
+
+/// A field of a TYPE.
+fn of(n: usize, t: &str) -> FieldDecl {
+    FieldDecl {
+        name: numbered('F', n),
+        ty: TypeRef::Record(t.into()),
+    }
+}
+
+/// A TYPE with these fields.
+fn define(name: &str, fields: Vec<FieldDecl>) -> StmtKind {
+    StmtKind::TypeDef {
+        name: name.into(),
+        fields,
+    }
+}
+
+/// The fields of the long TYPE; the program gets the TYPEs they are of.
+fn long_fields(rng: &mut Rng, program: &mut Vec<Stmt>) -> Vec<FieldDecl> {
+    // 257 words, then 255 of those are 65,535.
+    program.push(stmt(1, define("T1", (0..257).map(double).collect())));
+    let mut fields: Vec<FieldDecl> = (0..254).map(|n| of(n, "T1")).collect();
+    let rest = rng.within(255, 259);
+    if rng.coin() {
+        program.push(stmt(2, define("T2", (0..rest).map(double).collect())));
+        fields.push(of(254, "T2"));
+    } else {
+        fields.extend((254..254 + rest).map(double));
+    }
+    fields
+}
+
+/// A string of fixed length near the end of the fields, perhaps in place of those before it.
+fn insert_string(rng: &mut Rng, fields: &mut Vec<FieldDecl>) {
+    let at = fields.len() - rng.below(3);
+    fields.insert(
+        at,
+        FieldDecl {
+            name: "S".into(),
+            ty: TypeRef::FixedString(7),
+        },
+    );
+    if rng.coin() {
+        fields.drain(at.saturating_sub(2)..at);
+    }
+}
+
+/// Up to three fields that bring a rejection, anywhere among the others.
+fn insert_rejected(rng: &mut Rng, fields: &mut Vec<FieldDecl>) {
+    for _ in 0..rng.below(4) {
+        let bad = match rng.below(3) {
+            0 => double(0),
+            1 => of(900, "T"),
+            _ => of(901, "NONE"),
+        };
+        let at = rng.below(fields.len() + 1);
+        fields.insert(at, bad);
+    }
 }

@@ -130,14 +130,8 @@ pub fn report(sets: &[Set], runs: usize) {
     let mut over_all = Vec::new();
     let mut different = 0;
     for set in sets {
-        // Image by image, so that both sides meet the same state of the machine.
-        let mut times = vec![Vec::new(); sides.len()];
-        for file in &set.files {
-            for (side, times) in sides.iter().zip(&mut times) {
-                times.push(time(side, file, &mut out, runs));
-            }
-            different += usize::from(differ(file, &mut out));
-        }
+        let (times, unequal) = measure(set, &sides, &mut out, runs);
+        different += unequal;
         for (side, of_side) in sides.iter().zip(&times) {
             let ratios: Vec<f64> = times[0]
                 .iter()
@@ -154,14 +148,7 @@ pub fn report(sets: &[Set], runs: usize) {
         return;
     }
     if !over_all.is_empty() {
-        let counted: Vec<&str> = sets.iter().filter(|s| s.counts).map(|s| &*s.name).collect();
-        let n = over_all.len();
-        let least = over_all.iter().copied().fold(f64::INFINITY, f64::min);
-        let median = middle(over_all, f64::total_cmp);
-        println!(
-            "\nOver the {n} images of {}: {median:.2} times as fast at the median, {least:.2} at the worst.",
-            counted.join(" and ")
-        );
+        print_over_all(sets, over_all);
     }
     match different {
         0 => println!("\nThe sides' listings are equal on every image."),
@@ -173,6 +160,32 @@ pub fn report(sets: &[Set], runs: usize) {
 
 /// Room for every listing.
 const ENOUGH: usize = 1 << 20;
+
+/// The times of each side on the images of a set, and on how many of these the listings differ.
+fn measure(set: &Set, sides: &[Side], out: &mut [u8], runs: usize) -> (Vec<Vec<Duration>>, usize) {
+    let mut different = 0;
+    // Image by image, so that both sides meet the same state of the machine.
+    let mut times = vec![Vec::new(); sides.len()];
+    for file in &set.files {
+        for (side, times) in sides.iter().zip(&mut times) {
+            times.push(time(side, file, out, runs));
+        }
+        different += usize::from(differ(file, out));
+    }
+    (times, different)
+}
+
+/// The line over all: the sets that count, and the ratios on their images.
+fn print_over_all(sets: &[Set], over_all: Vec<f64>) {
+    let counted: Vec<&str> = sets.iter().filter(|s| s.counts).map(|s| &*s.name).collect();
+    let n = over_all.len();
+    let least = over_all.iter().copied().fold(f64::INFINITY, f64::min);
+    let median = middle(over_all, f64::total_cmp);
+    println!(
+        "\nOver the {n} images of {}: {median:.2} times as fast at the median, {least:.2} at the worst.",
+        counted.join(" and ")
+    );
+}
 
 fn print_row(set: &Set, side: &Side, times: &[Duration], ratios: &[f64], runs: usize) {
     let mut order: Vec<usize> = (0..times.len()).collect();
@@ -208,55 +221,77 @@ fn parts(side: &Side, file: &[u8], runs: usize) -> String {
 
 /// The sets of this benchmark: generated programs, the worst that each limit allows, and the same work in growing sizes.
 pub fn sets() -> Vec<Set> {
-    let generated = |pick: fn(&mut Rng) -> Raw, count: u64| -> Vec<Vec<u8>> {
-        (0..count)
-            .map(|s| pick(&mut Rng::new(s)).to_bytes())
-            .collect()
-    };
-    let set = |name: &str, files: Vec<Vec<u8>>| Set {
-        name: name.to_string(),
-        files,
-        counts: false,
-    };
     let counted = |name: &str, files: Vec<Vec<u8>>| Set {
         counts: true,
         ..set(name, files)
     };
-    let one = |program: Vec<Stmt>| vec![image::build(&program, &[], &[]).to_bytes()];
     let mut sets = vec![
         counted("small programs", generated(program::small, 300)),
         counted("programs", generated(|r| program::any(r).0, 300)),
         set("depth 100", generated(limit::deep, 100)),
         set("long names", vec![names()]),
-        set("array parameters over one body", one(parameters())),
+        set_of("array parameters over one body", parameters()),
     ];
-    for words in [1_024, 2_048, 4_096, 8_192] {
-        let name = format!("calls, {} words", grouped(words));
-        sets.push(set(&name, one(calls(words))));
-    }
-    for rows in [64, 256, 1_024, 2_048] {
-        let name = |order| format!("line numbers, {} rows {order}", grouped(rows));
-        sets.push(set(&name("rising"), one(line_numbers(0..rows))));
-        sets.push(set(&name("falling"), one(line_numbers((0..rows).rev()))));
-        // An odd factor: every place once, for a count that is a power of two.
-        let mixed = (0..rows).map(|i| i * 1_031 % rows);
-        sets.push(set(&name("mixed"), one(line_numbers(mixed))));
-    }
-    // No more arrays than 1,024 names and 8,192 words allow.
-    for rows in [64, 256, 1_000] {
-        let name = |order| format!("arrays, {} rows {order}", grouped(rows));
-        sets.push(set(&name("rising"), one(arrays(0..rows))));
-        sets.push(set(&name("falling"), one(arrays((0..rows).rev()))));
-    }
+    sets.extend(growing());
     for (name, count, program) in others() {
         let name = |order| format!("{name}, {order}");
         let rising: Vec<usize> = (0..count).collect();
         let falling: Vec<usize> = (0..count).rev().collect();
-        sets.push(set(&name("rising"), one(program(&rising))));
-        sets.push(set(&name("falling"), one(program(&falling))));
+        sets.push(set_of(&name("rising"), program(&rising)));
+        sets.push(set_of(&name("falling"), program(&falling)));
     }
     for (name, raw) in found().into_iter().chain(refused()) {
         sets.push(set(name, vec![raw.to_bytes()]));
+    }
+    sets
+}
+
+/// The images of the first seeds.
+fn generated(pick: fn(&mut Rng) -> Raw, count: u64) -> Vec<Vec<u8>> {
+    (0..count)
+        .map(|s| pick(&mut Rng::new(s)).to_bytes())
+        .collect()
+}
+
+/// A set that doesn't count in the line over all.
+fn set(name: &str, files: Vec<Vec<u8>>) -> Set {
+    Set {
+        name: name.to_string(),
+        files,
+        counts: false,
+    }
+}
+
+/// A set of one program.
+fn set_of(name: &str, program: Vec<Stmt>) -> Set {
+    set(name, vec![plain(program).to_bytes()])
+}
+
+/// The image of a program, with no names but its own.
+fn plain(program: Vec<Stmt>) -> Raw {
+    image::build(&program, &[], &[])
+}
+
+/// The same work in growing sizes.
+fn growing() -> Vec<Set> {
+    let mut sets = Vec::new();
+    for words in [1_024, 2_048, 4_096, 8_192] {
+        let name = format!("calls, {} words", grouped(words));
+        sets.push(set_of(&name, calls(words)));
+    }
+    for rows in [64, 256, 1_024, 2_048] {
+        let name = |order| format!("line numbers, {} rows {order}", grouped(rows));
+        sets.push(set_of(&name("rising"), line_numbers(0..rows)));
+        sets.push(set_of(&name("falling"), line_numbers((0..rows).rev())));
+        // An odd factor: every place once, for a count that is a power of two.
+        let mixed = (0..rows).map(|i| i * 1_031 % rows);
+        sets.push(set_of(&name("mixed"), line_numbers(mixed)));
+    }
+    // No more arrays than 1,024 names and 8,192 words allow.
+    for rows in [64, 256, 1_000] {
+        let name = |order| format!("arrays, {} rows {order}", grouped(rows));
+        sets.push(set_of(&name("rising"), arrays(0..rows)));
+        sets.push(set_of(&name("falling"), arrays((0..rows).rev())));
     }
     sets
 }
@@ -266,6 +301,11 @@ type Program = fn(&[usize]) -> Vec<Stmt>;
 
 /// Many rows of other kinds, and of two kinds in turn, whose keys lie apart: a name, how many, and their statements.
 fn others() -> Vec<(&'static str, usize, Program)> {
+    [numbered(), declared()].concat()
+}
+
+/// Those of SUBs and of line numbers.
+fn numbered() -> Vec<(&'static str, usize, Program)> {
     vec![
         ("SUBs, 1,000", 1_000, |order| {
             order.iter().map(|n| at(1, sub(*n, vec![]))).collect()
@@ -291,6 +331,12 @@ fn others() -> Vec<(&'static str, usize, Program)> {
         ("1,300 line numbers, each twice", 1_300, |order| {
             in_turn(order, |n| StmtKind::Label(n as u32))
         }),
+    ]
+}
+
+/// Those of DIM, SHARED and TYPE.
+fn declared() -> Vec<(&'static str, usize, Program)> {
+    vec![
         ("DIM SHARED, 1,000 names of two rows", 1_000, |order| {
             let decls = order.iter().map(|n| scalar(name_of(*n))).collect();
             let shared = true;
@@ -327,9 +373,16 @@ fn others() -> Vec<(&'static str, usize, Program)> {
 
 /// What a search for slow shapes found, one for each reason.
 fn found() -> Vec<(&'static str, Raw)> {
-    let plain = |program: Vec<Stmt>| image::build(&program, &[], &[]);
-    let one = |kind: StmtKind| plain(vec![at(1, kind)]);
-    let names = |n: usize| (0..n).map(name_of).collect::<Vec<String>>();
+    [found_types(), found_bodies(), found_rows(), found_lists()].concat()
+}
+
+/// The image of one statement.
+fn one(kind: StmtKind) -> Raw {
+    plain(vec![at(1, kind)])
+}
+
+/// Those of one TYPE.
+fn found_types() -> Vec<(&'static str, Raw)> {
     let unknowns = [at(1, type_of(0, vec![unknown(1); 2_000]))];
     vec![
         (
@@ -345,6 +398,12 @@ fn found() -> Vec<(&'static str, Raw)> {
             "TYPE of three fields and of none in turn, 520 times, 1,437 rows behind",
             plain(shrinking()),
         ),
+    ]
+}
+
+/// Those of nested bodies, of procedures with rows of their own and of array parameters.
+fn found_bodies() -> Vec<(&'static str, Raw)> {
+    vec![
         (
             "SUBs, 97 one in the other, over 7,500 CLS",
             plain(nested(97, 7_500)),
@@ -377,9 +436,16 @@ fn found() -> Vec<(&'static str, Raw)> {
                 vec![at(1, read(600))],
             )),
         ),
+    ]
+}
+
+/// Those of rows that come again, mixed, or in a number just past a size.
+fn found_rows() -> Vec<(&'static str, Raw)> {
+    let names: Vec<String> = (0..1_000).map(name_of).collect();
+    vec![
         (
             "one array, DIMmed 1,150 times, the last of 1,000 erased names",
-            image::build(&again(999, 1_150), &names(1_000), &[]),
+            image::build(&again(999, 1_150), &names, &[]),
         ),
         (
             "274 line numbers, mixed",
@@ -399,6 +465,12 @@ fn found() -> Vec<(&'static str, Raw)> {
             "730 OPTION BASE after 140 line numbers",
             plain(line_numbers(0..140).into_iter().chain(bases(730)).collect()),
         ),
+    ]
+}
+
+/// Those of strings and of lists in a statement.
+fn found_lists() -> Vec<(&'static str, Raw)> {
+    vec![
         (
             "66 strings that nothing has",
             image::build(&[], &[], &(0..66).map(long_name).collect::<Vec<_>>()),
@@ -459,69 +531,109 @@ fn print(count: usize) -> StmtKind {
 /// Refused programs, which the original's side decodes up to what is wrong: the smallest, those just past a size by which the proved side chooses its buffers,
 /// and the largest.
 fn refused() -> Vec<(&'static str, Raw)> {
-    let sized = |words: usize, strings: usize, erased: u32| {
-        let program: Vec<Stmt> = (1..words).map(|n| at(n, StmtKind::Cls)).collect();
-        let names: Vec<String> = (0..strings).map(name_of).collect();
-        let mut raw = image::build(&program, &[], &names);
-        raw.erased = (0..erased).collect();
-        raw
-    };
-    let string = |words, strings, erased| {
-        let mut raw = sized(words, strings, erased);
-        raw.bytes[0] = 127;
-        raw
-    };
-    let word = |words, strings, erased| {
-        let mut raw = sized(words, strings, erased);
-        raw.tree[0] = 0;
-        raw
-    };
-    let name = |words, strings, erased| {
-        let mut raw = sized(words, strings, erased);
-        raw.erased[0] = strings as u32;
-        raw
-    };
+    [refused_strings(), refused_words()].concat()
+}
+
+/// A program of so many words, strings and erased names.
+fn sized(words: usize, strings: usize, erased: u32) -> Raw {
+    let program: Vec<Stmt> = (1..words).map(|n| at(n, StmtKind::Cls)).collect();
+    let names: Vec<String> = (0..strings).map(name_of).collect();
+    let mut raw = image::build(&program, &[], &names);
+    raw.erased = (0..erased).collect();
+    raw
+}
+
+/// The same, its first string wrong.
+fn bad_string(words: usize, strings: usize, erased: u32) -> Raw {
+    let mut raw = sized(words, strings, erased);
+    raw.bytes[0] = 127;
+    raw
+}
+
+/// The same, its first word wrong.
+fn bad_word(words: usize, strings: usize, erased: u32) -> Raw {
+    let mut raw = sized(words, strings, erased);
+    raw.tree[0] = 0;
+    raw
+}
+
+/// The same, its first erased name wrong.
+fn bad_name(words: usize, strings: usize, erased: u32) -> Raw {
+    let mut raw = sized(words, strings, erased);
+    raw.erased[0] = strings as u32;
+    raw
+}
+
+/// Those of one word at most.
+fn refused_strings() -> Vec<(&'static str, Raw)> {
     vec![
         ("refused: no words", Raw::default()),
-        ("refused: a word, wrong", word(1, 0, 0)),
+        ("refused: a word, wrong", bad_word(1, 0, 0)),
         (
             "refused: 17 erased names, a string, wrong",
-            string(1, 1, 17),
+            bad_string(1, 1, 17),
         ),
-        ("refused: 33 strings, the first wrong", string(1, 33, 0)),
-        ("refused: 65 strings, the first wrong", string(1, 65, 0)),
-        ("refused: 65 strings, the first word wrong", word(1, 65, 0)),
-        ("refused: 65 erased names, the first wrong", name(1, 65, 65)),
+        ("refused: 33 strings, the first wrong", bad_string(1, 33, 0)),
+        ("refused: 65 strings, the first wrong", bad_string(1, 65, 0)),
+        (
+            "refused: 65 strings, the first word wrong",
+            bad_word(1, 65, 0),
+        ),
+        (
+            "refused: 65 erased names, the first wrong",
+            bad_name(1, 65, 65),
+        ),
         (
             "refused: 65 erased names of one string, the first wrong",
-            name(1, 1, 65),
+            bad_name(1, 1, 65),
         ),
-        ("refused: 257 strings, the first wrong", string(1, 257, 0)),
+        (
+            "refused: 257 strings, the first wrong",
+            bad_string(1, 257, 0),
+        ),
         (
             "refused: 1,024 strings, the first wrong",
-            string(1, 1_024, 0),
+            bad_string(1, 1_024, 0),
         ),
         (
             "refused: 1,024 erased names, the first wrong",
-            name(1, 1_024, 1_024),
+            bad_name(1, 1_024, 1_024),
         ),
-        ("refused: 129 words, the first wrong", word(129, 0, 0)),
+    ]
+}
+
+/// Those of more words than one.
+fn refused_words() -> Vec<(&'static str, Raw)> {
+    vec![
+        ("refused: 129 words, the first wrong", bad_word(129, 0, 0)),
         (
             "refused: 129 words, 65 strings, the first wrong",
-            string(129, 65, 0),
+            bad_string(129, 65, 0),
         ),
-        ("refused: 513 words, the first wrong", word(513, 0, 0)),
+        ("refused: 513 words, the first wrong", bad_word(513, 0, 0)),
         (
             "refused: 513 words, 65 strings, the first wrong",
-            string(513, 65, 0),
+            bad_string(513, 65, 0),
         ),
-        ("refused: 1,025 words, the first wrong", word(1_025, 0, 0)),
-        ("refused: 2,049 words, the first wrong", word(2_049, 0, 0)),
-        ("refused: 8,192 words, the first wrong", word(8_192, 0, 0)),
-        ("refused: 8,192 words, a string, wrong", string(8_192, 1, 0)),
+        (
+            "refused: 1,025 words, the first wrong",
+            bad_word(1_025, 0, 0),
+        ),
+        (
+            "refused: 2,049 words, the first wrong",
+            bad_word(2_049, 0, 0),
+        ),
+        (
+            "refused: 8,192 words, the first wrong",
+            bad_word(8_192, 0, 0),
+        ),
+        (
+            "refused: 8,192 words, a string, wrong",
+            bad_string(8_192, 1, 0),
+        ),
         (
             "refused: 8,192 words, 1,024 erased names, the first string wrong",
-            string(8_192, 1_024, 1_024),
+            bad_string(8_192, 1_024, 1_024),
         ),
     ]
 }

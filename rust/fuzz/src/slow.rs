@@ -193,15 +193,22 @@ impl Block {
         }
     }
 
+    /// The items of a PRINT: the values, empty ones, or one in as many parentheses.
+    fn items(&self, i: usize, values: Vec<Expr>) -> Vec<PrintItem> {
+        match self.kind {
+            11 => values.into_iter().map(PrintItem::Expr).collect(),
+            12 => vec![PrintItem::Empty; self.size],
+            _ => vec![PrintItem::Expr(
+                values.iter().fold(self.value(i), |e, _| paren(e)),
+            )],
+        }
+    }
+
     /// A statement with a list of values or targets.
     fn listed(&self, i: usize) -> StmtKind {
         let values = self.list(i, Block::value);
         match self.kind {
-            11 => printed(values.into_iter().map(PrintItem::Expr).collect()),
-            12 => printed(vec![PrintItem::Empty; self.size]),
-            13 => printed(vec![PrintItem::Expr(
-                values.iter().fold(self.value(i), |e, _| paren(e)),
-            )]),
+            11..=13 => printed(self.items(i, values)),
             14 => StmtKind::Let {
                 name: self.name(i),
                 indices: Some(values),
@@ -281,7 +288,6 @@ impl Block {
 
     /// A statement with a body.
     fn around(&self, i: usize, body: Vec<Stmt>) -> StmtKind {
-        let is_static = self.form & 16 != 0;
         let clause = |_: &Block, _| (Some(vec![CaseClause::Value(one())]), vec![]);
         match self.kind {
             32 => StmtKind::If {
@@ -307,6 +313,14 @@ impl Block {
                     .chain(self.list(i, clause))
                     .collect(),
             },
+            _ => self.procedure(i, body),
+        }
+    }
+
+    /// A SUB or a FUNCTION.
+    fn procedure(&self, i: usize, body: Vec<Stmt>) -> StmtKind {
+        let is_static = self.form & 16 != 0;
+        match self.kind {
             36 | 37 => StmtKind::Sub {
                 name: self.name(i),
                 params: self.list(i, Block::param),

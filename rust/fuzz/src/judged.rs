@@ -6,7 +6,7 @@ use crate::{Case, case, rich, small};
 use image::ast::{Expr, Stmt, StmtKind};
 use image::raw::{Raw, Refusal};
 use oracle::steps::{Action, Verdict, expressions, step};
-use oracle::{Analysis, LENT, Lent};
+use oracle::{Analysis, Input, LENT, Lent};
 use std::collections::BTreeMap;
 use std::fs;
 use std::ops::Range;
@@ -144,50 +144,55 @@ fn peak(raw: &Raw) -> usize {
 pub fn steps(seeds: Range<u64>) {
     let mut counts: BTreeMap<String, usize> = BTreeMap::new();
     for seed in seeds {
-        let mut rng = Rng::new(!seed);
         let file = rich(&mut Rng::new(seed)).file;
         let Ok(raw) = Raw::from_bytes(&file) else {
             continue;
         };
-        let Ok(mut input) = oracle::input(&raw) else {
+        let Ok(input) = oracle::input(&raw) else {
             continue;
         };
         if oracle::analyse(&raw, LENT).is_err() {
             continue;
         }
-        let symbols = oracle::tables(&input);
-        let first = oracle::whole(input.clone());
-        let wanted = oracle::text(&Ok(first.clone()));
-        *counts.entry("programs".into()).or_default() += 1;
-        for _ in 0..rng.within(1, 30) {
-            let count = expressions(&mut input.program, &symbols);
-            if count == 0 {
-                break;
-            }
-            let action = *rng.pick(&[Action::Put, Action::Take, Action::Take, Action::Rewrite]);
-            let before = input.clone();
-            let verdict = step(&mut input.program, &symbols, rng.below(count), action);
-            let after = || oracle::whole(input.clone());
-            match verdict {
-                Verdict::Nothing => continue,
-                Verdict::Allowed => {
-                    assert_eq!(
-                        oracle::text(&Ok(after())),
-                        wanted,
-                        "seed {seed}: an allowed step"
-                    );
-                }
-                Verdict::Forbidden => {
-                    let changed = after().resolved;
-                    assert!(changed != first.resolved, "seed {seed}: a forbidden step");
-                    input = before;
-                }
-            }
-            *counts.entry(format!("{verdict:?} {action:?}")).or_default() += 1;
-        }
+        steps_of(seed, input, &mut counts);
     }
     for (what, count) in counts {
         println!("{count:9} {what}");
+    }
+}
+
+/// Random steps from one seed's program, each counted.
+fn steps_of(seed: u64, mut input: Input<'_>, counts: &mut BTreeMap<String, usize>) {
+    let mut rng = Rng::new(!seed);
+    let symbols = oracle::tables(&input);
+    let first = oracle::whole(input.clone());
+    let wanted = oracle::text(&Ok(first.clone()));
+    *counts.entry("programs".into()).or_default() += 1;
+    for _ in 0..rng.within(1, 30) {
+        let count = expressions(&mut input.program, &symbols);
+        if count == 0 {
+            break;
+        }
+        let action = *rng.pick(&[Action::Put, Action::Take, Action::Take, Action::Rewrite]);
+        let before = input.clone();
+        let verdict = step(&mut input.program, &symbols, rng.below(count), action);
+        let after = || oracle::whole(input.clone());
+        match verdict {
+            Verdict::Nothing => continue,
+            Verdict::Allowed => {
+                assert_eq!(
+                    oracle::text(&Ok(after())),
+                    wanted,
+                    "seed {seed}: an allowed step"
+                );
+            }
+            Verdict::Forbidden => {
+                let changed = after().resolved;
+                assert!(changed != first.resolved, "seed {seed}: a forbidden step");
+                input = before;
+            }
+        }
+        *counts.entry(format!("{verdict:?} {action:?}")).or_default() += 1;
     }
 }
 
@@ -226,6 +231,9 @@ pub fn vectors(seeds: Range<u64>) {
 const EDGES: &str = include_str!("../edges.txt");
 const SAMPLES: &str = concat!(env!("CARGO_MANIFEST_DIR"), "/../../samples");
 
+/// By group, how many images a list has, and the list.
+type Lists = BTreeMap<&'static str, (usize, Vec<u8>)>;
+
 /// One more image of a list, with the original's listing.
 fn record((count, list): &mut (usize, Vec<u8>), file: &[u8]) {
     *count += 1;
@@ -250,7 +258,7 @@ pub fn keep(seeds: Range<u64>, to: &Path) {
         .flat_map(|s| [false, true].map(|is_fold| (of(s, is_fold).file.len(), s, is_fold)))
         .collect();
     sizes.sort_unstable();
-    let mut lists: BTreeMap<&'static str, (usize, Vec<u8>)> = BTreeMap::new();
+    let mut lists = Lists::new();
     let mut met: BTreeMap<String, usize> = BTreeMap::new();
     for (size, seed, is_fold) in sizes {
         let Case { file, group } = of(seed, is_fold);
@@ -273,6 +281,12 @@ pub fn keep(seeds: Range<u64>, to: &Path) {
         }
         record(lists.entry(group).or_default(), &file);
     }
+    record_texts(&mut lists);
+    write_lists(lists, to);
+}
+
+/// The edges and the samples, each a group.
+fn record_texts(lists: &mut Lists) {
     for text in EDGES.split("\n= ").skip(1) {
         let (name, text) = text.split_once('\n').expect("a name, then a text");
         let file = image::text::parse(text).unwrap_or_else(|f| panic!("{name}: {f}"));
@@ -282,6 +296,10 @@ pub fn keep(seeds: Range<u64>, to: &Path) {
         let file = image::text::parse(&text).unwrap_or_else(|f| panic!("{name}: {f}"));
         record(lists.entry("samples").or_default(), &file);
     }
+}
+
+/// The groups one after another in one file; how large each is, is printed.
+fn write_lists(lists: Lists, to: &Path) {
     let mut all = vec![];
     for (group, (count, list)) in lists {
         println!("{count:6} images {:8} bytes  {group}", list.len());
@@ -342,24 +360,7 @@ fn statement_shapes(stmt: &Stmt, resolved: &Stmt, a: &Analysis) -> Vec<String> {
     };
     match &stmt.kind {
         StmtKind::Const { value, .. } => {
-            let parts = match value {
-                Expr::Binary { op, left, right } => {
-                    format!("{op:?} {} {}", operand(left), operand(right))
-                }
-                Expr::Unary { op, operand: e } => format!("{op:?} {}", operand(e)),
-                e => variant(e),
-            };
-            let ends: Vec<u32> = a
-                .rows
-                .iter()
-                .filter(|r| r[0] >> 24 == 132)
-                .map(|r| r[2])
-                .collect();
-            let codes: Vec<u32> = a.diagnostics.iter().map(oracle::code).collect();
-            // Only alone is the answer this constant's.
-            if ends.len() + codes.len() == 1 {
-                found.push(format!("fold {parts} {ends:?} {codes:?}"));
-            }
+            found.extend(fold_shape(value, a));
         }
         StmtKind::Sub { params, body, .. } | StmtKind::Function { params, body, .. } => {
             if let (true, [first]) = (params.iter().any(|p| p.array), &body[..]) {
@@ -369,6 +370,27 @@ fn statement_shapes(stmt: &Stmt, resolved: &Stmt, a: &Analysis) -> Vec<String> {
         _ => {}
     }
     found
+}
+
+/// What a constant folds from and to.
+fn fold_shape(value: &Expr, a: &Analysis) -> Option<String> {
+    let parts = match value {
+        Expr::Binary { op, left, right } => {
+            format!("{op:?} {} {}", operand(left), operand(right))
+        }
+        Expr::Unary { op, operand: e } => format!("{op:?} {}", operand(e)),
+        e => variant(e),
+    };
+    let ends: Vec<u32> = a
+        .rows
+        .iter()
+        .filter(|r| r[0] >> 24 == 132)
+        .map(|r| r[2])
+        .collect();
+    let codes: Vec<u32> = a.diagnostics.iter().map(oracle::code).collect();
+    // Only alone is the answer this constant's.
+    let alone = ends.len() + codes.len() == 1;
+    alone.then(|| format!("fold {parts} {ends:?} {codes:?}"))
 }
 
 /// An operand by its literal's kind, or its variant.
@@ -386,53 +408,60 @@ fn shapes(file: &[u8], answer: &Result<Analysis, Refusal>) -> Vec<String> {
         return found;
     };
     match answer {
-        Err(refusal) => {
-            // Number 2 by the kind of the word before and of the wrong one.
-            let at = refusal.place as usize;
-            let kind = |i: Option<usize>| i.and_then(|i| raw.tree.get(i)).map(|w| w >> 24);
-            if refusal.number == 2 {
-                found.push(format!(
-                    "2 {:?} {:?}",
-                    kind(at.checked_sub(1)),
-                    kind(Some(at)).map(|k| k / 8)
-                ));
-            }
-        }
-        Ok(a) => {
-            let codes: Vec<u32> = a.diagnostics.iter().map(oracle::code).collect();
-            for pair in codes.windows(2) {
-                found.push(format!("codes {} {}", pair[0], pair[1]));
-            }
-            for row in &a.rows {
-                // Rows by kind, whether scoped, and the small words in them.
-                let small = |w: u32| {
-                    if w < 4 || (24..46).contains(&w) {
-                        w
-                    } else {
-                        99
-                    }
-                };
-                found.push(format!(
-                    "row {} {} {} {}",
-                    row[0] >> 24,
-                    row[1].min(1),
-                    small(row[2]),
-                    small(row[4])
-                ));
-            }
-            for w in raw.tree.iter().filter(|w| (64..118).contains(&(*w >> 24))) {
-                found.push(format!("statement {}", w >> 24));
-            }
-            let (program, _) = image::read(&raw).expect("read before");
-            let after = image::resolved(&raw, &a.resolved).expect("words of a tree");
-            for (s, t) in program.iter().zip(&after) {
-                found.extend(statement_shapes(s, t, a));
-            }
-            let shorter = raw.tree.len() - a.resolved.len();
-            found.push(format!("shrinks by {}", shorter.min(6)));
-        }
+        Err(refusal) => found.extend(refusal_shape(&raw, refusal)),
+        Ok(a) => found.extend(analysis_shapes(&raw, a)),
     }
     found.sort();
     found.dedup();
+    found
+}
+
+/// Number 2 by the kind of the word before and of the wrong one.
+fn refusal_shape(raw: &Raw, refusal: &Refusal) -> Option<String> {
+    let at = refusal.place as usize;
+    let kind = |i: Option<usize>| i.and_then(|i| raw.tree.get(i)).map(|w| w >> 24);
+    (refusal.number == 2).then(|| {
+        format!(
+            "2 {:?} {:?}",
+            kind(at.checked_sub(1)),
+            kind(Some(at)).map(|k| k / 8)
+        )
+    })
+}
+
+/// Pairs of codes, rows, statements, and what resolving did to them.
+fn analysis_shapes(raw: &Raw, a: &Analysis) -> Vec<String> {
+    let mut found = Vec::new();
+    let codes: Vec<u32> = a.diagnostics.iter().map(oracle::code).collect();
+    for pair in codes.windows(2) {
+        found.push(format!("codes {} {}", pair[0], pair[1]));
+    }
+    for row in &a.rows {
+        // Rows by kind, whether scoped, and the small words in them.
+        let small = |w: u32| {
+            if w < 4 || (24..46).contains(&w) {
+                w
+            } else {
+                99
+            }
+        };
+        found.push(format!(
+            "row {} {} {} {}",
+            row[0] >> 24,
+            row[1].min(1),
+            small(row[2]),
+            small(row[4])
+        ));
+    }
+    for w in raw.tree.iter().filter(|w| (64..118).contains(&(*w >> 24))) {
+        found.push(format!("statement {}", w >> 24));
+    }
+    let (program, _) = image::read(raw).expect("read before");
+    let after = image::resolved(raw, &a.resolved).expect("words of a tree");
+    for (s, t) in program.iter().zip(&after) {
+        found.extend(statement_shapes(s, t, a));
+    }
+    let shorter = raw.tree.len() - a.resolved.len();
+    found.push(format!("shrinks by {}", shorter.min(6)));
     found
 }

@@ -778,6 +778,13 @@ impl<'a> Maker<'a> {
                 var: self.lvalue(),
                 file_num: self.maybe(Self::expr),
             },
+            _ => self.flow_kind(position),
+        }
+    }
+
+    /// Positions 6 to 14: blocks and jumps.
+    fn flow_kind(&mut self, position: usize) -> StmtKind {
+        match position {
             6 => StmtKind::If {
                 condition: self.expr(),
                 then_branch: self.body(),
@@ -811,6 +818,13 @@ impl<'a> Maker<'a> {
                 expr: self.expr(),
                 targets: self.some(3, Self::target),
             },
+            _ => self.declared_kind(position),
+        }
+    }
+
+    /// Positions 15 to 22: declarations, procedures and calls.
+    fn declared_kind(&mut self, position: usize) -> StmtKind {
+        match position {
             15 => StmtKind::Dim {
                 decls: self.some(3, Self::declarator),
                 shared: self.rng.one_in(3),
@@ -832,6 +846,13 @@ impl<'a> Maker<'a> {
                 name: self.called(),
                 args: self.some(4, Self::expr),
             },
+            _ => self.value_kind(position),
+        }
+    }
+
+    /// Positions 23 to 30: other assignments, constants, exits and types.
+    fn value_kind(&mut self, position: usize) -> StmtKind {
+        match position {
             23 => StmtKind::MidAssign {
                 target: self.lvalue(),
                 start: self.expr(),
@@ -859,6 +880,13 @@ impl<'a> Maker<'a> {
                 target: self.lvalue(),
                 value: self.expr(),
             },
+            _ => self.data_kind(position),
+        }
+    }
+
+    /// Positions 31 to 38: data, default types and errors.
+    fn data_kind(&mut self, position: usize) -> StmtKind {
+        match position {
             31 => StmtKind::Data(self.some(3, |m| DataItem {
                 text: m.text(),
                 quoted: m.coin(),
@@ -886,6 +914,13 @@ impl<'a> Maker<'a> {
                 1 => ResumeTarget::Next,
                 _ => ResumeTarget::At(self.target()),
             }),
+            _ => self.screen_kind(position),
+        }
+    }
+
+    /// Positions 39 to 46: the screen, SELECT CASE and ends.
+    fn screen_kind(&mut self, position: usize) -> StmtKind {
+        match position {
             39 => StmtKind::Locate {
                 row: self.maybe(Self::expr),
                 col: self.maybe(Self::expr),
@@ -903,6 +938,13 @@ impl<'a> Maker<'a> {
             },
             45 => StmtKind::End,
             46 => StmtKind::Stop,
+            _ => self.file_kind(position),
+        }
+    }
+
+    /// Positions 47 to 49: files.
+    fn file_kind(&mut self, position: usize) -> StmtKind {
+        match position {
             47 => StmtKind::Open {
                 filename: self.expr(),
                 mode: *self.rng.pick(&[
@@ -919,6 +961,13 @@ impl<'a> Maker<'a> {
                 file_num: self.maybe(Self::expr),
                 width: self.expr(),
             },
+            _ => self.record_kind(position),
+        }
+    }
+
+    /// Positions from 50: fields and records of files.
+    fn record_kind(&mut self, position: usize) -> StmtKind {
+        match position {
             50 => StmtKind::Field {
                 file_num: self.expr(),
                 fields: self.some(3, |m| FieldSlice {

@@ -19,8 +19,19 @@ fuzz samples FOLDER              the image and the listing beside each text of a
 fn main() -> ExitCode {
     let args: Vec<String> = std::env::args().skip(1).collect();
     let args: Vec<&str> = args.iter().map(String::as_str).collect();
+    match run(&args) {
+        Some(()) => ExitCode::SUCCESS,
+        None => {
+            eprint!("{HELP}");
+            ExitCode::from(2)
+        }
+    }
+}
+
+/// Does what the words say, if they say something.
+fn run(args: &[&str]) -> Option<()> {
     let number = |s: &str| s.parse::<u64>().ok();
-    let done = match args[..] {
+    match *args {
         ["image", seed] => number(seed).map(|s| put(&fuzz::case(s).file)),
         ["small", seed] => number(seed).map(|s| put(&fuzz::small(s).to_bytes())),
         #[cfg(original)]
@@ -50,13 +61,6 @@ fn main() -> ExitCode {
             range(first, count).map(|seeds| fuzz::judged::keep(seeds, file.as_ref()))
         }
         _ => None,
-    };
-    match done {
-        Some(()) => ExitCode::SUCCESS,
-        None => {
-            eprint!("{HELP}");
-            ExitCode::from(2)
-        }
     }
 }
 

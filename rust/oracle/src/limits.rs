@@ -104,50 +104,66 @@ impl Stepper {
     /// `collect`, with the limits.
     pub fn collect(&mut self, stmts: &[Stmt], scope: &Scope) -> Stop {
         for stmt in stmts {
-            match &stmt.kind {
-                StmtKind::TypeDef { name, fields } => {
-                    self.whole(stmt, scope);
-                    let events = self.type_events(name, fields);
-                    self.happen(events)?;
-                }
-                StmtKind::Dim { decls, shared } => {
-                    if *shared {
-                        self.dim_shared(stmt, decls, scope)?;
-                    }
-                    for d in decls {
-                        let decls = vec![d.clone()];
-                        let shared = false;
-                        self.declarator(stmt, StmtKind::Dim { decls, shared }, scope)?;
-                    }
-                }
-                StmtKind::Redim { decls, preserve } => {
-                    for d in decls {
-                        let decls = vec![d.clone()];
-                        let preserve = *preserve;
-                        self.declarator(stmt, StmtKind::Redim { decls, preserve }, scope)?;
-                    }
-                }
-                StmtKind::Sub {
-                    name, params, body, ..
-                }
-                | StmtKind::Function {
-                    name, params, body, ..
-                } => {
-                    self.head(stmt, name, params, scope)?;
-                    self.collect(body, &Scope::Proc(name.clone()))?;
-                }
-                _ if child_bodies(stmt).is_empty() => {
-                    self.whole(stmt, scope);
-                    // Every other statement pushes its diagnostics before it enters a new row.
-                    let events = self.diagnostics_then_rows();
-                    self.happen(events)?;
-                }
-                _ => {
-                    for body in child_bodies(stmt) {
-                        self.collect(body, scope)?;
-                    }
-                }
+            self.statement(stmt, scope)?;
+        }
+        Ok(())
+    }
+
+    /// `collect` of one statement.
+    #[inline]
+    fn statement(&mut self, stmt: &Stmt, scope: &Scope) -> Stop {
+        match &stmt.kind {
+            StmtKind::TypeDef { name, fields } => {
+                self.whole(stmt, scope);
+                let events = self.type_events(name, fields);
+                self.happen(events)
             }
+            StmtKind::Dim { decls, shared } => self.dim(stmt, decls, *shared, scope),
+            StmtKind::Redim { decls, preserve } => self.redim(stmt, decls, *preserve, scope),
+            StmtKind::Sub {
+                name, params, body, ..
+            }
+            | StmtKind::Function {
+                name, params, body, ..
+            } => {
+                self.head(stmt, name, params, scope)?;
+                self.collect(body, &Scope::Proc(name.clone()))
+            }
+            _ if child_bodies(stmt).is_empty() => {
+                self.whole(stmt, scope);
+                // Every other statement pushes its diagnostics before it enters a new row.
+                let events = self.diagnostics_then_rows();
+                self.happen(events)
+            }
+            _ => {
+                for body in child_bodies(stmt) {
+                    self.collect(body, scope)?;
+                }
+                Ok(())
+            }
+        }
+    }
+
+    /// DIM: what SHARED does, then the declarators one at a time.
+    #[inline]
+    fn dim(&mut self, stmt: &Stmt, decls: &[Declarator], shared: bool, scope: &Scope) -> Stop {
+        if shared {
+            self.dim_shared(stmt, decls, scope)?;
+        }
+        for d in decls {
+            let decls = vec![d.clone()];
+            let shared = false;
+            self.declarator(stmt, StmtKind::Dim { decls, shared }, scope)?;
+        }
+        Ok(())
+    }
+
+    /// REDIM: the declarators one at a time.
+    #[inline]
+    fn redim(&mut self, stmt: &Stmt, decls: &[Declarator], preserve: bool, scope: &Scope) -> Stop {
+        for d in decls {
+            let decls = vec![d.clone()];
+            self.declarator(stmt, StmtKind::Redim { decls, preserve }, scope)?;
         }
         Ok(())
     }
@@ -309,19 +325,7 @@ impl Stepper {
 /// Make a statement one that `collect` passes over and `subscript_count` can't tell from it: the same expressions in the
 /// same order, the same bodies, and no declaration.
 fn neutral(stmt: &mut Stmt) {
-    let declares = matches!(
-        stmt.kind,
-        StmtKind::Label(_)
-            | StmtKind::LabelName(_)
-            | StmtKind::TypeDef { .. }
-            | StmtKind::OptionBase(_)
-            | StmtKind::Const { .. }
-            | StmtKind::Shared(_)
-            | StmtKind::Static(_)
-            | StmtKind::Dim { .. }
-            | StmtKind::Redim { .. }
-    );
-    if declares {
+    if declares(&stmt.kind) {
         let mut exprs = Vec::new();
         for_each_expr_mut(stmt, &mut |e| exprs.push(e.clone()));
         stmt.kind = StmtKind::Close(exprs);
@@ -335,7 +339,30 @@ fn neutral(stmt: &mut Stmt) {
             body,
         };
     }
-    match &mut stmt.kind {
+    neutral_bodies(&mut stmt.kind);
+}
+
+/// Whether a statement without bodies is a declaration.
+#[inline]
+fn declares(kind: &StmtKind) -> bool {
+    matches!(
+        kind,
+        StmtKind::Label(_)
+            | StmtKind::LabelName(_)
+            | StmtKind::TypeDef { .. }
+            | StmtKind::OptionBase(_)
+            | StmtKind::Const { .. }
+            | StmtKind::Shared(_)
+            | StmtKind::Static(_)
+            | StmtKind::Dim { .. }
+            | StmtKind::Redim { .. }
+    )
+}
+
+/// `neutral` of each statement in the bodies.
+#[inline]
+fn neutral_bodies(kind: &mut StmtKind) {
+    match kind {
         StmtKind::If {
             then_branch,
             else_branch,

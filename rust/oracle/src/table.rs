@@ -54,18 +54,56 @@ fn marks(sets: &NameSets) -> HashMap<&str, u32> {
     marks
 }
 
+/// A row's first word.
+#[inline]
+fn head(kind: u32, payload: u32) -> u32 {
+    kind << 24 | payload
+}
+
 /// All rows, rising by their first two words.
 pub fn rows(original: &Original, numbers: &Numbers<'_>) -> Vec<Row> {
     let symbols = original.symbols();
-    let n = |name: &str| numbers[name];
-    let head = |kind: u32, payload: u32| kind << 24 | payload;
     let mut rows: Vec<Row> = Vec::new();
+    target_rows(&mut rows, symbols, numbers);
+    record_rows(&mut rows, symbols, numbers);
+    variable_rows(&mut rows, symbols, numbers);
+    proc_rows(&mut rows, symbols, numbers);
+    item_rows(&mut rows, symbols, numbers);
+    for (kind, procs) in [(140, &symbols.static_procs), (141, &symbols.def_fns)] {
+        rows.extend(
+            procs
+                .iter()
+                .map(|name| [head(kind, numbers[name.as_str()]), 0, 0, 0, 0, 0]),
+        );
+    }
+    for (proc, name) in original.unranked_array_params() {
+        let (name, proc) = (numbers[name.as_str()], numbers[proc.as_str()]);
+        rows.push([head(142, name), proc + 1, 0, 0, 0, 0]);
+    }
+    if original.seen_option_base() {
+        rows.push([head(143, 0), 0, symbols.option_base as u32, 0, 0, 0]);
+    }
+    rows.sort_unstable();
+    debug_assert!(rows.windows(2).all(|w| w[0][..2] < w[1][..2]));
+    rows
+}
+
+/// Rows 128 and 129: line numbers and labels.
+#[inline]
+fn target_rows(rows: &mut Vec<Row>, symbols: &Symbols, numbers: &Numbers<'_>) {
+    let n = |name: &str| numbers[name];
     for (line, scope) in &symbols.lines {
         rows.push([head(128, *line), 0, scope_word(scope, numbers), 0, 0, 0]);
     }
     for (name, scope) in &symbols.labels {
         rows.push([head(129, n(name)), 0, scope_word(scope, numbers), 0, 0, 0]);
     }
+}
+
+/// Rows 130 and 131: TYPEs and their fields.
+#[inline]
+fn record_rows(rows: &mut Vec<Row>, symbols: &Symbols, numbers: &Numbers<'_>) {
+    let n = |name: &str| numbers[name];
     for (name, record) in &symbols.records {
         let words = record.words as u32;
         rows.push([head(130, n(name)), 0, words, record.line, 0, 0]);
@@ -75,6 +113,12 @@ pub fn rows(original: &Original, numbers: &Numbers<'_>) -> Vec<Row> {
             rows.push([head(131, n(name)), ordinal, n(field), word, ty, arg]);
         }
     }
+}
+
+/// Rows 132, 133 and 134: constants, arrays and typed variables.
+#[inline]
+fn variable_rows(rows: &mut Vec<Row>, symbols: &Symbols, numbers: &Numbers<'_>) {
+    let n = |name: &str| numbers[name];
     for (name, value) in &symbols.consts {
         let [kind, low, high] = literal_words(value, numbers);
         rows.push([head(132, n(name)), 0, kind, low, high, 0]);
@@ -102,6 +146,12 @@ pub fn rows(original: &Original, numbers: &Numbers<'_>) -> Vec<Row> {
             0,
         ]);
     }
+}
+
+/// Rows 135 and 136: procedures and their parameters.
+#[inline]
+fn proc_rows(rows: &mut Vec<Row>, symbols: &Symbols, numbers: &Numbers<'_>) {
+    let n = |name: &str| numbers[name];
     for (name, info) in &symbols.procs {
         let [ty, arg] = optional_type(&info.ret_ty, numbers);
         let function = u32::from(info.is_function);
@@ -112,6 +162,12 @@ pub fn rows(original: &Original, numbers: &Numbers<'_>) -> Vec<Row> {
             rows.push([head(136, n(name)), ordinal, n(&p.name), mark, ty, arg]);
         }
     }
+}
+
+/// Rows 137, 138 and 139: items of DIM SHARED, SHARED and STATIC.
+#[inline]
+fn item_rows(rows: &mut Vec<Row>, symbols: &Symbols, numbers: &Numbers<'_>) {
+    let n = |name: &str| numbers[name];
     for name in &symbols.shared_all.vars {
         rows.push([head(137, n(name)), 0, 0, 0, 0, 0]);
     }
@@ -125,22 +181,6 @@ pub fn rows(original: &Original, numbers: &Numbers<'_>) -> Vec<Row> {
             }
         }
     }
-    for (kind, procs) in [(140, &symbols.static_procs), (141, &symbols.def_fns)] {
-        rows.extend(
-            procs
-                .iter()
-                .map(|name| [head(kind, n(name)), 0, 0, 0, 0, 0]),
-        );
-    }
-    for (proc, name) in original.unranked_array_params() {
-        rows.push([head(142, n(name)), n(proc) + 1, 0, 0, 0, 0]);
-    }
-    if original.seen_option_base() {
-        rows.push([head(143, 0), 0, symbols.option_base as u32, 0, 0, 0]);
-    }
-    rows.sort_unstable();
-    debug_assert!(rows.windows(2).all(|w| w[0][..2] < w[1][..2]));
-    rows
 }
 
 fn type_of(head: u32, arg: u32, strings: &[&str]) -> Option<TypeRef> {
@@ -191,86 +231,107 @@ pub fn scope_of(word: u32, strings: &[&str]) -> Scope {
 pub fn symbols(rows: &[Row], strings: &[&str]) -> Symbols {
     let mut s = Symbols::default();
     for r in rows {
-        let payload = r[0] & 0x00ff_ffff;
-        let name = || strings[payload as usize].to_string();
-        let scope = |w: u32| scope_of(w, strings);
-        match r[0] >> 24 {
-            128 => drop(s.lines.insert(payload, scope(r[2]))),
-            129 => drop(s.labels.insert(name(), scope(r[2]))),
-            130 => {
-                let record = RecordInfo {
-                    fields: Vec::new(),
-                    words: r[2] as i32,
-                    line: r[3],
-                };
-                s.records.insert(name(), record);
-            }
-            131 => {
-                if let (Some(record), Some(ty)) =
-                    (s.records.get_mut(&name()), type_of(r[4], r[5], strings))
-                {
-                    let word = r[3] as i32;
-                    let field = strings[r[2] as usize].to_string();
-                    record.fields.push((field, FieldInfo { word, ty }));
-                }
-            }
-            132 => drop(
-                s.consts
-                    .insert(name(), literal_of(r[2], r[3], r[4], strings)),
-            ),
-            133 => {
-                let info = ArrayInfo {
-                    rank: r[2] as usize,
-                    line: r[3],
-                    has_lower: r[4] == 1,
-                    implicit: false,
-                };
-                s.arrays.insert((scope(r[1]), name()), info);
-            }
-            134 => {
-                let ty = type_of(r[2], r[3], strings).expect("a typed variable has a type");
-                s.typed_vars.insert((scope(r[1]), name()), ty);
-            }
-            135 => {
-                let info = ProcInfo {
-                    is_function: r[2] == 1,
-                    params: Vec::new(),
-                    ret_ty: type_of(r[4], r[5], strings),
-                    line: r[3],
-                };
-                s.procs.insert(name(), info);
-            }
-            136 => {
-                if let Some(info) = s.procs.get_mut(&name()) {
-                    let param = |name: &str, mark: u32, ty| Param {
-                        name: name.to_string(),
-                        byval: mark & 1 != 0,
-                        array: mark & 2 != 0,
-                        ty,
-                    };
-                    let ordinal = (r[1] as usize).min(MOST_ORDINALS);
-                    info.params.resize_with(ordinal, || param("", 1, None));
-                    let ty = type_of(r[4], r[5], strings);
-                    info.params.push(param(strings[r[2] as usize], r[3], ty));
-                }
-            }
-            137 => put_items(&mut s.shared_all, &name(), 1 + r[1]),
-            138 | 139 if r[1] == 0 => {}
-            138 => {
-                let proc = strings[r[1] as usize - 1].to_string();
-                put_items(s.proc_shared.entry(proc).or_default(), &name(), r[2]);
-            }
-            139 => {
-                let proc = strings[r[1] as usize - 1].to_string();
-                put_items(s.proc_static.entry(proc).or_default(), &name(), r[2]);
-            }
-            140 => drop(s.static_procs.insert(name())),
-            141 => drop(s.def_fns.insert(name())),
-            142 => {}
-            _ => s.option_base = i64::from(r[2]),
-        }
+        put_row(&mut s, r, strings);
     }
     s
+}
+
+/// One row's entry.
+#[inline]
+fn put_row(s: &mut Symbols, r: &Row, strings: &[&str]) {
+    let payload = r[0] & 0x00ff_ffff;
+    let name = || strings[payload as usize].to_string();
+    let scope = |w: u32| scope_of(w, strings);
+    match r[0] >> 24 {
+        128 => drop(s.lines.insert(payload, scope(r[2]))),
+        129 => drop(s.labels.insert(name(), scope(r[2]))),
+        130 => drop(s.records.insert(name(), record_of(r))),
+        131 => put_field(s, &name(), r, strings),
+        132 => drop(
+            s.consts
+                .insert(name(), literal_of(r[2], r[3], r[4], strings)),
+        ),
+        133 => drop(s.arrays.insert((scope(r[1]), name()), array_of(r))),
+        134 => {
+            let ty = type_of(r[2], r[3], strings).expect("a typed variable has a type");
+            s.typed_vars.insert((scope(r[1]), name()), ty);
+        }
+        135 => drop(s.procs.insert(name(), proc_of(r, strings))),
+        136 => put_param(s, &name(), r, strings),
+        137 => put_items(&mut s.shared_all, &name(), 1 + r[1]),
+        138 | 139 if r[1] == 0 => {}
+        138 => {
+            let proc = strings[r[1] as usize - 1].to_string();
+            put_items(s.proc_shared.entry(proc).or_default(), &name(), r[2]);
+        }
+        139 => {
+            let proc = strings[r[1] as usize - 1].to_string();
+            put_items(s.proc_static.entry(proc).or_default(), &name(), r[2]);
+        }
+        140 => drop(s.static_procs.insert(name())),
+        141 => drop(s.def_fns.insert(name())),
+        142 => {}
+        _ => s.option_base = i64::from(r[2]),
+    }
+}
+
+/// The TYPE of a row 130, without its fields.
+#[inline]
+fn record_of(r: &Row) -> RecordInfo {
+    RecordInfo {
+        fields: Vec::new(),
+        words: r[2] as i32,
+        line: r[3],
+    }
+}
+
+/// The field of a row 131, at the end of its TYPE.
+#[inline]
+fn put_field(s: &mut Symbols, name: &str, r: &Row, strings: &[&str]) {
+    if let (Some(record), Some(ty)) = (s.records.get_mut(name), type_of(r[4], r[5], strings)) {
+        let word = r[3] as i32;
+        let field = strings[r[2] as usize].to_string();
+        record.fields.push((field, FieldInfo { word, ty }));
+    }
+}
+
+/// The array of a row 133.
+#[inline]
+fn array_of(r: &Row) -> ArrayInfo {
+    ArrayInfo {
+        rank: r[2] as usize,
+        line: r[3],
+        has_lower: r[4] == 1,
+        implicit: false,
+    }
+}
+
+/// The procedure of a row 135, without its parameters.
+#[inline]
+fn proc_of(r: &Row, strings: &[&str]) -> ProcInfo {
+    ProcInfo {
+        is_function: r[2] == 1,
+        params: Vec::new(),
+        ret_ty: type_of(r[4], r[5], strings),
+        line: r[3],
+    }
+}
+
+/// The parameter of a row 136, at its place in its procedure.
+#[inline]
+fn put_param(s: &mut Symbols, name: &str, r: &Row, strings: &[&str]) {
+    if let Some(info) = s.procs.get_mut(name) {
+        let param = |name: &str, mark: u32, ty| Param {
+            name: name.to_string(),
+            byval: mark & 1 != 0,
+            array: mark & 2 != 0,
+            ty,
+        };
+        let ordinal = (r[1] as usize).min(MOST_ORDINALS);
+        info.params.resize_with(ordinal, || param("", 1, None));
+        let ty = type_of(r[4], r[5], strings);
+        info.params.push(param(strings[r[2] as usize], r[3], ty));
+    }
 }
 
 /// No list has so many members that a greater ordinal could be asked for.

@@ -592,8 +592,13 @@ fn r30_empty_lists() {
 
 #[test]
 fn r31_walk_order() {
-    let use_of = |n: usize| format!("(FnCall name=P args=[{}])", "0 ".repeat(n));
-    let (u1, u2, u3, u4) = (use_of(1), use_of(2), use_of(3), use_of(4));
+    let uses = [1, 2, 3, 4].map(|n| format!("(FnCall name=P args=[{}])", "0 ".repeat(n)));
+    file_numbers_first(&uses);
+    clauses_and_targets_first(&uses);
+}
+
+/// A use in a file number comes before those in the items and targets; one in USING before those in the items.
+fn file_numbers_first([_, u2, u3, u4]: &[String; 4]) {
     assert_eq!(
         ranked(&format!(
             "(Print file_num={u2} items=[(Expr {u3})] using={u4})"
@@ -616,6 +621,10 @@ fn r31_walk_order() {
         )),
         (2, false)
     );
+}
+
+/// A use in a clause comes before those in the bodies; a target before the uses in the statement.
+fn clauses_and_targets_first([u1, u2, u3, u4]: &[String; 4]) {
     assert_eq!(
         ranked(&format!(
             "(SelectCase expr=0 cases=[{{clauses=[] body=[(Print items=[(Expr {u3})])]}} {{clauses=[(Value {u2})]}}])"

@@ -411,7 +411,7 @@ impl Reader<'_> {
     }
 
     /// The fields of the statements from IF on.
-    #[inline]
+    #[inline(always)]
     fn kind_from_if(&mut self, variant: u32, d: u32) -> Read<StmtKind> {
         Ok(match variant {
             6 => StmtKind::If {
@@ -452,7 +452,7 @@ impl Reader<'_> {
     }
 
     /// The fields of the statements from DIM on.
-    #[inline]
+    #[inline(always)]
     fn kind_from_dim(&mut self, variant: u32, d: u32) -> Read<StmtKind> {
         Ok(match variant {
             15 => StmtKind::Dim {
@@ -490,7 +490,7 @@ impl Reader<'_> {
     }
 
     /// The fields of the statements from CALL on.
-    #[inline]
+    #[inline(always)]
     fn kind_from_call(&mut self, variant: u32, d: u32) -> Read<StmtKind> {
         Ok(match variant {
             22 => StmtKind::Call {
@@ -531,7 +531,7 @@ impl Reader<'_> {
     }
 
     /// The fields of the statements from DATA on.
-    #[inline]
+    #[inline(always)]
     fn kind_from_data(&mut self, variant: u32, d: u32) -> Read<StmtKind> {
         Ok(match variant {
             31 => StmtKind::Data(self.list(|r| {
@@ -572,7 +572,7 @@ impl Reader<'_> {
     }
 
     /// The fields of the statements from OPEN on.
-    #[inline]
+    #[inline(always)]
     fn kind_from_open(&mut self, variant: u32, d: u32) -> Read<StmtKind> {
         Ok(match variant {
             47 => StmtKind::Open {
@@ -947,7 +947,7 @@ impl<'a, F: FnMut(&'a str) -> u32> Writer<F> {
     }
 
     /// The statements from INPUT on.
-    #[inline]
+    #[inline(always)]
     fn from_input(&mut self, stmt: &'a Stmt) {
         match &stmt.kind {
             StmtKind::Input {
@@ -987,7 +987,7 @@ impl<'a, F: FnMut(&'a str) -> u32> Writer<F> {
     }
 
     /// The statements from FOR on.
-    #[inline]
+    #[inline(always)]
     fn from_for(&mut self, stmt: &'a Stmt) {
         match &stmt.kind {
             StmtKind::For {
@@ -1026,7 +1026,7 @@ impl<'a, F: FnMut(&'a str) -> u32> Writer<F> {
     }
 
     /// The statements from GOTO on.
-    #[inline]
+    #[inline(always)]
     fn from_goto(&mut self, stmt: &'a Stmt) {
         match &stmt.kind {
             StmtKind::Goto(t) => {
@@ -1061,7 +1061,7 @@ impl<'a, F: FnMut(&'a str) -> u32> Writer<F> {
     }
 
     /// The statements from DECLARE on.
-    #[inline]
+    #[inline(always)]
     fn from_declare(&mut self, stmt: &'a Stmt) {
         match &stmt.kind {
             StmtKind::Declare {
@@ -1094,7 +1094,7 @@ impl<'a, F: FnMut(&'a str) -> u32> Writer<F> {
     }
 
     /// The statements from SUB on.
-    #[inline]
+    #[inline(always)]
     fn from_sub(&mut self, stmt: &'a Stmt) {
         match &stmt.kind {
             StmtKind::Sub {
@@ -1135,7 +1135,7 @@ impl<'a, F: FnMut(&'a str) -> u32> Writer<F> {
     }
 
     /// The statements from MID$ on.
-    #[inline]
+    #[inline(always)]
     fn from_mid(&mut self, stmt: &'a Stmt) {
         match &stmt.kind {
             StmtKind::MidAssign {
@@ -1174,7 +1174,7 @@ impl<'a, F: FnMut(&'a str) -> u32> Writer<F> {
     }
 
     /// The statements from TYPE on.
-    #[inline]
+    #[inline(always)]
     fn from_type(&mut self, stmt: &'a Stmt) {
         match &stmt.kind {
             StmtKind::TypeDef { name, fields } => {
@@ -1215,7 +1215,7 @@ impl<'a, F: FnMut(&'a str) -> u32> Writer<F> {
     }
 
     /// The statements from ERASE on.
-    #[inline]
+    #[inline(always)]
     fn from_erase(&mut self, stmt: &'a Stmt) {
         match &stmt.kind {
             StmtKind::Erase(names) => {
@@ -1258,7 +1258,7 @@ impl<'a, F: FnMut(&'a str) -> u32> Writer<F> {
     }
 
     /// The statements from SELECT CASE on.
-    #[inline]
+    #[inline(always)]
     fn from_select(&mut self, stmt: &'a Stmt) {
         match &stmt.kind {
             StmtKind::SelectCase { expr, cases } => {
@@ -1297,7 +1297,7 @@ impl<'a, F: FnMut(&'a str) -> u32> Writer<F> {
     }
 
     /// The statements from FIELD on.
-    #[inline]
+    #[inline(always)]
     fn from_field(&mut self, stmt: &'a Stmt) {
         match &stmt.kind {
             StmtKind::Field { file_num, fields } => {
@@ -1333,7 +1333,7 @@ impl<'a, F: FnMut(&'a str) -> u32> Writer<F> {
     }
 
     /// LOCK, the last statement. Those before it, written by now, are named so that the compiler finds a forgotten one.
-    #[inline]
+    #[inline(always)]
     fn from_lock(&mut self, stmt: &'a Stmt) {
         match &stmt.kind {
             StmtKind::Lock {

@@ -406,6 +406,14 @@ impl Reader<'_> {
                 var: self.lvalue(d)?,
                 file_num: self.maybe(d)?,
             },
+            _ => return self.kind_from_if(variant, d),
+        })
+    }
+
+    /// The fields of the statements from IF on.
+    #[inline(always)]
+    fn kind_from_if(&mut self, variant: u32, d: u32) -> Read<StmtKind> {
+        Ok(match variant {
             6 => StmtKind::If {
                 condition: self.expr(d)?,
                 then_branch: self.body(d)?,
@@ -439,6 +447,14 @@ impl Reader<'_> {
                 expr: self.expr(d)?,
                 targets: self.list(Self::target)?,
             },
+            _ => return self.kind_from_dim(variant, d),
+        })
+    }
+
+    /// The fields of the statements from DIM on.
+    #[inline(always)]
+    fn kind_from_dim(&mut self, variant: u32, d: u32) -> Read<StmtKind> {
+        Ok(match variant {
             15 => StmtKind::Dim {
                 decls: self.declarators(d)?,
                 shared: self.flag()?,
@@ -469,6 +485,14 @@ impl Reader<'_> {
                 is_static: self.flag()?,
                 def_fn: self.flag()?,
             },
+            _ => return self.kind_from_call(variant, d),
+        })
+    }
+
+    /// The fields of the statements from CALL on.
+    #[inline(always)]
+    fn kind_from_call(&mut self, variant: u32, d: u32) -> Read<StmtKind> {
+        Ok(match variant {
             22 => StmtKind::Call {
                 name: self.name()?,
                 args: self.exprs(d)?,
@@ -502,6 +526,14 @@ impl Reader<'_> {
                 target: self.lvalue(d)?,
                 value: self.expr(d)?,
             },
+            _ => return self.kind_from_data(variant, d),
+        })
+    }
+
+    /// The fields of the statements from DATA on.
+    #[inline(always)]
+    fn kind_from_data(&mut self, variant: u32, d: u32) -> Read<StmtKind> {
+        Ok(match variant {
             31 => StmtKind::Data(self.list(|r| {
                 Ok(DataItem {
                     text: r.text()?,
@@ -531,13 +563,18 @@ impl Reader<'_> {
             43 => StmtKind::Cls,
             44 => StmtKind::SelectCase {
                 expr: self.expr(d)?,
-                cases: self.list(|r| {
-                    let clauses = r.option(|r| r.list(|r| r.clause(d)))?;
-                    Ok((clauses, r.body(d)?))
-                })?,
+                cases: self.cases(d)?,
             },
             45 => StmtKind::End,
             46 => StmtKind::Stop,
+            _ => return self.kind_from_open(variant, d),
+        })
+    }
+
+    /// The fields of the statements from OPEN on.
+    #[inline(always)]
+    fn kind_from_open(&mut self, variant: u32, d: u32) -> Read<StmtKind> {
+        Ok(match variant {
             47 => StmtKind::Open {
                 filename: self.expr(d)?,
                 mode: self.simple(&FILE_MODES)?,
@@ -551,12 +588,7 @@ impl Reader<'_> {
             },
             50 => StmtKind::Field {
                 file_num: self.expr(d)?,
-                fields: self.list(|r| {
-                    Ok(FieldSlice {
-                        width: r.expr(d)?,
-                        target: r.lvalue(d)?,
-                    })
-                })?,
+                fields: self.field_slices(d)?,
             },
             51 => StmtKind::SetField {
                 target: self.lvalue(d)?,
@@ -573,6 +605,26 @@ impl Reader<'_> {
                 range: self.option(|r| Ok((r.expr(d)?, r.maybe(d)?)))?,
                 is_unlock: self.flag()?,
             },
+        })
+    }
+
+    /// The clauses and the body of each CASE.
+    #[inline]
+    fn cases(&mut self, d: u32) -> Read<Vec<(Option<Vec<CaseClause>>, Vec<Stmt>)>> {
+        self.list(|r| {
+            let clauses = r.option(|r| r.list(|r| r.clause(d)))?;
+            Ok((clauses, r.body(d)?))
+        })
+    }
+
+    /// The widths and the targets of a FIELD.
+    #[inline]
+    fn field_slices(&mut self, d: u32) -> Read<Vec<FieldSlice>> {
+        self.list(|r| {
+            Ok(FieldSlice {
+                width: r.expr(d)?,
+                target: r.lvalue(d)?,
+            })
         })
     }
 }
@@ -690,11 +742,7 @@ impl<'a, F: FnMut(&'a str) -> u32> Writer<F> {
                 self.put(EXPR + 1, 0);
                 self.string(name);
             }
-            Expr::ArrayAccess { name, indices } => {
-                self.put(EXPR + 2, 0);
-                self.string(name);
-                self.exprs(indices);
-            }
+            Expr::ArrayAccess { name, indices } => self.applied(2, name, indices),
             Expr::Unary { op, operand } => {
                 self.put(EXPR + 3, 0);
                 self.simple(&UNARY, op);
@@ -706,11 +754,7 @@ impl<'a, F: FnMut(&'a str) -> u32> Writer<F> {
                 self.expr(left);
                 self.expr(right);
             }
-            Expr::FnCall { name, args } => {
-                self.put(EXPR + 5, 0);
-                self.string(name);
-                self.exprs(args);
-            }
+            Expr::FnCall { name, args } => self.applied(5, name, args),
             Expr::Field { base, field } => {
                 self.put(EXPR + 6, 0);
                 self.expr(base);
@@ -721,6 +765,14 @@ impl<'a, F: FnMut(&'a str) -> u32> Writer<F> {
                 self.expr(inner);
             }
         }
+    }
+
+    /// A name with expressions in parentheses.
+    #[inline]
+    fn applied(&mut self, variant: u32, name: &'a str, exprs: &'a [Expr]) {
+        self.put(EXPR + variant, 0);
+        self.string(name);
+        self.exprs(exprs);
     }
 
     fn literal(&mut self, l: &'a Literal) {
@@ -850,15 +902,20 @@ impl<'a, F: FnMut(&'a str) -> u32> Writer<F> {
         });
     }
 
+    /// The word that a statement begins with.
+    #[inline]
+    fn head(&mut self, stmt: &Stmt, variant: u32) {
+        self.put(STMT + variant, stmt.line);
+    }
+
     fn stmt(&mut self, stmt: &'a Stmt) {
-        let mut head = |variant: u32| self.put(STMT + variant, stmt.line);
         match &stmt.kind {
             StmtKind::Label(n) => {
-                head(0);
+                self.head(stmt, 0);
                 self.integer(*n);
             }
             StmtKind::LabelName(name) => {
-                head(1);
+                self.head(stmt, 1);
                 self.string(name);
             }
             StmtKind::Let {
@@ -866,7 +923,7 @@ impl<'a, F: FnMut(&'a str) -> u32> Writer<F> {
                 indices,
                 value,
             } => {
-                head(2);
+                self.head(stmt, 2);
                 self.string(name);
                 self.option(indices, |w, ix| w.exprs(ix));
                 self.expr(value);
@@ -878,20 +935,28 @@ impl<'a, F: FnMut(&'a str) -> u32> Writer<F> {
                 using,
                 write,
             } => {
-                head(3);
+                self.head(stmt, 3);
                 self.maybe(file_num);
                 self.list(items, Self::print_item);
                 self.flag(*newline);
                 self.maybe(using);
                 self.flag(*write);
             }
+            _ => self.from_input(stmt),
+        }
+    }
+
+    /// The statements from INPUT on.
+    #[inline(always)]
+    fn from_input(&mut self, stmt: &'a Stmt) {
+        match &stmt.kind {
             StmtKind::Input {
                 prompt,
                 query,
                 vars,
                 file_num,
             } => {
-                head(4);
+                self.head(stmt, 4);
                 self.option(prompt, |w, s| w.string(s));
                 self.flag(*query);
                 self.list(vars, Self::lvalue);
@@ -902,7 +967,7 @@ impl<'a, F: FnMut(&'a str) -> u32> Writer<F> {
                 var,
                 file_num,
             } => {
-                head(5);
+                self.head(stmt, 5);
                 self.option(prompt, |w, s| w.string(s));
                 self.lvalue(var);
                 self.maybe(file_num);
@@ -912,11 +977,19 @@ impl<'a, F: FnMut(&'a str) -> u32> Writer<F> {
                 then_branch,
                 else_branch,
             } => {
-                head(6);
+                self.head(stmt, 6);
                 self.expr(condition);
                 self.body(then_branch);
                 self.option(else_branch, |w, b| w.body(b));
             }
+            _ => self.from_for(stmt),
+        }
+    }
+
+    /// The statements from FOR on.
+    #[inline(always)]
+    fn from_for(&mut self, stmt: &'a Stmt) {
+        match &stmt.kind {
             StmtKind::For {
                 var,
                 start,
@@ -924,7 +997,7 @@ impl<'a, F: FnMut(&'a str) -> u32> Writer<F> {
                 step,
                 body,
             } => {
-                head(7);
+                self.head(stmt, 7);
                 self.string(var);
                 self.expr(start);
                 self.expr(end);
@@ -932,7 +1005,7 @@ impl<'a, F: FnMut(&'a str) -> u32> Writer<F> {
                 self.body(body);
             }
             StmtKind::While { condition, body } => {
-                head(8);
+                self.head(stmt, 8);
                 self.expr(condition);
                 self.body(body);
             }
@@ -942,71 +1015,95 @@ impl<'a, F: FnMut(&'a str) -> u32> Writer<F> {
                 is_until,
                 body,
             } => {
-                head(9);
+                self.head(stmt, 9);
                 self.maybe(condition);
                 self.flag(*cond_at_start);
                 self.flag(*is_until);
                 self.body(body);
             }
+            _ => self.from_goto(stmt),
+        }
+    }
+
+    /// The statements from GOTO on.
+    #[inline(always)]
+    fn from_goto(&mut self, stmt: &'a Stmt) {
+        match &stmt.kind {
             StmtKind::Goto(t) => {
-                head(10);
+                self.head(stmt, 10);
                 self.target(t);
             }
             StmtKind::Gosub(t) => {
-                head(11);
+                self.head(stmt, 11);
                 self.target(t);
             }
             StmtKind::Return(t) => {
-                head(12);
+                self.head(stmt, 12);
                 self.option(t, Self::target);
             }
             StmtKind::OnGoto { expr, targets } => {
-                head(13);
+                self.head(stmt, 13);
                 self.expr(expr);
                 self.list(targets, Self::target);
             }
             StmtKind::OnGosub { expr, targets } => {
-                head(14);
+                self.head(stmt, 14);
                 self.expr(expr);
                 self.list(targets, Self::target);
             }
             StmtKind::Dim { decls, shared } => {
-                head(15);
+                self.head(stmt, 15);
                 self.declarators(decls);
                 self.flag(*shared);
             }
+            _ => self.from_declare(stmt),
+        }
+    }
+
+    /// The statements from DECLARE on.
+    #[inline(always)]
+    fn from_declare(&mut self, stmt: &'a Stmt) {
+        match &stmt.kind {
             StmtKind::Declare {
                 name,
                 is_function,
                 params,
                 ret_ty,
             } => {
-                head(16);
+                self.head(stmt, 16);
                 self.string(name);
                 self.flag(*is_function);
                 self.params(params);
                 self.option(ret_ty, Self::type_ref);
             }
             StmtKind::Shared(items) => {
-                head(17);
+                self.head(stmt, 17);
                 self.scope_items(items);
             }
             StmtKind::Static(items) => {
-                head(18);
+                self.head(stmt, 18);
                 self.scope_items(items);
             }
             StmtKind::Redim { decls, preserve } => {
-                head(19);
+                self.head(stmt, 19);
                 self.declarators(decls);
                 self.flag(*preserve);
             }
+            _ => self.from_sub(stmt),
+        }
+    }
+
+    /// The statements from SUB on.
+    #[inline(always)]
+    fn from_sub(&mut self, stmt: &'a Stmt) {
+        match &stmt.kind {
             StmtKind::Sub {
                 name,
                 params,
                 body,
                 is_static,
             } => {
-                head(20);
+                self.head(stmt, 20);
                 self.string(name);
                 self.params(params);
                 self.body(body);
@@ -1020,7 +1117,7 @@ impl<'a, F: FnMut(&'a str) -> u32> Writer<F> {
                 is_static,
                 def_fn,
             } => {
-                head(21);
+                self.head(stmt, 21);
                 self.string(name);
                 self.params(params);
                 self.option(ret_ty, Self::type_ref);
@@ -1029,43 +1126,59 @@ impl<'a, F: FnMut(&'a str) -> u32> Writer<F> {
                 self.flag(*def_fn);
             }
             StmtKind::Call { name, args } => {
-                head(22);
+                self.head(stmt, 22);
                 self.string(name);
                 self.exprs(args);
             }
+            _ => self.from_mid(stmt),
+        }
+    }
+
+    /// The statements from MID$ on.
+    #[inline(always)]
+    fn from_mid(&mut self, stmt: &'a Stmt) {
+        match &stmt.kind {
             StmtKind::MidAssign {
                 target,
                 start,
                 len,
                 value,
             } => {
-                head(23);
+                self.head(stmt, 23);
                 self.lvalue(target);
                 self.expr(start);
                 self.maybe(len);
                 self.expr(value);
             }
             StmtKind::Swap(a, b) => {
-                head(24);
+                self.head(stmt, 24);
                 self.lvalue(a);
                 self.lvalue(b);
             }
             StmtKind::Const { name, value } => {
-                head(25);
+                self.head(stmt, 25);
                 self.string(name);
                 self.expr(value);
             }
             StmtKind::ExitLoop { is_for } => {
-                head(26);
+                self.head(stmt, 26);
                 self.flag(*is_for);
             }
-            StmtKind::ExitProc => head(27),
+            StmtKind::ExitProc => self.head(stmt, 27),
             StmtKind::OptionBase(n) => {
-                head(28);
+                self.head(stmt, 28);
                 self.integer(*n);
             }
+            _ => self.from_type(stmt),
+        }
+    }
+
+    /// The statements from TYPE on.
+    #[inline(always)]
+    fn from_type(&mut self, stmt: &'a Stmt) {
+        match &stmt.kind {
             StmtKind::TypeDef { name, fields } => {
-                head(29);
+                self.head(stmt, 29);
                 self.string(name);
                 self.list(fields, |w, f| {
                     w.string(&f.name);
@@ -1073,98 +1186,122 @@ impl<'a, F: FnMut(&'a str) -> u32> Writer<F> {
                 });
             }
             StmtKind::FieldAssign { target, value } => {
-                head(30);
+                self.head(stmt, 30);
                 self.lvalue(target);
                 self.expr(value);
             }
             StmtKind::Data(items) => {
-                head(31);
+                self.head(stmt, 31);
                 self.list(items, |w, i| {
                     w.string(&i.text);
                     w.flag(i.quoted);
                 });
             }
             StmtKind::Read(vars) => {
-                head(32);
+                self.head(stmt, 32);
                 self.list(vars, Self::lvalue);
             }
             StmtKind::DefType { ty, ranges } => {
-                head(33);
+                self.head(stmt, 33);
                 self.simple(&DATA_TYPES, ty);
                 self.list(ranges, |w, (first, last)| {
                     w.letter(*first);
                     w.letter(*last);
                 });
             }
-            StmtKind::Beep => head(34),
+            StmtKind::Beep => self.head(stmt, 34),
+            _ => self.from_erase(stmt),
+        }
+    }
+
+    /// The statements from ERASE on.
+    #[inline(always)]
+    fn from_erase(&mut self, stmt: &'a Stmt) {
+        match &stmt.kind {
             StmtKind::Erase(names) => {
-                head(35);
+                self.head(stmt, 35);
                 self.names(names);
             }
             StmtKind::RaiseError(e) => {
-                head(36);
+                self.head(stmt, 36);
                 self.expr(e);
             }
             StmtKind::OnError(t) => {
-                head(37);
+                self.head(stmt, 37);
                 self.option(t, Self::target);
             }
             StmtKind::Resume(t) => {
-                head(38);
+                self.head(stmt, 38);
                 self.resume(t);
             }
             StmtKind::Locate { row, col } => {
-                head(39);
+                self.head(stmt, 39);
                 self.maybe(row);
                 self.maybe(col);
             }
             StmtKind::Color { fg, bg } => {
-                head(40);
+                self.head(stmt, 40);
                 self.maybe(fg);
                 self.maybe(bg);
             }
             StmtKind::Randomize(seed) => {
-                head(41);
+                self.head(stmt, 41);
                 self.maybe(seed);
             }
             StmtKind::Restore(t) => {
-                head(42);
+                self.head(stmt, 42);
                 self.option(t, Self::target);
             }
-            StmtKind::Cls => head(43),
+            StmtKind::Cls => self.head(stmt, 43),
+            _ => self.from_select(stmt),
+        }
+    }
+
+    /// The statements from SELECT CASE on.
+    #[inline(always)]
+    fn from_select(&mut self, stmt: &'a Stmt) {
+        match &stmt.kind {
             StmtKind::SelectCase { expr, cases } => {
-                head(44);
+                self.head(stmt, 44);
                 self.expr(expr);
                 self.list(cases, |w, (clauses, body)| {
                     w.option(clauses, |w, cs| w.list(cs, Self::clause));
                     w.body(body);
                 });
             }
-            StmtKind::End => head(45),
-            StmtKind::Stop => head(46),
+            StmtKind::End => self.head(stmt, 45),
+            StmtKind::Stop => self.head(stmt, 46),
             StmtKind::Open {
                 filename,
                 mode,
                 file_num,
                 reclen,
             } => {
-                head(47);
+                self.head(stmt, 47);
                 self.expr(filename);
                 self.simple(&FILE_MODES, mode);
                 self.expr(file_num);
                 self.maybe(reclen);
             }
             StmtKind::Close(file_nums) => {
-                head(48);
+                self.head(stmt, 48);
                 self.exprs(file_nums);
             }
             StmtKind::Width { file_num, width } => {
-                head(49);
+                self.head(stmt, 49);
                 self.maybe(file_num);
                 self.expr(width);
             }
+            _ => self.from_field(stmt),
+        }
+    }
+
+    /// The statements from FIELD on.
+    #[inline(always)]
+    fn from_field(&mut self, stmt: &'a Stmt) {
+        match &stmt.kind {
             StmtKind::Field { file_num, fields } => {
-                head(50);
+                self.head(stmt, 50);
                 self.expr(file_num);
                 self.list(fields, |w, f| {
                     w.expr(&f.width);
@@ -1176,7 +1313,7 @@ impl<'a, F: FnMut(&'a str) -> u32> Writer<F> {
                 value,
                 right,
             } => {
-                head(51);
+                self.head(stmt, 51);
                 self.lvalue(target);
                 self.expr(value);
                 self.flag(*right);
@@ -1186,17 +1323,25 @@ impl<'a, F: FnMut(&'a str) -> u32> Writer<F> {
                 record,
                 is_put,
             } => {
-                head(52);
+                self.head(stmt, 52);
                 self.expr(file_num);
                 self.maybe(record);
                 self.flag(*is_put);
             }
+            _ => self.from_lock(stmt),
+        }
+    }
+
+    /// LOCK, the last statement. Those before it, written by now, are named so that the compiler finds a forgotten one.
+    #[inline(always)]
+    fn from_lock(&mut self, stmt: &'a Stmt) {
+        match &stmt.kind {
             StmtKind::Lock {
                 file_num,
                 range,
                 is_unlock,
             } => {
-                head(53);
+                self.head(stmt, 53);
                 self.expr(file_num);
                 self.option(range, |w, (start, end)| {
                     w.expr(start);
@@ -1204,6 +1349,24 @@ impl<'a, F: FnMut(&'a str) -> u32> Writer<F> {
                 });
                 self.flag(*is_unlock);
             }
+            StmtKind::Label(..) | StmtKind::LabelName(..) | StmtKind::Let { .. } => {}
+            StmtKind::Print { .. } | StmtKind::Input { .. } | StmtKind::LineInput { .. } => {}
+            StmtKind::If { .. } | StmtKind::For { .. } | StmtKind::While { .. } => {}
+            StmtKind::DoLoop { .. } | StmtKind::Goto(..) | StmtKind::Gosub(..) => {}
+            StmtKind::Return(..) | StmtKind::OnGoto { .. } | StmtKind::OnGosub { .. } => {}
+            StmtKind::Dim { .. } | StmtKind::Declare { .. } | StmtKind::Shared(..) => {}
+            StmtKind::Static(..) | StmtKind::Redim { .. } | StmtKind::Sub { .. } => {}
+            StmtKind::Function { .. } | StmtKind::Call { .. } => {}
+            StmtKind::MidAssign { .. } | StmtKind::Swap(..) | StmtKind::Const { .. } => {}
+            StmtKind::ExitLoop { .. } | StmtKind::ExitProc | StmtKind::OptionBase(..) => {}
+            StmtKind::TypeDef { .. } | StmtKind::FieldAssign { .. } | StmtKind::Data(..) => {}
+            StmtKind::Read(..) | StmtKind::DefType { .. } | StmtKind::Beep => {}
+            StmtKind::Erase(..) | StmtKind::RaiseError(..) | StmtKind::OnError(..) => {}
+            StmtKind::Resume(..) | StmtKind::Locate { .. } | StmtKind::Color { .. } => {}
+            StmtKind::Randomize(..) | StmtKind::Restore(..) | StmtKind::Cls => {}
+            StmtKind::SelectCase { .. } | StmtKind::End | StmtKind::Stop => {}
+            StmtKind::Open { .. } | StmtKind::Close(..) | StmtKind::Width { .. } => {}
+            StmtKind::Field { .. } | StmtKind::SetField { .. } | StmtKind::GetPut { .. } => {}
         }
     }
 }

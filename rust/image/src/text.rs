@@ -176,42 +176,54 @@ impl<'a, W: Iterator<Item = u32> + Clone> Printer<'a, W> {
                 let n = self.word() as i32;
                 self.show(n);
             }
-            Sort::Float => {
-                let bits = u64::from(self.word()) | u64::from(self.word()) << 32;
-                self.show(format_args!("{:?}", f64::from_bits(bits)));
-            }
+            Sort::Float => self.float(),
             Sort::Simple(names) => {
                 let n = self.payload();
                 self.show(names[n as usize]);
             }
-            Sort::Option(inner) => {
-                if self.peek() == 0 {
-                    self.word();
-                    self.show('-');
-                } else {
-                    self.value(inner);
-                }
-            }
+            Sort::Option(inner) => self.option(inner),
             Sort::List(inner) => self.list(inner),
-            Sort::Struct(fields) => {
-                self.show('{');
-                self.fields(fields, "");
-                self.show('}');
-            }
+            Sort::Struct(fields) => self.structure(fields),
             Sort::Heads(heads) => self.variant(heads),
             Sort::Expr => self.expr(),
-            Sort::Stmt => {
-                let head = self.word();
-                let variant = &schema::STMT.variants[((head >> 24) - schema::STMT.base) as usize];
-                self.show(format_args!(
-                    "({} line={}",
-                    variant.name,
-                    head & 0x00ff_ffff
-                ));
-                self.fields(variant.fields, " ");
-                self.show(')');
-            }
+            Sort::Stmt => self.stmt(),
         }
+    }
+
+    /// A float, its low word first.
+    fn float(&mut self) {
+        let bits = u64::from(self.word()) | u64::from(self.word()) << 32;
+        self.show(format_args!("{:?}", f64::from_bits(bits)));
+    }
+
+    /// A value, or `-` where it is absent.
+    fn option(&mut self, inner: &Sort) {
+        if self.peek() == 0 {
+            self.word();
+            self.show('-');
+        } else {
+            self.value(inner);
+        }
+    }
+
+    /// The fields of a struct in braces.
+    fn structure(&mut self, fields: &[Field]) {
+        self.show('{');
+        self.fields(fields, "");
+        self.show('}');
+    }
+
+    /// A statement with its line.
+    fn stmt(&mut self) {
+        let head = self.word();
+        let variant = &schema::STMT.variants[((head >> 24) - schema::STMT.base) as usize];
+        self.show(format_args!(
+            "({} line={}",
+            variant.name,
+            head & 0x00ff_ffff
+        ));
+        self.fields(variant.fields, " ");
+        self.show(')');
     }
 
     fn list(&mut self, inner: &Sort) {
@@ -468,9 +480,14 @@ impl Parser {
                 other => return self.fault(format!("unknown part {other}")),
             }
         }
-        let Some(mut tree) = program else {
+        let Some(tree) = program else {
             return self.fault("no program");
         };
+        Ok(self.numbered(tree, extra, &erased).to_bytes())
+    }
+
+    /// The image of a program, its strings numbered.
+    fn numbered(&self, mut tree: Vec<u32>, extra: Vec<Vec<u8>>, erased: &[String]) -> Raw {
         let mut all = self.strings.clone();
         all.extend(extra);
         all.extend(erased.iter().map(|n| n.clone().into_bytes()));
@@ -490,7 +507,7 @@ impl Parser {
         raw.erased = erased.iter().map(|n| number(n.as_bytes())).collect();
         raw.erased.sort_unstable();
         raw.set_strings(&all);
-        Ok(raw.to_bytes())
+        raw
     }
 
     fn raw(&mut self) -> Parse<Raw> {
@@ -564,18 +581,8 @@ impl Parser {
                 let n = self.payload()?;
                 self.put(schema::INTEGER, n);
             }
-            Sort::Flag => {
-                let flag = match self.atom("yes or no")?.as_str() {
-                    "yes" => 1,
-                    "no" => 0,
-                    _ => return self.fault("expected yes or no"),
-                };
-                self.put(schema::FLAG, flag);
-            }
-            Sort::Letter => match self.atom("a letter")?.as_bytes() {
-                [b] => self.put(schema::LETTER, u32::from(*b)),
-                _ => return self.fault("expected one letter"),
-            },
+            Sort::Flag => self.flag()?,
+            Sort::Letter => self.letter()?,
             Sort::Whole => {
                 let a = self.atom("a number")?;
                 let n: i32 = self.number(&a)?;
@@ -586,28 +593,9 @@ impl Parser {
                 let f: f64 = self.number(&a)?;
                 self.float(f);
             }
-            Sort::Simple(names) => {
-                let a = self.atom("a variant")?;
-                match names.iter().position(|n| *n == a) {
-                    Some(n) => self.put(schema::SIMPLE, n as u32),
-                    None => return self.fault(format!("{a} is none of {names:?}")),
-                }
-            }
-            Sort::Option(inner) => {
-                if *self.peek() == Token::Atom("-".into()) {
-                    self.at += 1;
-                    self.put(0, 0);
-                } else {
-                    self.value(inner)?;
-                }
-            }
-            Sort::List(inner) => {
-                let place = self.words.len();
-                self.put(schema::LIST, 0);
-                self.mark('[')?;
-                let count = self.until(']', |p| p.value(inner))?.len();
-                self.words[place] |= count as u32;
-            }
+            Sort::Simple(names) => self.simple(names)?,
+            Sort::Option(inner) => self.option(inner)?,
+            Sort::List(inner) => self.list(inner)?,
             Sort::Struct(fields) => {
                 self.mark('{')?;
                 self.fields(fields, '}')?;
@@ -616,6 +604,56 @@ impl Parser {
             Sort::Expr => self.expr()?,
             Sort::Stmt => self.stmt()?,
         }
+        Ok(())
+    }
+
+    /// `yes` or `no`.
+    fn flag(&mut self) -> Parse<()> {
+        let flag = match self.atom("yes or no")?.as_str() {
+            "yes" => 1,
+            "no" => 0,
+            _ => return self.fault("expected yes or no"),
+        };
+        self.put(schema::FLAG, flag);
+        Ok(())
+    }
+
+    /// One letter.
+    fn letter(&mut self) -> Parse<()> {
+        match self.atom("a letter")?.as_bytes() {
+            [b] => self.put(schema::LETTER, u32::from(*b)),
+            _ => return self.fault("expected one letter"),
+        }
+        Ok(())
+    }
+
+    /// A value of an enum without data, by its name.
+    fn simple(&mut self, names: &[&str]) -> Parse<()> {
+        let a = self.atom("a variant")?;
+        match names.iter().position(|n| *n == a) {
+            Some(n) => self.put(schema::SIMPLE, n as u32),
+            None => return self.fault(format!("{a} is none of {names:?}")),
+        }
+        Ok(())
+    }
+
+    /// A value, or `-` where it is absent.
+    fn option(&mut self, inner: &Sort) -> Parse<()> {
+        if *self.peek() != Token::Atom("-".into()) {
+            return self.value(inner);
+        }
+        self.at += 1;
+        self.put(0, 0);
+        Ok(())
+    }
+
+    /// Values in brackets, their number before them.
+    fn list(&mut self, inner: &Sort) -> Parse<()> {
+        let place = self.words.len();
+        self.put(schema::LIST, 0);
+        self.mark('[')?;
+        let count = self.until(']', |p| p.value(inner))?.len();
+        self.words[place] |= count as u32;
         Ok(())
     }
 

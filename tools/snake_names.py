@@ -1,11 +1,13 @@
 #!/usr/bin/env python3
 """Spells the names that this repository's .antt files declare in snake case, as `halfOf` and `no-nan` to `half_of` and `no_nan`.
 
-usage: tools/snake_names.py        at the top of the repository, once, right after port.py
+usage: tools/snake_names.py [--anyway]      at the top of the repository, once, right after port.py
 
-Turned: definitions, laws, fields, constructors and local names, in .antt files, in the clauses and `ghost use` items of .rt files, and in code spans of
-comments and documents. A name that a file imports from a library keeps its spelling in that file. Where two names would fall together, LEM lists what the
-law is called (its definition's name with `_lem`), and APART another name. It stops, and writes nothing, where two names of one file would still fall together.
+Turned: definitions, laws, fields, constructors, local names and names of imports, in .antt files, in the clauses and `ghost use` items of .rt files, and in
+code spans of comments and documents. A name that a file imports from a library keeps its spelling in that file. Where two declared names would fall together,
+the one with a dash, mostly a law, gets `_lem`; APART lists other laws that would meet a name, and LOCAL names of one file, with what they are called.
+It stops, and writes nothing, where two names of one file would still fall together, unless --anyway is given; a name that is also a function's is not looked at.
+At the end it lays out each crate by `rt fmt`, and writes the table of names to a file in the system's folder for temporary files.
 """
 import collections
 import os

@@ -2,7 +2,7 @@
 //!
 //! 1. `PATSKNELI_ARCHIVE` names it.
 //! 2. The repository has it, at `target/staticlib/liblisting.a`, and no source is newer.
-//! 3. `rt staticlib listing` makes it there. This proves all that it stands on.
+//! 3. `tools/archive listing` makes it there, of the crate `listing_c`. This proves all that it stands on.
 //!
 //! Where there is none, the crate is empty, and what depends on it is told by the metadata `available`.
 
@@ -41,28 +41,41 @@ fn archive() -> Option<PathBuf> {
     }
     let root = Path::new(env!("CARGO_MANIFEST_DIR")).join("../..");
     let crates = root.join("crates");
-    if !crates.join("listing").exists() {
+    if !crates.join("listing_c").exists() {
         return None;
     }
-    println!("cargo::rerun-if-changed={}", crates.display());
+    let sources = sources(&crates);
+    for folder in &sources {
+        println!("cargo::rerun-if-changed={}", folder.display());
+    }
     let made = root.join("target/staticlib/liblisting.a");
-    let fresh = changed(&made).is_some_and(|t| t >= newest(&crates));
+    let last = sources.iter().map(|f| newest(f)).max();
+    let fresh = changed(&made).is_some_and(|t| last.is_none_or(|l| t >= l));
     if fresh {
         return Some(made);
     }
-    let status = Command::new("rt")
-        .args(["staticlib", "listing"])
-        .current_dir(&root)
+    let status = Command::new(root.join("tools/archive"))
+        .arg("listing")
         .status();
     match status {
         Ok(s) if s.success() => Some(made),
-        Ok(s) => panic!("rt staticlib listing: {s}"),
-        Err(_) if made.exists() => {
+        Ok(s) if s.code() != Some(NO_RT) => panic!("tools/archive listing: {s}"),
+        _ if made.exists() => {
             println!("cargo::warning=no rt here: the archive is older than its sources");
             Some(made)
         }
-        Err(_) => None,
+        _ => None,
     }
+}
+
+/// What a shell says of a command that isn't there.
+const NO_RT: i32 = 127;
+
+/// The folders that a proof reads, of every crate; not `out`, which the proofs themselves write.
+fn sources(crates: &Path) -> Vec<PathBuf> {
+    let each = crates.read_dir().into_iter().flatten().flatten();
+    let parts = each.flat_map(|e| ["src", "specs", "proofs"].map(|part| e.path().join(part)));
+    parts.filter(|part| part.exists()).collect()
 }
 
 fn changed(file: &Path) -> Option<SystemTime> {

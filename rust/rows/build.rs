@@ -1,4 +1,4 @@
-//! Finds the archive of the measured rows, or has it made by `rt staticlib measure`. Without it the program says so and does nothing.
+//! Finds the archive of the measured rows, or has it made by `tools/archive measure`. Without it the program says so and does nothing.
 
 use std::path::Path;
 use std::process::Command;
@@ -11,11 +11,10 @@ fn main() {
     let archive = folder.join("libmeasure.a");
     println!("cargo::rerun-if-changed={}", archive.display());
     if std::env::var_os("PATSKNELI_BENCH").is_some() && !archive.exists() {
-        let made = Command::new("rt")
-            .args(["staticlib", "measure"])
-            .current_dir(&root)
+        let made = Command::new(root.join("tools/archive"))
+            .arg("measure")
             .status();
-        assert!(made.is_ok_and(|s| s.success()), "rt staticlib measure");
+        assert!(made.is_ok_and(|s| s.success()), "tools/archive measure");
     }
     println!("cargo::rerun-if-env-changed=PATSKNELI_BENCH");
     if archive.exists() {

@@ -1,4 +1,6 @@
 // Collecting, the collision check and resolving in one call: rows, diagnostics and resolved words into three lent buffers.
+#![tactic(auto)]
+
 ghost use Rattle.std.specs.Prelude.{◌≡◌, true, ◌≤◌, length};
 ghost use Rattle.words.specs.Sizes.{max_strings};
 ghost use Rattle.strings.specs.Table.{sound};
@@ -15,21 +17,21 @@ use strings::Verdict;
 use words::Refusal;
 
 // How many diagnostics, rows and resolved words stand in their buffers.
-#[derive(Drop)]
+#[derive(Clone, Copy)]
 pub struct Given {
     pub notes: usize,
     pub rows: usize,
     pub words: usize,
 }
 
-#[derive(Drop)]
+#[derive(Clone, Copy)]
 pub enum Answer {
     Refused(Refusal),
     Done(Given),
 }
 
 // The same inside: the counts where all is fine, else the refusal. The two share no room, so that it is passed on without being taken apart.
-#[derive(Drop)]
+#[derive(Clone, Copy)]
 struct Outcome {
     notes: usize,
     rows: usize,

@@ -1,4 +1,6 @@
 // The builtin functions of sema.rs, by name.
+#![tactic(auto)]
+
 ghost use Rattle.std.specs.Prelude.{◌≡◌, ◌||◌, [], ◌<◌, get_or, eqb};
 ghost use Rattle.words.specs.Word.{flatten};
 ghost use Rattle.builtins.specs.Builtins.{cells, name_at, same, length_fits, may_be, builtin as builtin_of};
@@ -89,7 +91,7 @@ fn is_named(name: &[u8], table: &[u8], i: usize) -> bool
 }
 
 // A builtin function: unknown, or the least and most arguments that it takes.
-#[derive(Drop)]
+#[derive(Clone, Copy)]
 pub enum Arguments {
     Unknown,
     Takes { least: u8, most: u8 },

@@ -1,5 +1,7 @@
 // The scan of collecting: each statement, then its bodies, those of a procedure in its own scope. Every word tells by its kind what it is, so one pass over the words meets
 // every statement's head in that order.
+#![tactic(auto)]
+
 ghost use Rattle.std.specs.Prelude.{ℕ, ◌<◌, List, length, get_or};
 ghost use Rattle.words.specs.Word.{kind_of};
 ghost use Rattle.tree.specs.Sorts.{stmt as stmt_sort};
@@ -10,7 +12,7 @@ ghost use Rattle.collecting.specs.Walk.{Ready, Alone, ReadyProcedure, ReadyWhole
 use steps::Counts;
 
 // The counts, and the place past what was walked.
-#[derive(Drop)]
+#[derive(Clone, Copy)]
 pub struct Moved {
     pub counts: Counts,
     pub next: usize,

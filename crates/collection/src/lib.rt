@@ -1,5 +1,7 @@
 // `collect` as an entry over lent strings, tree words and erased names, into two lent buffers: 5, 1, 2 or 3, 4 in this order, then 7, 8 or 9 as the run
 // meets them, or how many rows and diagnostics there are.
+#![tactic(auto)]
+
 ghost use Rattle.std.specs.Prelude.{◌≤◌, length};
 ghost use Rattle.words.specs.Sizes.{max_strings};
 ghost use Rattle.tree.specs.Memo.{Remembers};
@@ -13,13 +15,13 @@ use strings::Verdict;
 use words::Refusal;
 
 // How many rows and diagnostics stand in their buffers.
-#[derive(Drop)]
+#[derive(Clone, Copy)]
 pub struct Sizes {
     pub rows: usize,
     pub notes: usize,
 }
 
-#[derive(Drop)]
+#[derive(Clone, Copy)]
 pub enum Answer {
     Refused(Refusal),
     Done(Sizes),

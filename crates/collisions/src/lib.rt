@@ -1,4 +1,6 @@
 // `check_name_collisions`: each array in row order that has a procedure's or a builtin's name.
+#![tactic(auto)]
+
 ghost use Rattle.std.specs.Prelude.{◌≡◌, true, List, ℕ, ◌+◌, ◌*◌, ◌≤◌, ◌<◌, length, get_or};
 ghost use Rattle.strings.specs.Table.{sound, string_at, names_of};
 ghost use Rattle.builtins.specs.Builtins.{is_builtin};
@@ -75,7 +77,7 @@ pub fn collisions(bytes: &[u8], ends: &[u32], b: &[u32], d: &mut [u32], s: Count
 }
 
 // What the entry answers: why the call stopped, or how many diagnostics there are.
-#[derive(Drop)]
+#[derive(Clone, Copy)]
 pub enum Collided {
     Refused(Refusal),
     Noted(usize),

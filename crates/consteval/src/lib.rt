@@ -1,4 +1,6 @@
 // `const_eval`: the value of a constant expression of a tree, under the CONST rows.
+#![tactic(auto)]
+
 ghost use Rattle.std.specs.Prelude.{◌≡◌, List, ℕ, ◌<◌};
 ghost use Rattle.table.specs.Rows.{Row};
 ghost use Rattle.runs.specs.Runs.{Keeps};
@@ -14,7 +16,7 @@ use table::Found;
 
 // The place past the expression, and an answer as the words of a CONST row: 0 and the words of a value; 1, an overflow; 2, no constant. It is no enum, so that
 // it is passed on without being taken apart.
-#[derive(Drop)]
+#[derive(Clone, Copy)]
 pub struct Folded {
     pub next: usize,
     pub what: u32,

@@ -1,11 +1,13 @@
 // Two thin functions on a caller's own reading place, lent by `&mut`: it moves past what was read, and stays on a refusal.
+#![tactic(auto)]
+
 ghost use Rattle.reader.specs.Reading.{statement_of, expression_of};
 ghost use Rattle.cursor.specs.Lent.{Reads, Past};
 
 use reader::{Reader, Reading};
 
 // What a thin function stores and answers.
-#[derive(Drop)]
+#[derive(Clone, Copy)]
 pub struct Moved {
     pub at: usize,
     pub answer: Reading,

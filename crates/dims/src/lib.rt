@@ -1,4 +1,6 @@
 // What collecting does for DIM and REDIM: the declarators of a statement, one after another, into rows and diagnostics.
+#![tactic(auto)]
+
 ghost use Rattle.std.specs.Prelude.{◌≡◌, ◌&&◌, ◌||◌, not, List, ℕ, ◌*◌, ◌≤◌, ◌<◌, eqb, length};
 ghost use Rattle.expr.specs.Expr.{Expr};
 ghost use Rattle.tree.specs.Sorts.{expr as expr_sort, exprs as exprs_sort, many, opt, nil, ◌&◌, Declarator as DeclaratorRow, dim as dim_kind, redim as redim_kind};
@@ -21,14 +23,14 @@ use table::Found;
 // ---- a declarator, read
 
 // An optional expression, or a list of them: whether one is there, and the place past it.
-#[derive(Drop)]
+#[derive(Clone, Copy)]
 pub struct Bound {
     there: bool,
     next: usize,
 }
 
 // The dimensions: whether there is a list of them, how many, and the place past it.
-#[derive(Drop)]
+#[derive(Clone, Copy)]
 pub struct Ranked {
     array: bool,
     rank: u32,
@@ -36,7 +38,7 @@ pub struct Ranked {
 }
 
 // A declarator: its name, its dimensions, whether a lower bound is written, its type (head 0: none), and the place past it.
-#[derive(Drop)]
+#[derive(Clone, Copy)]
 pub struct Decl {
     name: u32,
     array: bool,
@@ -229,7 +231,7 @@ fn declared_type(
 // ---- its array
 
 // The array of that name and scope that was there: its rank, and whether a lower bound was written.
-#[derive(Drop)]
+#[derive(Clone, Copy)]
 pub struct Old {
     there: bool,
     rank: u32,
@@ -282,7 +284,7 @@ fn kept(erased: &[u32], redim: bool, name: u32) -> bool
 }
 
 // What is said of an array that is declared again: a diagnostic's code, 0 for none, and its number.
-#[derive(Drop)]
+#[derive(Clone, Copy)]
 pub struct Clash {
     code: u32,
     number: u32,

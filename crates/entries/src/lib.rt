@@ -1,4 +1,6 @@
 // The sixteen kinds of rows: one function enters each. What is left is said for every table that the buffer keeps.
+#![tactic(auto)]
+
 ghost use Rattle.std.specs.Prelude.{◌≡◌, List, [], ◌∷◌, ◌+◌, ◌*◌, ◌≤◌, ◌<◌, length};
 ghost use Rattle.table.specs.Rows.{Row, width, find, insert, rows_of, Holds};
 ghost use Rattle.table.specs.Answers.{Fit, Entered};

@@ -1,4 +1,6 @@
 // `const_eval` as an entry over a lent string table, tree words and rows: 5, 1, 2 or 3, 6 in this order, or its answer and the place past the expression.
+#![tactic(auto)]
+
 ghost use Rattle.std.specs.Prelude.{◌≡◌, ◌≤◌, length};
 ghost use Rattle.words.specs.Sizes.{max_strings};
 ghost use Rattle.words.specs.Refusals.{refused as refused_by};
@@ -11,14 +13,14 @@ use strings::Verdict;
 use words::Refusal;
 
 // What the entry answers.
-#[derive(Drop)]
+#[derive(Clone, Copy)]
 pub enum Answer {
     Folded(Fold),
     Refused(Refusal),
 }
 
 // An answer, and the reading place afterwards.
-#[derive(Drop)]
+#[derive(Clone, Copy)]
 pub struct Evaluation {
     pub answer: Answer,
     pub at: usize,

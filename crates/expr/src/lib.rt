@@ -1,15 +1,17 @@
 // Reads a flat tree of words: a cursor by value, an enum for the answer.
+#![tactic(auto)]
+
 ghost use Rattle.std.specs.Prelude.{◌≡◌};
 ghost use Rattle.expr.specs.Reader.{raw_at, test_at, leaf_at, name_at, head_at, float_at, literal_at, list_at, expr_at};
 ghost use Rattle.expr.specs.Expr.{finite, Literal, Single, Strings};
 ghost use Rattle.expr.specs.Answer.{step_of, then};
 
-#[derive(Drop)]
+#[derive(Clone, Copy)]
 pub struct Cursor {
     pub at: usize,
 }
 
-#[derive(Drop)]
+#[derive(Clone, Copy)]
 pub enum Step {
     // past one node
     Read(Cursor),

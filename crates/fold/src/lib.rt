@@ -1,4 +1,6 @@
 // Constant folding: values, their words in a CONST row, and the rules of `const_eval` in the order of its match.
+#![tactic(auto)]
+
 ghost use Rattle.std.specs.Prelude.{◌≡◌, false, ℕ, ◌≤◌, ◌<◌, ◌/◌, ◌%◌, max, T, nat_abs};
 ghost use Rattle.std.specs.Float.Ieee.Scale.{finite};
 ghost use Rattle.numbers.specs.Numbers.{of_words};
@@ -9,7 +11,7 @@ ghost use Rattle.fold.specs.Fold.{GoodFold, in_integer, in_long, negated_integer
 use numbers::{Halves, Narrow, TwoWords, Whole};
 
 // A folded constant; a string is its number.
-#[derive(Drop)]
+#[derive(Clone, Copy)]
 pub enum Value {
     Integer(i64),
     Long(i64),
@@ -19,7 +21,7 @@ pub enum Value {
 }
 
 // What folding answers.
-#[derive(Drop)]
+#[derive(Clone, Copy)]
 pub enum Fold {
     Is(Value),
     Overflow,
@@ -29,7 +31,7 @@ pub enum Fold {
 // ---- the words of a CONST row
 
 // Words 2, 3 and 4 of row 132.
-#[derive(Drop)]
+#[derive(Clone, Copy)]
 pub struct ConstWords {
     pub kind: u32,
     pub low: u32,
@@ -255,7 +257,7 @@ fn divide(l: Value, r: Value) -> Fold
 
 // ---- \ and MOD
 
-#[derive(Drop)]
+#[derive(Clone, Copy)]
 pub enum Part {
     Quotient,
     Remainder,
@@ -305,7 +307,7 @@ fn divide_whole(p: Part, l: Value, r: Value) -> Fold
 
 // ---- + - *
 
-#[derive(Drop)]
+#[derive(Clone, Copy)]
 pub enum Arith {
     Add,
     Sub,

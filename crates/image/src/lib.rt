@@ -1,11 +1,13 @@
 // A program's image taken apart.
+#![tactic(auto)]
+
 ghost use Rattle.std.specs.Prelude.{◌≡◌, ◌++◌, ◌+◌, ◌*◌, ◌≤◌, ◌<◌, length, drop};
 ghost use Rattle.image.specs.Image.{word_at, words_at, last_end, zeros, opened};
 
 use words::{MAX_BYTES, MAX_ERASED, MAX_STRINGS, MAX_WORDS};
 
 // How many strings, tree words, erased names and string bytes an image has.
-#[derive(Drop)]
+#[derive(Clone, Copy)]
 pub struct Shape {
     pub strings: usize,
     pub words: usize,
@@ -13,7 +15,7 @@ pub struct Shape {
     pub bytes: usize,
 }
 
-#[derive(Drop)]
+#[derive(Clone, Copy)]
 pub enum Opened {
     // no image, or one over a size
     Malformed,

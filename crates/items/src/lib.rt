@@ -1,4 +1,6 @@
 // What collecting does for SHARED and STATIC: their items, one after another, into rows.
+#![tactic(auto)]
+
 ghost use Rattle.std.specs.Prelude.{◌≡◌, ◌*◌, ◌≤◌, ◌<◌, length};
 ghost use Rattle.tree.specs.Sorts.{many, ScopeItem, shared as shared_kind, static as static_kind};
 ghost use Rattle.tree.specs.Tree.{one, row};
@@ -12,7 +14,7 @@ ghost use Rattle.items.specs.Items.{ItemIs, Enters, EntersAll};
 use steps::Counts;
 
 // An item: its name, whether it is an array, its type (head 0: none), and the place past it.
-#[derive(Drop)]
+#[derive(Clone, Copy)]
 pub struct ItemAt {
     name: u32,
     array: bool,

@@ -1,4 +1,6 @@
 // What collecting does for a line number, a label, OPTION BASE and CONST.
+#![tactic(auto)]
+
 ghost use Rattle.std.specs.Prelude.{◌≡◌, false, List, ℕ, ◌*◌, ◌≤◌, ◌<◌, length};
 ghost use Rattle.std.proofs.Math.Option.{some};
 ghost use Rattle.table.specs.Rows.{Row, width, note_width};

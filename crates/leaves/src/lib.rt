@@ -1,4 +1,6 @@
 // The leaves of document 01 over a lent string table and lent rows. Each entry gives 5, 1, 6, 11 in this order, or what `lookup` gives.
+#![tactic(auto)]
+
 ghost use Rattle.std.specs.Prelude.{◌≡◌, true};
 ghost use Rattle.words.specs.Told.{gives};
 ghost use Rattle.strings.specs.Open.{Answers};
@@ -16,7 +18,7 @@ use strings::Verdict;
 use words::Refusal;
 
 // What a lookup asks about.
-#[derive(Drop)]
+#[derive(Clone, Copy)]
 pub enum Question {
     InProc { proc: u32, name: u32 },
     InScope { scope: u32, name: u32 },
@@ -24,7 +26,7 @@ pub enum Question {
 }
 
 // Why there are no rows to ask, or how many there are.
-#[derive(Drop)]
+#[derive(Clone, Copy)]
 pub enum Opened {
     Shut(Refusal),
     Table(usize),
@@ -71,7 +73,7 @@ fn ruled(rows: &[u32], names: &[u8], q: Question) -> Opened
 }
 
 // Whether the sizes and the string table pass.
-#[derive(Drop)]
+#[derive(Clone, Copy)]
 pub enum Gate {
     Closed(Refusal),
     Passed,
@@ -109,7 +111,7 @@ fn open(bytes: &[u8], ends: &[u32], rows: &[u32], q: Question) -> Opened
     }
 }
 
-#[derive(Drop)]
+#[derive(Clone, Copy)]
 pub enum Flagged {
     NoFlag(Refusal),
     Flag(bool),
@@ -149,7 +151,7 @@ pub fn is_static(
     }
 }
 
-#[derive(Drop)]
+#[derive(Clone, Copy)]
 pub enum Counted {
     NoCount(Refusal),
     Count(u32),
@@ -165,7 +167,7 @@ pub fn type_words(bytes: &[u8], ends: &[u32], rows: &[u32], head: u32, arg: u32)
     }
 }
 
-#[derive(Drop)]
+#[derive(Clone, Copy)]
 pub enum TypedAs {
     NoType(Refusal),
     Var(Typed),
@@ -191,7 +193,7 @@ pub fn typed_var_in(bytes: &[u8], ends: &[u32], rows: &[u32], scope: u32, name: 
     }
 }
 
-#[derive(Drop)]
+#[derive(Clone, Copy)]
 pub enum Arrayed {
     NoLook(Refusal),
     Look(Array),
@@ -217,7 +219,7 @@ pub fn last_byte(bytes: &[u8], ends: &[u32], name: u32) -> u8
     bytes[e - 1]
 }
 
-#[derive(Drop)]
+#[derive(Clone, Copy)]
 pub enum Classed {
     NoClass(Refusal),
     Held(Declared),
@@ -236,7 +238,7 @@ pub fn declared_type(bytes: &[u8], ends: &[u32], rows: &[u32], scope: u32, name:
     }
 }
 
-#[derive(Drop)]
+#[derive(Clone, Copy)]
 pub enum Taking {
     NoName(Refusal),
     Entry(Arguments),

@@ -1,4 +1,6 @@
 // The rule of a lent table (number 6): row by row by a table of rules, the rising order, and zeros after the last row.
+#![tactic(auto)]
+
 ghost use Rattle.std.specs.Prelude.{◌≡◌, false, ◌&&◌, [], leb, ltb, eqb, ◌*◌, ◌≤◌, ◌<◌, length, drop, get_or};
 ghost use Rattle.words.specs.Word.{pick};
 ghost use Rattle.table.specs.Rows.{width};
@@ -224,7 +226,7 @@ fn all_zero(b: &[u32], from: usize) -> bool
 }
 
 // What a lent buffer is: no table, or one of so many rows.
-#[derive(Drop)]
+#[derive(Clone, Copy)]
 pub enum Checked {
     Bad,
     Rows(usize),

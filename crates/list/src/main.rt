@@ -1,9 +1,11 @@
 // Prints the listing of the image on standard input. No image is longer than 57,356 bytes, so that a longer file is told from one by its
 // first 65,536 bytes, and no more are read.
+#![tactic(auto)]
+
 ghost use Rattle.std.specs.Prelude.{◌≡◌, ◌≤◌, length, take};
 ghost use Rattle.listing.specs.Listing.{listing as listing_of};
 
-use libc::{STDIN_FILENO, STDOUT_FILENO};
+use std::io;
 
 // No listing is longer than 722,946 bytes, so that it is never cut: as many bytes as are answered are the listing.
 fn put_whole(image: &[u8], out: &mut [u8]) -> usize
@@ -13,10 +15,10 @@ fn put_whole(image: &[u8], out: &mut [u8]) -> usize
     listing::patskneli_listing(image, out)
 }
 
-fn main() {
-    let mut image = io::large_buffer();
-    let n = io::read_full(STDIN_FILENO, &mut image);
+fn main(rt: HostRuntime) -> io::Result<()> {
+    let mut image = programs::file_room();
+    let n = programs::read_full(&mut rt.stdin(), &mut image)?;
     let mut out = programs::room();
     let k = put_whole(&image[..n], &mut out);
-    io::write_all(STDOUT_FILENO, &out[..k]);
+    rt.write_all(&out[..k])
 }

@@ -1,4 +1,6 @@
-// The listing of a program's image, for the program `list` and for a compiler in Rust.
+// The listing of a program's image, for the program `list` and, by `listing_c`, for a compiler in Rust.
+#![tactic(auto)]
+
 ghost use Rattle.std.specs.Prelude.{◌≡◌, true, ◌*◌, ◌≤◌, length};
 ghost use Rattle.text.specs.Wrote.{Wrote, size, laid};
 ghost use Rattle.table.specs.Rows.{width, note_width};
@@ -113,7 +115,7 @@ fn put_full(out: &mut [u8], image: &[u8], s: Shape) -> usize
 }
 
 // What a run in lent buffers came to: whether the rows or the diagnostics had too little room, and where they had enough the place past the text.
-#[derive(Drop)]
+#[derive(Clone, Copy)]
 struct Tried {
     short: bool,
     at: usize,
@@ -436,8 +438,7 @@ fn put_listing(out: &mut [u8], image: &[u8]) -> usize
 }
 
 // The listing's length; or 0, and `out` zero, where it doesn't fit. Bytes past the listing stay.
-#[unsafe(no_mangle)]
-pub extern "C" fn patskneli_listing(image: &[u8], out: &mut [u8]) -> usize
+pub fn patskneli_listing(image: &[u8], out: &mut [u8]) -> usize
     ensures { (result ≡ size (listing_of image.now) out.old) × (out.new ≡ laid (listing_of image.now) out.old) }
 {
     let at = put_listing(out, image);

@@ -1,4 +1,6 @@
 // The leaves of document 01 without checks: what is answered is said for every table that the buffer keeps.
+#![tactic(auto)]
+
 ghost use Rattle.std.specs.Prelude.{◌≡◌, List, ◌*◌, ◌≤◌, ◌<◌, length};
 ghost use Rattle.table.specs.Rows.{Row, width, find};
 ghost use Rattle.table.specs.Answers.{Within};
@@ -116,7 +118,7 @@ pub fn visible(b: &[u32], count: usize, kind: u32, scope: u32, name: u32, array:
 }
 
 // A variable's declared type: none, or its head's kind and its argument.
-#[derive(Drop)]
+#[derive(Clone, Copy)]
 pub enum Typed {
     Untyped,
     As { head: u32, arg: u32 },
@@ -156,7 +158,7 @@ pub fn typed_var_in(b: &[u32], count: usize, scope: u32, name: u32) -> Typed
 }
 
 // What is known of an array.
-#[derive(Drop)]
+#[derive(Clone, Copy)]
 pub enum Array {
     NoArray,
     Info { rank: u32, line: u32, lower: u32 },
@@ -215,7 +217,7 @@ pub fn from_type_ref(head: u32) -> u32
 }
 
 // The type that a variable or an array's elements hold: none for a record, or a position in `DataType`.
-#[derive(Drop)]
+#[derive(Clone, Copy)]
 pub enum Declared {
     Record,
     Class(u32),

@@ -1,4 +1,6 @@
-// Rows behind C functions, so that a benchmark can call them. They promise safety alone: what they do is the contract of `runs`.
+// Rows behind functions on plain numbers, so that a benchmark can call them from C, by `measure_c`. They promise safety alone: what they do is the contract of `runs`.
+#![tactic(auto)]
+
 ghost use Rattle.std.specs.Prelude.{◌≡◌, true, ◌*◌, ◌≤◌};
 ghost use Rattle.table.specs.Rows.{width};
 
@@ -14,8 +16,7 @@ fn fits(len: usize, count: usize) -> bool
 }
 
 // The number of rows with this one in it, or NOTHING.
-#[unsafe(no_mangle)]
-pub extern "C" fn measure_insert(b: &mut [u32], count: usize, row: &[u32]) -> usize {
+pub fn measure_insert(b: &mut [u32], count: usize, row: &[u32]) -> usize {
     if !fits(b.len(), count) {
         return NOTHING;
     }
@@ -29,8 +30,7 @@ pub extern "C" fn measure_insert(b: &mut [u32], count: usize, row: &[u32]) -> us
 }
 
 // The place of the row with the key, or NOTHING.
-#[unsafe(no_mangle)]
-pub extern "C" fn measure_find(b: &[u32], count: usize, k: u64) -> usize {
+pub fn measure_find(b: &[u32], count: usize, k: u64) -> usize {
     if !fits(b.len(), count) {
         return NOTHING;
     }

@@ -1,4 +1,6 @@
 // Two tables made one in a lent buffer, from the back, so that each row moves once.
+#![tactic(auto)]
+
 ghost use Rattle.std.specs.Prelude.{◌≡◌, List, ◌++◌, ℕ, ◌+◌, ◌*◌, ◌≤◌, length, take, drop};
 ghost use Rattle.std.proofs.Math.Seq.{slice};
 ghost use Rattle.table.specs.Rows.{Row, width, rank, insert_all, Holds};

@@ -1,4 +1,6 @@
 // The lines of a diagnostic.
+#![tactic(auto)]
+
 ghost use Rattle.std.specs.Prelude.{◌≡◌, [], ◌∷◌, false, ◌+◌, ◌-◌, ◌≤◌, length, get_or, take, drop, eqb};
 ghost use Rattle.words.specs.Word.{pick, flatten};
 ghost use Rattle.text.specs.Wrote.{Wrote};
@@ -9,7 +11,7 @@ ghost use Rattle.message.specs.Plain.{Itself, Plain, marks};
 use text::{copy, less, put_byte, put_bytes, put_decimal, put_part};
 
 // Document 01's six words; a name is its string's number plus 1.
-#[derive(Drop)]
+#[derive(Clone, Copy)]
 pub struct Diag {
     pub code: u32,
     pub line: u32,

@@ -1,31 +1,33 @@
 // Narrowing to 32 bits, rounding to a whole number, and whole numbers as floats, worked out from the bits of an f64.
+#![tactic(auto)]
+
 ghost use Rattle.std.specs.Prelude.{◌≡◌, ℕ, ◌+◌, ◌-◌, ◌*◌, ◌/◌, ◌%◌, ◌^◌, ◌<◌, ◌≤◌, T, if◌then◌else◌, to_bits, unsigned_abs};
 ghost use Rattle.std.specs.Float.{binary64};
 ghost use Rattle.std.specs.Float.Ieee.Scale.{finite};
 ghost use Rattle.numbers.specs.Numbers.{near, half_of, long_of, narrow_of, double_of, of_words, bits_of, whole_at, PartsOf};
 
 // Where the half between two whole numbers goes: the rule for ties is a parameter of every rounding here.
-#[derive(Drop)]
+#[derive(Clone, Copy)]
 pub enum Halves {
     Even,
 }
 
 // A whole number of 32 bits, or that it is out of range.
-#[derive(Drop)]
+#[derive(Clone, Copy)]
 pub enum Whole {
     At(i64),
     Out,
 }
 
 // A float that 32 bits hold, or that it isn't finite any more.
-#[derive(Drop)]
+#[derive(Clone, Copy)]
 pub enum Narrow {
     To(f64),
     Over,
 }
 
 // A finite f64 is sig * 2 ^ exp of the smallest positive one, 2 ^ -1074.
-#[derive(Drop)]
+#[derive(Clone, Copy)]
 pub struct Parts {
     pub neg: bool,
     pub exp: u64,
@@ -165,7 +167,7 @@ pub fn is_finite(x: f64) -> bool
 }
 
 // 64 bits as two words, the low first.
-#[derive(Drop)]
+#[derive(Clone, Copy)]
 pub struct TwoWords {
     pub low: u32,
     pub high: u32,

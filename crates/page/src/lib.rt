@@ -1,4 +1,6 @@
 // The text of an answer: the diagnostics' lines, T lines, the R line; or the line of a refusal.
+#![tactic(auto)]
+
 ghost use Rattle.std.specs.Prelude.{◌≡◌, ◌+◌, ◌*◌, ◌≤◌, length, take, drop};
 ghost use mathlib.Core.List.{flat_map};
 ghost use Rattle.text.specs.Text.{hex_pairs};
@@ -168,7 +170,7 @@ fn put_rows(out: &mut [u8], at: usize, pairs: &[u8], rows: &[u32], n: usize) -> 
 }
 
 // How many diagnostics and rows stand in their buffers.
-#[derive(Drop)]
+#[derive(Clone, Copy)]
 pub struct Counts {
     pub notes: usize,
     pub rows: usize,

@@ -1,4 +1,6 @@
 // Parts that statements share: a type, an AS clause, and whether a name's suffix says another type.
+#![tactic(auto)]
+
 ghost use Rattle.std.specs.Prelude.{◌≡◌};
 ghost use Rattle.strings.specs.Name.{suffix};
 ghost use Rattle.strings.specs.Table.{string_at};
@@ -10,7 +12,7 @@ ghost use Rattle.collect.specs.Collect.{last_of, disagrees};
 ghost use Rattle.parts.specs.Parts.{TypeIs, AsTypeIs, NameAt};
 
 // A type as a row has it: its head's kind and its argument, 0 if it has none, and the place past it. Head 0, argument 0: there is none.
-#[derive(Drop)]
+#[derive(Clone, Copy)]
 pub struct TypeAt {
     pub head: u32,
     pub arg: u32,

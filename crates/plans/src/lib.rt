@@ -1,4 +1,6 @@
 // What a field of a statement is, by its sort: some words and then rows of fields; and the scope of its bodies. A walk over statements of all kinds goes by it.
+#![tactic(auto)]
+
 ghost use Rattle.std.specs.Prelude.{◌+◌, ◌≤◌, ◌<◌, ◌≢◌, take, drop};
 ghost use Rattle.tree.specs.Sorts.{stmt as stmt_sort, many, opt};
 ghost use Rattle.tree.specs.Tree.{one};
@@ -7,7 +9,7 @@ ghost use Rattle.tree.specs.Stands.{SomeTree};
 ghost use Rattle.plans.specs.Plans.{Planned, Listed, Flat, InsideAt};
 
 // So many words, and then so many times a row of fields.
-#[derive(Drop)]
+#[derive(Clone, Copy)]
 pub struct Plan {
     pub same: usize,
     pub row: usize,

@@ -1,4 +1,6 @@
 // What collecting does for SUB and FUNCTION, but for their bodies.
+#![tactic(auto)]
+
 ghost use Rattle.std.specs.Prelude.{◌≡◌, false, List, [], ◌∷◌, ℕ, ◌+◌, ◌-◌, ◌*◌, ◌≤◌, ◌<◌, eqb, length, get_or};
 ghost use Rattle.std.proofs.Math.Option.{Option, some};
 ghost use Rattle.words.specs.Word.{kind_of, pay_of};
@@ -26,7 +28,7 @@ use subscripts::Use;
 use table::Found;
 
 // A parameter, as it was read: the head of its AS clause, 0 for none, and its argument; and the place past it.
-#[derive(Drop)]
+#[derive(Clone, Copy)]
 pub struct ParamAt {
     pub name: u32,
     pub byval: bool,
@@ -38,7 +40,7 @@ pub struct ParamAt {
 
 // A procedure, as it was read: the places of its first parameter, of its body and past that, its result's type as a parameter's, and whether it is a FUNCTION,
 // is STATIC and so keeps its variables, and is a DEF FN.
-#[derive(Drop)]
+#[derive(Clone, Copy)]
 pub struct ProcAt {
     pub line: u32,
     pub name: u32,

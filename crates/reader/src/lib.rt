@@ -1,4 +1,6 @@
 // Reads one statement or one expression at a place, and checks whole programs, with document 01's refusals.
+#![tactic(auto)]
+
 ghost use Rattle.std.specs.Prelude.{◌≡◌, List, ℕ, ◌+◌, ◌≤◌, length, get_or, drop};
 ghost use Rattle.words.specs.Sizes.{max_strings};
 ghost use Rattle.tree.specs.Memo.{Keeps};
@@ -13,14 +15,14 @@ use strings::Verdict;
 use words::Refusal;
 
 // A node: its head word, its place, and the place past it.
-#[derive(Drop)]
+#[derive(Clone, Copy)]
 pub struct Node {
     pub head: u32,
     pub first: usize,
     pub end: usize,
 }
 
-#[derive(Drop)]
+#[derive(Clone, Copy)]
 pub enum Reading {
     Read(Node),
     Refused(Refusal),
@@ -121,13 +123,13 @@ pub fn read_expression(at: usize, bytes: &[u8], ends: &[u32], words: &[u32]) -> 
 }
 
 // A reading place.
-#[derive(Drop)]
+#[derive(Clone, Copy)]
 pub struct Reader {
     pub at: usize,
 }
 
 // An answer, and the reading place afterwards.
-#[derive(Drop)]
+#[derive(Clone, Copy)]
 pub struct Moved {
     pub reader: Reader,
     pub answer: Reading,
@@ -173,7 +175,7 @@ impl Reader {
 }
 
 // What the check of a program says.
-#[derive(Drop)]
+#[derive(Clone, Copy)]
 pub enum Accepted {
     Fine,
     Refused(Refusal),

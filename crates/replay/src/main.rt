@@ -1,8 +1,11 @@
 // Replays a kept list of images with the original's listings, on standard input, and prints how many come out alike (docs/ORACLE.md says how the
 // list was made). A record is the image's length, the image, the listing's length, the listing; lengths are 32 bits, little-endian.
-ghost use Rattle.std.specs.Prelude.{◌≤◌, length};
+#![tactic(auto)]
 
-use libc::{STDIN_FILENO, STDOUT_FILENO};
+ghost use Rattle.std.specs.Prelude.{◌≤◌, length, IfOk};
+
+use std::io;
+use std::io::Read;
 use strings::Order;
 
 // No more records are read than this.
@@ -21,17 +24,17 @@ fn length_of(b: &[u8], most: usize) -> usize
 }
 
 // The next length of the input, 0 where it ends.
-fn read_length(b: &mut [u8], most: usize) -> usize
-    ensures { result ≤ most }
+fn read_length<R: Read>(input: &mut R, b: &mut [u8], most: usize) -> io::Result<usize>
+    ensures { IfOk result (λ n. n ≤ most) }
 {
     if b.len() < 4 {
-        return 0;
+        return Ok(0);
     }
     let four = &mut b[..4];
-    if io::read_full(STDIN_FILENO, four) < 4 {
-        return 0;
+    if programs::read_full(input, four)? < 4 {
+        return Ok(0);
     }
-    length_of(b, most)
+    Ok(length_of(b, most))
 }
 
 fn same(a: &[u8], b: &[u8]) -> bool {
@@ -42,14 +45,14 @@ fn same(a: &[u8], b: &[u8]) -> bool {
 }
 
 // How many records were read, and how many of them came out alike.
-#[derive(Drop)]
+#[derive(Clone, Copy)]
 struct Score {
     all: u64,
     right: u64,
 }
 
 // What came of one record.
-#[derive(Drop)]
+#[derive(Clone, Copy)]
 enum Record {
     None,
     Alike,
@@ -66,29 +69,39 @@ fn judge(image: &[u8], kept: &[u8], out: &mut [u8]) -> Record {
 }
 
 // The next record, read and judged.
-fn next(image: &mut [u8], kept: &mut [u8], out: &mut [u8]) -> Record {
-    let n = read_length(image, image.len());
-    if !programs::read_part(image, n) {
-        return Record::None;
+fn next<R: Read>(
+    input: &mut R,
+    image: &mut [u8],
+    kept: &mut [u8],
+    out: &mut [u8],
+) -> io::Result<Record> {
+    let n = read_length(input, image, image.len())?;
+    if !programs::read_part(input, image, n)? {
+        return Ok(Record::None);
     }
-    let m = read_length(kept, kept.len());
+    let m = read_length(input, kept, kept.len())?;
     if m == 0 {
-        return Record::None;
+        return Ok(Record::None);
     }
-    if !programs::read_part(kept, m) {
-        return Record::None;
+    if !programs::read_part(input, kept, m)? {
+        return Ok(Record::None);
     }
-    judge(&image[..n], &kept[..m], out)
+    Ok(judge(&image[..n], &kept[..m], out))
 }
 
-fn replay(image: &mut [u8], kept: &mut [u8], out: &mut [u8]) -> Score {
+fn replay<R: Read>(
+    input: &mut R,
+    image: &mut [u8],
+    kept: &mut [u8],
+    out: &mut [u8],
+) -> io::Result<Score> {
     let mut left = MOST;
     let mut all: u64 = 0;
     let mut good: u64 = 0;
     while 0 < left {
-        match next(image, kept, out) {
+        match next(input, image, kept, out)? {
             Record::None => {
-                return Score { all, right: good };
+                return Ok(Score { all, right: good });
             }
             Record::Alike => {
                 good = std::num::wrapping_add_u64(good, 1);
@@ -98,16 +111,13 @@ fn replay(image: &mut [u8], kept: &mut [u8], out: &mut [u8]) -> Score {
         all = std::num::wrapping_add_u64(all, 1);
         left -= 1;
     }
-    Score { all, right: good }
+    Ok(Score { all, right: good })
 }
 
-fn main() {
-    let mut image = io::large_buffer();
+fn main(rt: HostRuntime) -> io::Result<()> {
+    let mut image = programs::file_room();
     let mut kept = programs::room();
     let mut out = programs::room();
-    let s = replay(&mut image, &mut kept, &mut out);
-    io::print_decimal(STDOUT_FILENO, s.right);
-    io::write_all(STDOUT_FILENO, b" of ");
-    io::print_decimal(STDOUT_FILENO, s.all);
-    io::write_all(STDOUT_FILENO, b"\n");
+    let s = replay(&mut rt.stdin(), &mut image, &mut kept, &mut out)?;
+    println!(rt; "{} of {}", s.right, s.all)
 }

@@ -1,4 +1,6 @@
 // Resolving over lent strings, words and rows, into a lent output. On a refusal the output stays as it came.
+#![tactic(auto)]
+
 ghost use Rattle.std.specs.Prelude.{◌≡◌, true, ◌&&◌, ℕ, ◌-◌, ◌≤◌, length};
 ghost use Rattle.words.specs.Sizes.{max_strings, max_depth};
 ghost use Rattle.strings.specs.Table.{names_of};
@@ -17,20 +19,20 @@ use strings::Verdict;
 use words::Refusal;
 
 // The reading place past what was read, and how many words were written.
-#[derive(Drop)]
+#[derive(Clone, Copy)]
 pub struct Reached {
     pub end: usize,
     pub count: usize,
 }
 
-#[derive(Drop)]
+#[derive(Clone, Copy)]
 pub enum Resolution {
     Wrote(Reached),
     Refused(Refusal),
 }
 
 // Why nothing is to be written, or how many rows there are.
-#[derive(Drop)]
+#[derive(Clone, Copy)]
 pub enum Opened {
     Shut(Refusal),
     Table(usize),
@@ -219,7 +221,7 @@ fn program_at(words: &[u32], names: &[u8], rows: &[u32], out: &mut [u32]) -> Res
 }
 
 // What is asked.
-#[derive(Drop)]
+#[derive(Clone, Copy)]
 pub enum Ask {
     Expression { scope: u32, at: usize },
     Arguments { scope: u32, name: u32, at: usize },

@@ -1,4 +1,6 @@
 // What resolving asks of the rows: whether an argument keeps its pair of parentheses, and whether a call is an element.
+#![tactic(auto)]
+
 ghost use Rattle.std.specs.Prelude.{◌≡◌, List, ◌*◌, ◌≤◌, ◌<◌, length};
 ghost use Rattle.table.specs.Rows.{Row, width, Holds};
 ghost use Rattle.table.specs.Answers.{Within};

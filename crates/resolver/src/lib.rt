@@ -1,4 +1,6 @@
 // Resolves expressions over flat words, into a lent output.
+#![tactic(auto)]
+
 ghost use Rattle.std.specs.Prelude.{◌≡◌, List, [], ◌∷◌, ◌+◌, ◌*◌, ◌≤◌, ◌<◌, length, take, drop, get_or};
 ghost use Rattle.std.proofs.lemmas.List.Edits.{sets};
 ghost use Rattle.words.specs.Word.{word_of, kind_of, pick};
@@ -8,7 +10,7 @@ ghost use Rattle.resolve.specs.FromRows.{tables_of};
 ghost use Rattle.resolver.specs.Post.{Room, Some, Ready, ReadyAll, Resolved, ResolvedArgs, Paired};
 
 // A reading place and a writing place.
-#[derive(Drop)]
+#[derive(Clone, Copy)]
 pub struct Spot {
     pub at: usize,
     pub to: usize,

@@ -1,6 +1,8 @@
 // Rows that are entered in any order. The buffer has two runs, one after the other: new rows go into the late one, so that at most 31 rows move, and
 // when it has 32 rows the two are made one. The first has whole blocks of 16 rows, all of them or all but one: so a few rows can be taken out and
 // entered again, however many there are in all, without the runs being made one each time.
+#![tactic(auto)]
+
 ghost use Rattle.std.specs.Prelude.{◌≡◌, List, ℕ, ◌+◌, ◌*◌, ◌≤◌, length, ltb};
 ghost use Rattle.std.proofs.Math.Option.{none};
 ghost use Rattle.table.specs.Rows.{Row, width, key, rank, find as find_row, insert as insert_row, insert_all, remove as remove_rows, Holds};

@@ -1,11 +1,13 @@
 // Steps over an expression: its place past the end, without reading what is in it.
+#![tactic(auto)]
+
 ghost use Rattle.std.specs.Prelude.{◌≡◌, ℕ};
 ghost use Rattle.expr.specs.Expr.{Expr, Strings};
 ghost use Rattle.expr.specs.Stands.{Stands};
 ghost use Rattle.skip.specs.Shape.{SomeExpr, Shaped, literal_words};
 
 // How an expression is written: so many words, then its children, then so many words.
-#[derive(Drop)]
+#[derive(Clone, Copy)]
 pub struct Shape {
     pub front: usize,
     pub children: u32,

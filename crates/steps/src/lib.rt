@@ -1,5 +1,7 @@
 // Steps of collecting on two lent buffers, rows and diagnostics. Each gives the counts unchanged once the run is stopped, so that code over them
 // is a straight line, as its definition is. What is done is said for every state that the buffers hold.
+#![tactic(auto)]
+
 ghost use Rattle.std.specs.Prelude.{◌≡◌, true, List, [], ◌∷◌, ℕ, ◌+◌, ◌*◌, ◌≤◌, ◌<◌, length};
 ghost use Rattle.table.specs.Rows.{Row, width, note_width, remove};
 ghost use Rattle.entries.specs.Entries.{row, entry_key};
@@ -12,7 +14,7 @@ use words::Refusal;
 
 // How many rows and diagnostics there are, and the number that stopped the run, or 0. The wider ones come first, so that no room is left between them: the
 // compiler copies such a record in better parts.
-#[derive(Drop)]
+#[derive(Clone, Copy)]
 pub struct Counts {
     pub rows: usize,
     pub notes: usize,

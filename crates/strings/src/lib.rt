@@ -1,4 +1,6 @@
 // The string table: its rule, the order of strings, names.
+#![tactic(auto)]
+
 ghost use Rattle.std.specs.Prelude.{◌≡◌, true, ◌||◌, ◌&&◌, ℕ, ◌+◌, ◌<◌, ◌≤◌, length, drop, get_or};
 ghost use Rattle.words.specs.Word.{pick};
 ghost use Rattle.words.specs.Sizes.{max_strings};
@@ -8,7 +10,7 @@ ghost use Rattle.strings.specs.Table.{start_of, part, all_printable, rises as ri
 ghost use Rattle.strings.specs.Open.{Said};
 
 // How one string stands to another in byte order.
-#[derive(Drop)]
+#[derive(Clone, Copy)]
 pub enum Order {
     Below,
     Equal,
@@ -143,7 +145,7 @@ pub fn start(ends: &[u32], i: usize) -> usize
 }
 
 // What the check of a string table says.
-#[derive(Drop)]
+#[derive(Clone, Copy)]
 pub enum Verdict {
     Sound,
     Breaks(usize),

@@ -1,4 +1,6 @@
 // `subscript_count`: how many subscripts a body gives a name the first time it subscripts it. One read-only walk notes the first uses of many names at once.
+#![tactic(auto)]
+
 ghost use Rattle.std.specs.Prelude.{◌≡◌, List, true, false, ℕ, ◌+◌, ◌<◌, eqb, get_or};
 ghost use Rattle.std.proofs.Math.Option.{some, none};
 ghost use Rattle.words.specs.Word.{kind_of, pick};
@@ -17,7 +19,7 @@ ghost use Rattle.subscripts.specs.Code.{use_of, HereNotes, NotesExpr, SomeExprs,
 pub const UNRANKED: u32 = 1;
 
 // How many subscripts a name is given, where it is found; else 0.
-#[derive(Drop)]
+#[derive(Clone, Copy)]
 pub struct Use {
     pub found: bool,
     pub count: u32,

@@ -1,5 +1,7 @@
 // The table of rows in a lent buffer, and diagnostics in theirs: find, insert, take out, replace, push. Safety asks only that the count fits the
 // buffer; what is done is said for every table that the buffer holds.
+#![tactic(auto)]
+
 ghost use Rattle.std.specs.Prelude.{◌≡◌, List, [], ◌++◌, ◌+◌, ◌-◌, ◌*◌, ◌≤◌, length, take, drop, get_or};
 ghost use Rattle.std.proofs.Math.Seq.{slice};
 ghost use Rattle.table.specs.Rows.{Row, key_of, width, note_width, zeros, rank, find as find_row, replace as replace_rows, rows_of, Filled, Holds};
@@ -131,7 +133,7 @@ pub fn clear(b: &mut [u32], from: usize, to: usize)
 }
 
 // Where a row is.
-#[derive(Drop)]
+#[derive(Clone, Copy)]
 pub enum Found {
     At(usize),
     Nothing,
@@ -153,7 +155,7 @@ pub fn find(b: &[u32], count: usize, k: u64) -> Found
 }
 
 // What became of a row to be put in: no room for it, or the count of the rows after.
-#[derive(Drop)]
+#[derive(Clone, Copy)]
 pub enum Put {
     Full,
     Done(usize),

@@ -1,4 +1,6 @@
 // Writes text into a lent buffer, as much as fits. A writer's state is one place in it; a place past the end says that not all fitted.
+#![tactic(auto)]
+
 ghost use Rattle.std.specs.Prelude.{◌≡◌, [], ◌∷◌, ◌+◌, ◌-◌, ◌≤◌, ◌<◌, min, length, take, drop, replicate, leb};
 ghost use Rattle.std.proofs.lemmas.List.Edits.{sets};
 ghost use Rattle.words.specs.Word.{pick};

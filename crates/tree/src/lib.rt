@@ -1,4 +1,6 @@
 // Reads statements of all kinds by two tables of their fields.
+#![tactic(auto)]
+
 ghost use Rattle.std.specs.Prelude.{◌≡◌, ℕ, ◌<◌, ◌≤◌, ◌+◌, length, get_or, take, drop, eqb, List, []};
 ghost use Rattle.tree.specs.Sorts.{many, opt, expr as expr_sort, stmt as stmt_sort, body as body_sort, GotoTarget, TypeRef, PrintItem};
 ghost use Rattle.tree.specs.Tree.{between, strings};
@@ -13,7 +15,7 @@ use expr::{Cursor, Step};
 
 // What is left to be read of a row and of the rows after it: fields in numbers, in base 256, the next lowest; then `times`
 // times the row `row`; all with `left` levels left for what stands in them.
-#[derive(Drop)]
+#[derive(Clone, Copy)]
 struct Frame {
     fields: u64,
     row: usize,
@@ -23,7 +25,7 @@ struct Frame {
 
 // What reading a field's own words tells: 0, past the whole field, at a place; 1, from a place on a frame is left of it; 2, the
 // first wrong word; 3, a right head that stands too deep. It is no enum, so that its numbers stay in registers.
-#[derive(Drop)]
+#[derive(Clone, Copy)]
 struct Turn {
     at: usize,
     frame: Frame,

@@ -1,4 +1,6 @@
 // What collecting does for TYPE: its fields are looked at in order, then the TYPE and the fields that are kept are entered as one change.
+#![tactic(auto)]
+
 ghost use Rattle.std.specs.Prelude.{◌≡◌, List, ℕ, ◌+◌, ◌*◌, ◌≤◌, ◌<◌, length};
 ghost use Rattle.table.specs.Rows.{Row, width, note_width};
 ghost use Rattle.runs.specs.Runs.{Keeps};
@@ -12,7 +14,7 @@ ghost use Rattle.types.specs.Types.{SomeType, SomeFields, FieldIs, Below, type_c
 use steps::Counts;
 
 // A field of a TYPE: its name, its type, and the place past it.
-#[derive(Drop)]
+#[derive(Clone, Copy)]
 pub struct FieldAt {
     pub name: u32,
     pub head: u32,
@@ -21,7 +23,7 @@ pub struct FieldAt {
 }
 
 // The run, how many fields are kept so far, and their words.
-#[derive(Drop)]
+#[derive(Clone, Copy)]
 pub struct Kept {
     pub counts: Counts,
     pub fields: u32,

@@ -1,4 +1,6 @@
 // `subscript_count` as an entry over a lent string table, a body's words and a name: 5, 1, 2 or 3, 11 in this order, or its answer.
+#![tactic(auto)]
+
 ghost use Rattle.std.specs.Prelude.{◌≡◌, ◌≤◌, length};
 ghost use Rattle.words.specs.Sizes.{max_strings};
 ghost use Rattle.words.specs.Told.{gives};
@@ -14,7 +16,7 @@ use subscripts::Use;
 use words::Refusal;
 
 // What the entry answers.
-#[derive(Drop)]
+#[derive(Clone, Copy)]
 pub enum Answer {
     Counted(u32),
     NoUse,

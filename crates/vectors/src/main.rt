@@ -1,9 +1,12 @@
 // Replays vectors of narrowing, rounding and whole numbers as floats, made by the machine's own conversions (make.c says how), and prints how
 // many of each group come out as they say.
+#![tactic(auto)]
+
 ghost use Rattle.std.specs.Prelude.{◌≡◌, ℕ, ◌+◌, ◌/◌, ◌%◌, ◌<◌, ◌≤◌, T, length, ◌==◌};
 ghost use Rattle.std.specs.Float.Ieee.Scale.{finite};
 
 use numbers::{Halves, Narrow, TwoWords, Whole};
+use std::io;
 
 // A line is a letter, two numbers of 16 hexadecimal digits, each after a blank, and a line end.
 const LINE: usize = 36;
@@ -102,7 +105,7 @@ fn right(letter: u8, x: TwoWords, y: TwoWords) -> bool {
 }
 
 // How many lines begin with this letter, and how many of them are right.
-#[derive(Drop)]
+#[derive(Clone, Copy)]
 struct Score {
     all: u64,
     right: u64,
@@ -126,19 +129,15 @@ fn count(s: &[u8], letter: u8) -> Score {
     Score { all, right: good }
 }
 
-fn print(name: &[u8], c: Score) {
-    io::write_all(1, name);
-    io::print_decimal(1, c.right);
-    io::write_all(1, b" of ");
-    io::print_decimal(1, c.all);
-    io::write_all(1, b"\n");
+fn print(rt: &impl Print, name: &str, c: Score) -> io::Result<()> {
+    println!(rt; "{name} {} of {}", c.right, c.all)
 }
 
-fn main() {
-    let mut buffer = io::large_buffer();
-    let n = io::read_full(0, &mut buffer);
+fn main(rt: HostRuntime) -> io::Result<()> {
+    let mut buffer = programs::file_room();
+    let n = programs::read_full(&mut rt.stdin(), &mut buffer)?;
     let s = &buffer[..n];
-    print(b"narrowed ", count(s, 110));
-    print(b"rounded ", count(s, 114));
-    print(b"whole ", count(s, 119));
+    print(&rt, "narrowed", count(s, 110))?;
+    print(&rt, "rounded", count(s, 114))?;
+    print(&rt, "whole", count(s, 119))
 }

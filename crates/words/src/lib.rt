@@ -1,4 +1,6 @@
 // Words, sizes and refusals of document 01.
+#![tactic(auto)]
+
 ghost use Rattle.std.specs.Prelude.{◌≡◌};
 ghost use Rattle.words.specs.Word.{kind_of, pay_of};
 ghost use Rattle.words.specs.Refusals.{number_of, place_of};
@@ -28,7 +30,7 @@ pub fn payload(w: u32) -> u32
 }
 
 // What stops a call, in document 01's order of its numbers, with the place where there is one.
-#[derive(Drop)]
+#[derive(Clone, Copy)]
 pub enum Refusal {
     // over a size: 5
     Size,

@@ -22,7 +22,7 @@ fn kept() {
 
 /// The program's answer to a file on standard input, where the program was built.
 fn list(file: &[u8]) -> Option<Vec<u8>> {
-    let mut run = Command::new(common::root().join("target/bin/list"))
+    let mut run = Command::new(common::root().join("crates/list/out/list"))
         .stdin(Stdio::piped())
         .stdout(Stdio::piped())
         .spawn()
@@ -44,7 +44,7 @@ fn program() {
     for k in common::samples() {
         match list(&k.image) {
             Some(listing) => common::same(&k.name, &listing, &k.listing),
-            None => return println!("target/bin/list isn't there: rt check list builds it"),
+            None => return println!("crates/list/out/list isn't there: ./run builds it"),
         }
     }
     for length in [0, 1, 11, 57_356, 57_360, 65_535, 65_536, 65_537, 1 << 20] {

@@ -10,12 +10,12 @@ use Rattle.words.specs.Word.{kind_of}
 use Rattle.words.specs.Sizes.{max_depth}
 use Rattle.words.specs.Laws.{sets_append}
 use Rattle.expr.specs.Expr.{Expr}
-use Rattle.tree.specs.Sorts.{stmt, body, sorts}
+use Rattle.tree.specs.Sorts.{stmt, sorts}
 use Rattle.tree.specs.Tree.{one, row, Tree, Stmt, depth_t, words_t}
-use Rattle.tree.specs.Stands.{Stands, SomeTree}
+use Rattle.tree.specs.Stands.{SomeTree}
 use Rattle.tree.specs.Memo.{Remembers, Past}
 use Rattle.tree.proofs.Complete.{one_tree, clear}
-use Rattle.plans.specs.Pieces.{stmt_piece, written}
+use Rattle.plans.specs.Pieces.{written}
 use Rattle.plans.specs.Plans.{InsideAt}
 use Rattle.plans.specs.Items.{Item, tree_item, StandsAll, quiet_i, written_i, written_is}
 use Rattle.plans.proofs.Front.{StmtAt, at_stmt, at_end, items_tree, items_inside, quiet_kind, quiet_body}

@@ -19,14 +19,14 @@ use Rattle.tree.specs.Tree.{strings, words_t}
 use Rattle.plans.specs.Pieces.{stmt_piece, written}
 use Rattle.plans.specs.Items.{Item, expr_item, exprs_item, tree_item, StandsAll, words_i, words_is, RightI, RightIs, written_i, written_is}
 use Rattle.plans.proofs.Front.{WordsAt, CallAt, StmtAt, FrontAt, over_at, word_at, raw_at, raws_at, paren_at, call_at, stmt_at, front_at, at_raw, at_raws, at_paren, at_call, at_stmt, items_inside}
-use Rattle.plans.proofs.Walk.{head_kind, fields}
+use Rattle.plans.proofs.Walk.{head_kind}
 use Rattle.table.specs.Rows.{Row, Holds}
 use Rattle.runs.specs.Runs.{Keeps}
 use Rattle.runs.specs.Laws.{holds_keeps}
 use Rattle.entries.specs.Entries.{has}
 use Rattle.resolve.specs.Tables.{Tables, nowhere, places, element}
 use Rattle.resolve.specs.FromRows.{tables_of}
-use Rattle.resolve.specs.Resolve.{resolve_expr, resolve_args, resolve_tree, first, inside}
+use Rattle.resolve.specs.Resolve.{resolve_expr, resolve_args, resolve_tree, first}
 use Rattle.resolve.specs.Keeps.{shorter, shorter_args}
 use Rattle.resolver.specs.Post.{Room, Ready, ReadyAll, Put, Resolved, ResolvedArgs}
 use Rattle.resolver.proofs.Nodes as N

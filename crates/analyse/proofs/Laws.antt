@@ -26,7 +26,7 @@ use Rattle.steps.specs.State.{State, running, stopped}
 use Rattle.steps.specs.declared.Counts.{Counts}
 use Rattle.steps.specs.Held.{Fit, Held, Settles, counts_of, rows_left, notes_left, Left}
 use Rattle.steps.specs.Refused.{zeroing, Numbered}
-use Rattle.steps.specs.Laws.{settled_held, stops_some}
+use Rattle.steps.proofs.Laws.{settled_held, stops_some}
 use Rattle.collect.specs.Collect.{given, collected, analysed}
 use Rattle.collect.specs.Passed.{Passed}
 use Rattle.reader.specs.Whole.{Whole}

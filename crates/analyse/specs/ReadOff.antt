@@ -1,13 +1,13 @@
 -- What an answer and the buffers show, read off them by the answer's counts, is what the definition gives: for a caller that prints them. Assumes nothing.
-use Rattle.std.specs.Prelude.{ℕ, ◌+◌, ◌*◌, ◌≤◌, ◌≡◌, List, ◌++◌, length, take, drop}
-use Rattle.std.proofs.Common.{arith, sym, ap, ◌∙◌, take_at}
+use Rattle.std.specs.Prelude.{ℕ, ◌+◌, ◌*◌, ◌≤◌, ◌≡◌, List, length, take, drop}
+use Rattle.std.proofs.Common.{arith, ap, ◌∙◌, take_at}
 use Rattle.std.proofs.Math.Path.{refl}
 use Rattle.std.proofs.lemmas.List.Edits.{sets, sets-eq}
 use Rattle.std.proofs.Math.Seq.{length-sets}
 use Rattle.words.specs.Told.{Told, stops, gives}
 use Rattle.words.specs.Refusals.{refused}
 use Rattle.words.specs.declared.Refusal.{Refusal}
-use Rattle.table.specs.Rows.{Row, width, note_width, Wide, Table, image, Filled}
+use Rattle.table.specs.Rows.{Row, width, note_width, image, Filled}
 use Rattle.table.specs.Images.{filled_image, length_image, table_wide}
 use Rattle.page.specs.Chunks.{chunks, chunks_filled}
 use Rattle.equivalence.specs.Analysis.{Analysis}

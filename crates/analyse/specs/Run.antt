@@ -14,7 +14,6 @@ use Rattle.collect.specs.Collect.{given, analysed}
 use Rattle.tree.specs.Memo.{Remembers}
 use Rattle.words.specs.Word.{pick}
 use Rattle.words.specs.declared.Refusal.{Refusal}
-use Rattle.analyse.specs.declared.Given.{Given}
 use Rattle.analyse.specs.declared.Outcome.{Outcome}
 use Rattle.analyse.specs.declared.Answer.{Answer}
 use Rattle.analyse.specs.declared.Answer.TheVariants.{Refused, Done}

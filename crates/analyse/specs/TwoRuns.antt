@@ -1,7 +1,7 @@
 -- Demand 3 of the code: what two runs of `analyse` leave in their buffers, for two programs with the same strings and the same erased names, whatever the
 -- lengths of the buffers are. Assumes nothing.
 use Rattle.std.specs.Prelude.{ℕ, refl, ◌↔◌, Bool, List, [], leb, length, take}
-use Rattle.std.proofs.Common.{arith, sym, subst, ◌∙◌}
+use Rattle.std.proofs.Common.{arith, sym, ◌∙◌}
 use Rattle.std.proofs.Math.Path.{◌≡◌, ap}
 use Rattle.std.proofs.Math.Bool.{true, false}
 use Rattle.std.proofs.Math.Option.{none, some}
@@ -16,9 +16,9 @@ use Rattle.collect.specs.Collect.{given, analysed}
 use Rattle.page.specs.Chunks.{chunks}
 use Rattle.equivalence.specs.Analysis.{Analysis, result_of, analysis, Accepted, resolution}
 use Rattle.equivalence.specs.AnalysisLaws.{known}
-use Rattle.equivalence.specs.AcceptedLaws.{accepted}
+use Rattle.equivalence.proofs.AcceptedLaws.{accepted}
 use Rattle.equivalence.specs.Step.{Steps}
-use Rattle.equivalence.specs.Demand3.{demand_3}
+use Rattle.equivalence.proofs.Demand3.{demand_3}
 use Rattle.analyse.specs.Analyse.{work, analysis_in, told, counted, rows_after, notes_after, Tells, Analyses}
 use Rattle.analyse.specs.ReadOff.{Shown, shown_of, read_off, read_off_lem}
 use Rattle.analyse.specs.declared.Given.{Given}

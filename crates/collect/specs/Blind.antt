@@ -29,7 +29,7 @@ const_eval_strip rows (Paren e) = const_eval_strip rows e
 -- of an expression
 pub blind_e : (e : Expr) → see (strip_e e) ≡ see e
 unfolding see
-blind_e e = λ i. record { const_eval_lem = λ rows. const_eval_strip rows e i; use_of_lem = λ n. in_expr_strip n e i }
+blind_e e = λ i. record { folds_to = λ rows. const_eval_strip rows e i; use_under = λ n. in_expr_strip n e i }
 
 over_over : {E F : Type 0} {i : Shape} (g : E → F) (f : E → E) → ((e : E) → g (f e) ≡ g e) → (t : Tree E i) → over g (over f t) ≡ over g t
 unfolding over

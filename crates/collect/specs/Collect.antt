@@ -226,7 +226,7 @@ module _ (G : Given) where
   unfoldable pub const : (line name : ℕ) → Seen → Step
   const line name e =
       asking (λ rows. when (has rows 132 name 0) (error (const_defined line name)))
-      ⨾ asking (λ rows. folded line name (e.const_eval_lem rows))
+      ⨾ asking (λ rows. folded line name (e.folds_to rows))
 
   -- ---- StmtKind::Shared, StmtKind::Static
 
@@ -323,7 +323,7 @@ module _ (G : Given) where
 
   -- its rank is that of its first use in the body; `rank.unwrap_or(1)` is `ranked`
   unfoldable pub array_param : (scope line : ℕ) → Tree Seen (one body) → Param → Step
-  array_param scope line b p = when p.array (ranked scope line p.name (subscript_count (λ name (e : Seen). e.use_of_lem name) p.name b))
+  array_param scope line b p = when p.array (ranked scope line p.name (subscript_count (λ name (e : Seen). e.use_under name) p.name b))
 
   -- a parameter with an AS clause is a typed variable inside the body
   unfoldable pub param_type : (scope line name : ℕ) → Option TypeRef → Step

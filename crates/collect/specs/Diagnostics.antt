@@ -127,7 +127,7 @@ abbrev pub param_undefined : (line param type : ℕ) → Row
 param_undefined line param type = of_two 26 line param type
 
 -- '{name}' is declared both as an array and as a {SUB or FUNCTION}
--- note: the {SUB or FUNCTION} is on line {proc-line}
+-- note: the {SUB or FUNCTION} is on line {proc_line}
 abbrev pub array_and_proc : (line name is_function proc_line : ℕ) → Row
 array_and_proc line name is_function proc_line = 27 ∷ line ∷ named name ∷ 0 ∷ is_function ∷ proc_line ∷ []
 

@@ -9,9 +9,9 @@ use Rattle.subscripts.specs.Subscripts.{in_expr}
 
 -- its fold under given rows, and the subscripts of a name's first use
 pub record Seen : Type 0 where
-  pub const_eval_lem : List Row → Fold
-  pub use_of_lem : ℕ → Option ℕ
+  pub folds_to : List Row → Fold
+  pub use_under : ℕ → Option ℕ
 
 -- what it sees of this one
 unfoldable pub see : Expr → Seen
-see e = record { const_eval_lem = λ rows. const_eval rows e; use_of_lem = λ name. in_expr name e }
+see e = record { folds_to = λ rows. const_eval rows e; use_under = λ name. in_expr name e }

@@ -7,6 +7,6 @@ use Rattle.subscripts.specs.Over.{subscript_count_over}
 use Rattle.collect.specs.Seen.{Seen, see}
 
 -- `subscript_count` over what is seen of a tree is that over the tree
-pub seen_count : {i : Shape} (name : ℕ) (v : Tree Expr i) → subscript_count (λ name (e : Seen). e.use_of_lem name) name (over see v) ≡ subscript_count (λ name (e : Expr). in_expr name e) name v
+pub seen_count : {i : Shape} (name : ℕ) (v : Tree Expr i) → subscript_count (λ name (e : Seen). e.use_under name) name (over see v) ≡ subscript_count (λ name (e : Expr). in_expr name e) name v
 unfolding see
-seen_count name v = subscript_count_over see (λ name (e : Expr). in_expr name e) (λ name (e : Seen). e.use_of_lem name) name (λ e. refl) v
+seen_count name v = subscript_count_over see (λ name (e : Expr). in_expr name e) (λ name (e : Seen). e.use_under name) name (λ e. refl) v

@@ -17,7 +17,7 @@ use Rattle.views.specs.View.{View, view}
 use Rattle.views.specs.KindLaws.{view_kinds, view_other}
 use Rattle.steps.specs.State.{State}
 use Rattle.steps.specs.Held.{Fit}
-use Rattle.steps.specs.Compose.{same, nothing_does}
+use Rattle.steps.proofs.Compose.{same, nothing_does}
 use Rattle.steps.specs.declared.Counts.{Counts}
 use Rattle.collect.specs.Seen.{Seen, see}
 use Rattle.collect.specs.Collect.{Given, given, statement}

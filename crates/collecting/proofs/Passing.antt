@@ -10,7 +10,7 @@ use Rattle.tree.specs.Sorts.{Kind, sorts, number_of}
 use Rattle.tree.specs.Tree.{Shape, row, Tree, word, value, Stmt, list, part, this, that, done, cons, none, more, over}
 use Rattle.views.specs.View.{view, inner, walk}
 use Rattle.steps.specs.State.{State, each}
-use Rattle.steps.specs.Compose.{each_append}
+use Rattle.steps.proofs.Compose.{each_append}
 use Rattle.collect.specs.Seen.{see}
 use Rattle.collect.specs.Collect.{Given, statement}
 use Rattle.plans.specs.Pieces.{Piece, stmt_piece}

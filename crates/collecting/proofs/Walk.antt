@@ -16,7 +16,7 @@ use Rattle.views.specs.View.{view, inner, walk}
 use Rattle.consteval.specs.EvalLaws.{Words32}
 use Rattle.steps.specs.State.{◌⨾◌, nothing, each}
 use Rattle.steps.specs.Held.{Does}
-use Rattle.steps.specs.Compose.{nothing_does, same, then}
+use Rattle.steps.proofs.Compose.{nothing_does, same, then}
 use Rattle.steps.specs.declared.Counts.{Counts}
 use Rattle.collect.specs.Seen.{see}
 use Rattle.collect.specs.Collect.{Given, given, statement, collect}

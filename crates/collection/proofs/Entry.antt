@@ -15,8 +15,8 @@ use Rattle.consteval.specs.EvalLaws.{Words32}
 use Rattle.steps.specs.State.{State, running, stopped}
 use Rattle.steps.specs.Refused.{zeroing, Numbered}
 use Rattle.steps.specs.Held.{Held, Left, counts_of, rows_left, notes_left}
-use Rattle.steps.specs.Laws.{stops_some}
-use Rattle.steps.specs.Compose.{whole}
+use Rattle.steps.proofs.Laws.{stops_some}
+use Rattle.steps.proofs.Compose.{whole}
 use Rattle.steps.specs.declared.Counts.{Counts}
 use Rattle.collect.specs.Collect.{given, collected}
 use Rattle.collect.specs.Passed.{Passed}

@@ -30,7 +30,7 @@ use Rattle.consteval.specs.EvalLaws.{Words32}
 use Rattle.steps.specs.State.{State, running, stopped, Step, when, asking, each}
 use Rattle.steps.specs.declared.Counts.{Counts}
 use Rattle.steps.specs.Held.{Fit, Held, Sized, Does, Notes, pushing, noting}
-use Rattle.steps.specs.Compose.{same, nothing_does, each_next, notes_does, when_yes, stays_asking, stopped_does, each_append}
+use Rattle.steps.proofs.Compose.{same, nothing_does, each_next, notes_does, when_yes, stays_asking, stopped_does, each_append}
 use Rattle.collect.specs.Diagnostics.{array_and_proc, array_and_builtin}
 use Rattle.collect.specs.Collect.{Given, given, any_array, collides, collision, check_name_collisions}
 use Rattle.labels.specs.Arrays.{keeps_small, arrays_from, arrays_to, take_quiet, drop_quiet, array_between}

@@ -11,13 +11,12 @@ use Rattle.words.specs.Word.{kind_of, pay_of, pick}
 use Rattle.expr.specs.Expr.{Strings, Expr, Lit, Var, Elem, Unary, Binary, Call, Field, Paren, kind_e}
 use Rattle.expr.specs.Stands.{Stands}
 use Rattle.expr.proofs.Laws.{name_got, got_17}
-use Rattle.expr.proofs.Complete.{stands}
 use Rattle.expr.proofs.Nodes.{node, within, kind_of_lem, in_binary, in_paren, in_unary}
 use Rattle.skip.specs.Shape.{SomeExpr}
 use Rattle.table.specs.Rows.{Row}
 use Rattle.runs.specs.Runs.{Keeps}
 use Rattle.fold.specs.Fold.{GoodFold, negate_of, binary_of}
-use Rattle.fold.specs.FoldLaws.{RowFold, row_good, negate_row, binary_row}
+use Rattle.fold.proofs.FoldLaws.{RowFold, row_good, negate_row, binary_row}
 use Rattle.fold.specs.ValueLaws.{value_words}
 use Rattle.fold.specs.Value.{value_of, literal_kind, low_of, high_of}
 use Rattle.fold.specs.declared.Value.{Value}

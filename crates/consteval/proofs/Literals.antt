@@ -17,7 +17,6 @@ use Rattle.numbers.specs.Numbers.{whole_at}
 use Rattle.consteval.specs.ConstEval.{signed32, literal, const_eval}
 use Rattle.consteval.specs.Evaluates.{laid_as, LiteralAt, EvaluatesAlone}
 use Rattle.fold.specs.Value.{value_of}
-use Rattle.consteval.specs.declared.Folded.{Folded}
 
 -- ---- a word in two's complement is one of 64 bits with its sign
 

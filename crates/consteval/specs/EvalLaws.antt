@@ -18,7 +18,7 @@ use Rattle.numbers.specs.NumbersLaws.{words_finite}
 use Rattle.fold.specs.Value.{InRange}
 use Rattle.fold.specs.ValueLaws.{RowValue}
 use Rattle.fold.specs.Fold.{negate_of}
-use Rattle.fold.specs.FoldLaws.{RowFold, negate_row, binary_row}
+use Rattle.fold.proofs.FoldLaws.{RowFold, negate_row, binary_row}
 use Rattle.fold.specs.declared.Fold.{Fold}
 use Rattle.fold.specs.declared.Fold.TheVariants.{NotConstant}
 use Rattle.consteval.specs.ConstEval.{signed32, literal, of_row, constant, const_eval}

@@ -10,7 +10,7 @@ use Rattle.runs.specs.Runs.{Keeps}
 use Rattle.entries.specs.Entries.{entry_key}
 use Rattle.fold.specs.Value.{value_of}
 use Rattle.fold.specs.ValueLaws.{RowValue}
-use Rattle.fold.specs.FoldLaws.{RowFold}
+use Rattle.fold.proofs.FoldLaws.{RowFold}
 use Rattle.fold.specs.declared.Fold.{Fold}
 use Rattle.fold.specs.declared.Fold.TheVariants.{Is, Overflow, NotConstant}
 use Rattle.consteval.specs.ConstEval.{row_value, const_eval}

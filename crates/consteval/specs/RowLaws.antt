@@ -21,7 +21,7 @@ use Rattle.table.specs.Images.{word_at_lem}
 use Rattle.entries.specs.Entries.{entry_key, const_row}
 use Rattle.fold.specs.Value.{const_rule, literal_kind, low_of, high_of}
 use Rattle.fold.specs.ValueLaws.{RowValue, rule_row, row_rule, value_words}
-use Rattle.fold.specs.FoldLaws.{RowFold}
+use Rattle.fold.proofs.FoldLaws.{RowFold}
 use Rattle.fold.specs.declared.Value.{Value}
 use Rattle.fold.specs.declared.Fold.TheVariants.{Is}
 use Rattle.lent.specs.Rules.{rules, const_ok, word_ok, kind_ok, row_ok}

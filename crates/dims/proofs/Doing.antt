@@ -22,8 +22,8 @@ use Rattle.views.specs.View.{TypeRef, Integer, Long, Single, Double, FixedString
 use Rattle.steps.specs.State.{State, running, stopped, Step, ◌⨾◌, nothing, when, asking, each, enter, push}
 use Rattle.steps.specs.declared.Counts.{Counts}
 use Rattle.steps.specs.Held.{Fit, Sized, Does, Notes, Rows, entering, pushing, noting}
-use Rattle.steps.specs.Compose.{Stays, notes_does, rows_does, nothing_does, same, then, when_yes, when_no, pick_yes, pick_no, asked, each_none, each_next, stays_when, stays_push, stays_enter}
-use Rattle.steps.specs.RowSteps.{rows_each_none, rows_each_next}
+use Rattle.steps.proofs.Compose.{Stays, notes_does, rows_does, nothing_does, same, then, when_yes, when_no, pick_yes, pick_no, asked, each_none, each_next, stays_when, stays_push, stays_enter}
+use Rattle.steps.proofs.RowSteps.{rows_each_none, rows_each_next}
 use Rattle.collect.specs.Diagnostics.{suffix_differs, undefined_type, declared_twice, no_dimension, other_rank, dim_shared_inside}
 use Rattle.collect.specs.Seen.{Seen, see}
 use Rattle.builtins.specs.Builtins.{is_some}

@@ -11,13 +11,13 @@ use Rattle.words.specs.Word.{word_of, pay_of}
 use Rattle.expr.specs.Expr.{Expr}
 use Rattle.expr.specs.Stands.{Wrote}
 use Rattle.expr.proofs.Parts.{wrote_first, wrote_left, wrote_right, pay_is}
-use Rattle.tree.specs.Sorts.{Kind, sorts, number_of, many, flag, Declarator as DeclaratorRow, dim as dim_kind, redim as redim_kind}
+use Rattle.tree.specs.Sorts.{Kind, sorts, number_of, many, Declarator as DeclaratorRow, dim as dim_kind, redim as redim_kind}
 use Rattle.tree.specs.Tree.{Tree, one, row, word, Stmt, done, cons, over, words_t, Right}
 use Rattle.tree.specs.Stands.{Stands}
 use Rattle.views.specs.View.{View, Dim, Redim, Declarator, view, items, is_set, declarator}
 use Rattle.steps.specs.declared.Counts.{Counts}
 use Rattle.steps.specs.Held.{Fit, Does}
-use Rattle.steps.specs.Compose.{then}
+use Rattle.steps.proofs.Compose.{then}
 use Rattle.collect.specs.Seen.{Seen, see}
 use Rattle.collect.specs.Collect.{given, statement, dim, redim}
 use Rattle.collect.specs.Code.{Collects}

@@ -30,9 +30,9 @@ use Rattle.resolve.specs.Tables.{nowhere, places, after as past, element}
 use Rattle.resolve.specs.FromRows.{tables_of}
 use Rattle.resolve.specs.Resolve.{passed, called, resolve_expr, resolve_args, first, inside, argued, resolve_tree, resolve_array_accesses}
 use Rattle.equivalence.specs.Chain.{Chain, empty, more as step_on, single}
-use Rattle.equivalence.specs.Step.{StepE, put, take, to_element, to_call, in_elem, in_left, in_right, in_call, in_paren, here, there, StepP, Steps, in_value, in_stmt_lem, in_list, in_head, in_tail, in_row, past_row}
+use Rattle.equivalence.specs.Step.{StepE, put, take, to_element, to_call, in_elem, in_left, in_right, in_call, in_paren, here, there, StepP, Steps, in_value, in_statement, in_list, in_head, in_tail, in_row, past_row}
 use Rattle.equivalence.specs.Analysis.{Analysis, result_of, analysis, Accepted}
-use Rattle.equivalence.specs.Demand3.{demand_3}
+use Rattle.equivalence.proofs.Demand3.{demand_3}
 
 -- the strings: 0 A, 1 B, 2 C, 3 F, 4 LOGSCAN, 5 N, 6 P, 7 X; no name is erased
 bytes : List ℕ
@@ -110,7 +110,7 @@ with_pair_given = refl
 -- a step in the expression of line 2
 on_line_2 : (e d : Expr) → StepE (tables_of parens_rows) 0 false e d → StepP parens_rows (parens e) (parens d)
 unfolding answer parens
-on_line_2 e d s = in_list (past_row (in_row (in_head (in_stmt_lem (in_tail (in_tail (in_head (in_value s))))))))
+on_line_2 e d s = in_list (past_row (in_row (in_head (in_statement (in_tail (in_tail (in_head (in_value s))))))))
 
 -- around an operand: .. + (N)
 operand : Linked with_pair (parens (sum (Paren N) N N (Paren N))) parens_rows [] with_pair_words
@@ -168,7 +168,7 @@ in_pair_given = refl
 -- a step in the argument
 on_call : (e d : Expr) → StepE (tables_of calls_rows) 0 true e d → StepP calls_rows (calls e) (calls d)
 unfolding answer calls calls_rows
-on_call e d s = in_list (past_row (in_row (in_head (in_stmt_lem (in_tail (in_head (in_list (in_row (in_head (in_value s))))))))))
+on_call e d s = in_list (past_row (in_row (in_head (in_statement (in_tail (in_head (in_list (in_row (in_head (in_value s))))))))))
 
 -- CALL LOGSCAN (N) and CALL LOGSCAN ((N))
 in_call_pair : Linked (calls (Paren N)) (calls (Paren (Paren N))) calls_rows [] (calls_words (0x17000000 ∷ 0x11000000 ∷ 0x02000005 ∷ []))
@@ -234,11 +234,11 @@ elements_given = refl
 -- a step in the expression of line 5, in the scope of P, and of line 7, in that of F
 on_line_5 : (e d f : Expr) → StepE (tables_of arrays_rows) 7 false e d → StepP arrays_rows (arrays e f) (arrays d f)
 unfolding answer arrays
-on_line_5 e d f s = in_list (past_row (past_row (in_row (in_head (in_stmt_lem (in_tail (in_tail (in_head (in_list (past_row (in_row (in_head (in_stmt_lem (in_tail (in_tail (in_head (in_value s)))))))))))))))))
+on_line_5 e d f s = in_list (past_row (past_row (in_row (in_head (in_statement (in_tail (in_tail (in_head (in_list (past_row (in_row (in_head (in_statement (in_tail (in_tail (in_head (in_value s)))))))))))))))))
 
 on_line_7 : (e f g : Expr) → StepE (tables_of arrays_rows) 4 false f g → StepP arrays_rows (arrays e f) (arrays e g)
 unfolding answer arrays
-on_line_7 e f g s = in_list (past_row (past_row (past_row (in_row (in_head (in_stmt_lem (in_tail (in_tail (in_tail (in_head (in_list (in_row (in_head (in_stmt_lem (in_tail (in_tail (in_head (in_value s))))))))))))))))))
+on_line_7 e f g s = in_list (past_row (past_row (past_row (in_row (in_head (in_statement (in_tail (in_tail (in_tail (in_head (in_list (in_row (in_head (in_statement (in_tail (in_tail (in_head (in_value s))))))))))))))))))
 
 -- A, seen from P by DIM SHARED
 by_dim_shared : Linked elements (arrays (Binary 0 (called_1 0) (element_1 1)) (element_1 2)) arrays_rows [] elements_words

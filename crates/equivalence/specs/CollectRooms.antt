@@ -78,7 +78,7 @@ module _ (string : ℕ → List ℕ) (erased : List ℕ) where
 
   const_k : (line name : ℕ) (e : Seen) → Keeps (λ r d. C.const (G r d) line name e) (C.const G₀ line name e)
   unfolding C.const
-  const_k line name e = then_k (asking_k (λ rows. when_k (has rows 132 name 0) (push_k _))) (asking_k (λ rows. folded_k line name (e.const_eval_lem rows)))
+  const_k line name e = then_k (asking_k (λ rows. when_k (has rows 132 name 0) (push_k _))) (asking_k (λ rows. folded_k line name (e.folds_to rows)))
 
   item_k : (static : Bool) (scope : ℕ) (i : ScopeItem) → Keeps (λ r d. C.item (G r d) static scope i) (C.item G₀ static scope i)
   unfolding C.item
@@ -164,7 +164,7 @@ module _ (string : ℕ → List ℕ) (erased : List ℕ) where
 
   array_param_k : (scope line : ℕ) (b : Tree Seen (one body)) (p : Param) → Keeps (λ r d. C.array_param (G r d) scope line b p) (C.array_param G₀ scope line b p)
   unfolding C.array_param
-  array_param_k scope line b p = when_k p.array (ranked_k scope line p.name (subscript_count (λ name (e : Seen). e.use_of_lem name) p.name b))
+  array_param_k scope line b p = when_k p.array (ranked_k scope line p.name (subscript_count (λ name (e : Seen). e.use_under name) p.name b))
 
   param_type_k : (scope line name : ℕ) (t : Option TypeRef) → Keeps (λ r d. C.param_type (G r d) scope line name t) (C.param_type G₀ scope line name t)
   unfolding C.param_type

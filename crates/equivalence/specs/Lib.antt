@@ -1,11 +1,8 @@
 -- `Step`, `Chain` and `Analysis` are the terms of demand 3 and `Demand3` is its statement; the others are laws.
 pub mod Chain
 pub mod Step
-pub mod StepLaws
 pub mod Analysis
 pub mod AnalysisLaws
 pub mod Rooms
 pub mod CollectRooms
-pub mod AcceptedLaws
-pub mod Demand3Laws
 pub mod Demand3

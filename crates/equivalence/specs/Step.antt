@@ -41,7 +41,7 @@ mutual
 -- CALL's list holds arguments; the other cases only lead to the expression.
 pub data Step (T : Tables) : ℕ → Places → (i : Shape) → Tree Expr i → Tree Expr i → Type 0 where
   in_value : {σ : ℕ} {m : Places} {e d : Expr} → StepE T σ (m 0) e d → Step T σ m (one expr) (value e) (value d)
-  in_stmt_lem : {σ : ℕ} {m : Places} {k : Kind} {line : ℕ} {r t : Tree Expr (row (sorts k))} → Step T (inside σ k (first r)) (argued T k (first r)) (row (sorts k)) r t → Step T σ m (one stmt) (Stmt k line r) (Stmt k line t)
+  in_statement : {σ : ℕ} {m : Places} {k : Kind} {line : ℕ} {r t : Tree Expr (row (sorts k))} → Step T (inside σ k (first r)) (argued T k (first r)) (row (sorts k)) r t → Step T σ m (one stmt) (Stmt k line r) (Stmt k line t)
   in_list : {σ : ℕ} {m : Places} {ss : Sorts} {r t : Tree Expr (rows ss)} → Step T σ m (rows ss) r t → Step T σ m (one (many ss)) (list r) (list t)
   in_part : {σ : ℕ} {m : Places} {ss : Sorts} {r t : Tree Expr (row ss)} → Step T σ m (row ss) r t → Step T σ m (one (group ss)) (part r) (part t)
   in_this : {σ : ℕ} {m : Places} {k : ℕ} {ss : Sorts} {s : Sort} {r t : Tree Expr (row ss)} → Step T σ m (row ss) r t → Step T σ m (one (either k ss s)) (this r) (this t)

@@ -11,7 +11,7 @@ use lib.Dec.{lit≤, lit<}
 use borrow.Author.Tests.{lt-ltb, le-leb, eq-eqb}
 use Rattle.expr.specs.Expr.{Strings, Named, finite, Literal, Integer, Long, Single, Float, Text, Expr, Exprs, Lit, Var, Elem, Unary, Binary, Call, Field, Paren, none, more, words_l, many, words, words_all, depth, depths, Below, ValidL, Valid, Valids}
 use Rattle.words.specs.Word.{word_of}
-use Rattle.expr.specs.Got.{Got, got, deep, bind}
+use Rattle.expr.specs.Got.{Got, got, bind}
 use Rattle.expr.specs.Reader.{raw_at, test_at, leaf_at, name_at, head_at, float_at, literal_body, literal_at, exprs_at, list_at, body_at, expr_at}
 use Rattle.expr.specs.Stands.{Wrote, Stands}
 use Rattle.expr.proofs.Parts.{First, wrote_first, wrote_left, wrote_right, kind_is, pay_is, ends}

@@ -3,7 +3,7 @@ use Prim.Native.Nat.{ℕ}
 use mathlib.Core.Path.{◌≡◌, refl}
 use mathlib.Core.List.{List, [], ◌∷◌}
 use Rattle.expr.specs.Expr.{Strings, Integer, Lit, Elem, Paren, none, more}
-use Rattle.expr.specs.Got.{Got, got, wrong, deep, bind}
+use Rattle.expr.specs.Got.{got, wrong, deep, bind}
 use Rattle.expr.specs.Reader.{raw_at, test_at, leaf_at, name_at, head_at, float_at, literal_body, literal_at, exprs_at, list_at, body_at, expr_at}
 
 -- one string, a name

@@ -1,16 +1,16 @@
 -- What a reading that gives a value says of the words. Assumes nothing.
-use Prim.Native.Nat.{ℕ, zero, suc, ◌+◌, ◌*◌, ◌/◌, ◌%◌, ◌<◌, ◌≤◌}
-use mathlib.Core.Path.{◌≡◌, refl, sym, ap, subst, ◌∙◌}
-use mathlib.Core.List.{List, [], ◌∷◌, ◌++◌}
+use Prim.Native.Nat.{ℕ, zero, suc, ◌+◌, ◌<◌, ◌≤◌}
+use mathlib.Core.Path.{◌≡◌, refl, ap, ◌∙◌}
+use mathlib.Core.List.{List, [], ◌∷◌}
 use mathlib.Core.Bool.{Bool, true, false}
 use native.Mathlib.Omega.{arith}
-use lib.ListN.{length, get_or, take, drop}
+use lib.ListN.{length, get_or}
 use lib.Dec.{ltb, leb, eqb}
-use borrow.Author.Tests.{ltb-true, leb-true, eqb-true, lt-ltb, le-leb, eq-eqb}
-use Rattle.expr.specs.Expr.{Strings, Literal, Integer, Long, Single, Float, Text, Expr, Exprs, Lit, Var, Elem, Unary, Binary, Call, Field, Paren, none, more}
+use borrow.Author.Tests.{ltb-true, leb-true, eqb-true}
+use Rattle.expr.specs.Expr.{Strings, Literal, Expr, Exprs, Lit, Var, Elem, Unary, Binary, Call, Field, Paren}
 use Rattle.expr.specs.Got.{Got, got, wrong, deep, bind}
 use Rattle.words.specs.Word.{pick, kind_of, pay_of}
-use Rattle.expr.specs.Reader.{raw_at, test_at, leaf_at, name_at, head_at, float_at, literal_at, exprs_at, list_at, body_at, expr_at}
+use Rattle.expr.specs.Reader.{raw_at, leaf_at, name_at, head_at, literal_at, exprs_at, list_at, body_at}
 
 -- what is picked isn't the second: the test holds, and it is the first
 pub pick_true : {A : Type 0} (b : Bool) {x y z : A} → pick b x y ≡ z → (y ≡ z → ⊥) → (b ≡ true) × (x ≡ z)

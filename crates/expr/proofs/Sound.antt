@@ -1,23 +1,23 @@
 -- The definition of reading is right: what it gives is the tree whose words stand there, and it gives every right tree that is not too deep. Assumes nothing.
-use Prim.Native.Nat.{ℕ, zero, suc, ◌+◌, ◌*◌, ◌-◌, ◌/◌, ◌%◌, ◌<◌, ◌≤◌, max}
-use mathlib.Core.Path.{◌≡◌, refl, sym, ap, subst, ◌∙◌}
-use mathlib.Core.List.{List, [], ◌∷◌, ◌++◌}
-use mathlib.Core.Bool.{Bool, true, false, not}
+use Prim.Native.Nat.{ℕ, zero, suc, ◌<◌, ◌≤◌}
+use mathlib.Core.Path.{◌≡◌, refl, sym, ◌∙◌}
+use mathlib.Core.List.{List, [], ◌∷◌}
+use mathlib.Core.Bool.{Bool, true}
 use mathlib.Core.Logic.{◌⊎◌, inl, inr, ⊎_elim}
 use native.Mathlib.Omega.{arith}
 use native.Mathlib.Nat.{le_antisymm}
-use native.Mathlib.Numerals.{add-one, sub-one}
+use native.Mathlib.Numerals.{add-one}
 use native.Mathlib.Decide.{ℕ_discrete}
-use lib.ListN.{length, get_or, drop}
-use lib.Dec.{ltb, leb, eqb}
-use borrow.Author.Tests.{ltb-true, lt-ltb, le-leb, eq-eqb}
-use Rattle.expr.specs.Expr.{Strings, Named, finite, Literal, Integer, Long, Single, Float, Text, Expr, Exprs, Lit, Var, Elem, Unary, Binary, Call, Field, Paren, none, more, words_l, many, words, words_all, depth, depths, Below, ValidL, Valid, Valids}
-use Rattle.words.specs.Word.{word_of, pick, kind_of, pay_of}
-use Rattle.expr.specs.Got.{Got, got, wrong, deep, bind}
+use lib.ListN.{length, get_or}
+use lib.Dec.{ltb}
+use borrow.Author.Tests.{ltb-true}
+use Rattle.expr.specs.Expr.{Strings, Named, finite, Literal, Integer, Long, Single, Float, Text, Expr, Exprs, none, words_l, many, words, words_all, depth, depths, Below, ValidL, Valid, Valids}
+use Rattle.words.specs.Word.{word_of}
+use Rattle.expr.specs.Got.{Got, got}
 use Rattle.expr.specs.Reader.{raw_at, test_at, leaf_at, head_at, float_at, literal_body, literal_at, exprs_at, list_at, body_at, expr_at}
-use Rattle.expr.specs.Stands.{Wrote, Stands}
-use Rattle.expr.proofs.Laws.{pick_true, wrong_got, deep_got, bind_got, map_got, IsRaw, raw_got, IsLeaf, leaf_got, IsName, name_got, IsHead, head_got, IsList, list_got, got_16, got_17, got_18, got_19, got_20, got_21, got_22, got_23}
-use Rattle.expr.proofs.Parts.{wrote_none, wrote_cons, wrote_cat, First, wrote_first, wrote_left, wrote_right, word_is, kind_is, pay_is}
+use Rattle.expr.specs.Stands.{Wrote}
+use Rattle.expr.proofs.Laws.{pick_true, wrong_got, deep_got, bind_got, map_got, IsRaw, raw_got, IsLeaf, leaf_got, IsName, name_got, IsHead, head_got, list_got, got_16, got_17, got_18, got_19, got_20, got_21, got_22, got_23}
+use Rattle.expr.proofs.Parts.{wrote_none, wrote_cons, wrote_cat, word_is}
 
 -- a number that is at least n: it is n, or more
 pub at_least : (n k : ℕ) → n ≤ k → (k ≡ n) ⊎ (suc n ≤ k)

@@ -6,12 +6,12 @@ use mathlib.Core.Logic.{◌⊎◌, inl, inr, ⊎_elim}
 use native.Mathlib.Omega.{arith}
 use native.Mathlib.Numerals.{sub-one}
 use native.Mathlib.Decide.{ℕ_discrete}
-use lib.ListN.{length, get_or}
+use lib.ListN.{get_or}
 use types.Run.{OneOf}
 use denote.Enum.Declared.{tag_of}
 use Rattle.expr.specs.Got.{Got, got, wrong, deep, bind}
-use Rattle.words.specs.Word.{pick, kind_of, pay_of}
-use Rattle.expr.specs.Expr.{Strings, finite, Literal, Single, Float, Expr}
+use Rattle.words.specs.Word.{kind_of, pay_of}
+use Rattle.expr.specs.Expr.{Strings, finite, Literal, Single, Expr}
 use Rattle.expr.specs.Reader.{raw_at, test_at, leaf_at, name_at, head_at, float_at, literal_body, literal_at, exprs_at, list_at, body_at, expr_at}
 use Rattle.expr.proofs.Laws.{IsHead, head_got, IsLeaf, leaf_got}
 use Rattle.expr.specs.Answer.{step_of, then}

@@ -1,7 +1,6 @@
 -- What the code answers of what the definition gives: the tree is left out.
 use Rattle.std.specs.Prelude.{ℕ}
 use Rattle.expr.specs.Got.{Got, got, wrong, deep}
-use Rattle.expr.specs.declared.Cursor.{Cursor}
 use Rattle.expr.specs.declared.Step.{Step}
 use Rattle.expr.specs.declared.Step.TheVariants.{Read, Wrong, Deep}
 

@@ -1,5 +1,5 @@
 -- Expressions as trees, and the words that write them.
-use Rattle.std.specs.Prelude.{ℕ, ◌+◌, ◌*◌, ◌/◌, ◌%◌, ◌<◌, max, ◌≡◌, Bool, true, not, eqb, get_or, List, [], ◌∷◌, ◌++◌}
+use Rattle.std.specs.Prelude.{ℕ, ◌+◌, ◌/◌, ◌%◌, ◌<◌, max, ◌≡◌, Bool, true, not, eqb, get_or, List, [], ◌∷◌, ◌++◌}
 use Rattle.words.specs.Word.{word_of}
 
 -- `Literal` of parser.rs, with its kinds. Integer and Long hold the raw word: `signed32` (consteval/specs/ConstEval.antt) reads it in two's complement

@@ -1,5 +1,5 @@
 -- What reading at a place gives: a value and the place past it, or the place of the first wrong word, or of a head that stands too deep.
-use Rattle.std.specs.Prelude.{ℕ, ◌+◌, Bool, true, false}
+use Rattle.std.specs.Prelude.{ℕ}
 
 -- what was read and the place past it; the place of a wrong word; that of a head too deep
 pub data Got (A : Type 0) : Type 0 where

@@ -1,5 +1,5 @@
 -- The definition of reading: by the depth that is left, so that it recurses on its first argument.
-use Rattle.std.specs.Prelude.{ℕ, zero, suc, ◌+◌, ◌*◌, ◌/◌, ◌%◌, List, [], ◌∷◌, ◌++◌, Bool, true, false, not, ◌&&◌, length, get_or, ltb, leb, eqb}
+use Rattle.std.specs.Prelude.{ℕ, zero, suc, ◌+◌, List, Bool, length, get_or, ltb, leb, eqb}
 use Rattle.expr.specs.Expr.{Strings, finite, Literal, Integer, Long, Single, Float, Text, Expr, Exprs, Lit, Var, Elem, Unary, Binary, Call, Field, Paren, none, more}
 use Rattle.words.specs.Word.{kind_of, pay_of, pick}
 use Rattle.expr.specs.Got.{Got, got, wrong, deep, bind}

@@ -1,11 +1,10 @@
 -- The definitions of `Fold` and `Value` by the tests and the matches that the program makes. Assumes nothing.
-use mathlib.Core.Path.{◌≡◌, refl, sym, ap, ◌∙◌, subst}
-use mathlib.Core.Bool.{Bool, true, false, cond, ◌||◌}
-use Prim.Native.Nat.{ℕ, zero, suc, ◌<◌, ◌≤◌, ◌^◌, max}
+use mathlib.Core.Path.{◌≡◌, refl, sym, ap, ◌∙◌}
+use mathlib.Core.Bool.{Bool, true, false, ◌||◌}
+use Prim.Native.Nat.{ℕ, zero, suc, ◌<◌, max}
 use native.Mathlib.Omega.{arith}
 use borrow.Author.Tests.{eq-eqb, ne_eqb}
-use lib.Dec.{T, eqb}
-use lib.IntN.{ℤ, pos, negsuc, nat_abs}
+use lib.IntN.{ℤ, pos, negsuc}
 use lib.Ieee as Ieee
 use mir.Syntax.{w64}
 use mir.Val.{SFits, of_z}
@@ -14,14 +13,10 @@ use Rattle.numbers.specs.SignedLaws.{never}
 use Rattle.numbers.specs.declared.Whole.{Whole}
 use Rattle.numbers.specs.declared.Whole.TheVariants.{At, Out}
 use Rattle.fold.specs.declared.Value.{Value}
-use Rattle.fold.specs.declared.Value.TheVariants.{Integer, Long, Single, Float, Text}
 use Rattle.fold.specs.declared.Arith.{Arith}
-use Rattle.fold.specs.declared.Arith.TheVariants.{Add, Sub, Mul}
 use Rattle.fold.specs.declared.Part.{Part}
-use Rattle.fold.specs.declared.Part.TheVariants.{Quotient, Remainder}
-use Rattle.fold.specs.declared.Fold.{Fold}
-use Rattle.fold.specs.declared.Fold.TheVariants.{Is, Overflow, NotConstant}
-use Rattle.fold.specs.Fold.{least_long, is_text, rank_of, as_f64, int_of, is_zero, float_fold, int_op, float_op, at_rank, arith_of, div_of, of_wholes, whole_div_of, op_of, on_numbers}
+use Rattle.fold.specs.declared.Fold.TheVariants.{Overflow, NotConstant}
+use Rattle.fold.specs.Fold.{is_text, rank_of, as_f64, int_of, is_zero, float_fold, int_op, float_op, at_rank, arith_of, of_wholes, op_of, on_numbers}
 
 -- a test whose result is known
 pub picked : {A : Type 0} (t b : Bool) (x y : A) → t ≡ b → pick t x y ≡ pick b x y

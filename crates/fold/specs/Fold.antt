@@ -2,7 +2,7 @@
 -- Nothing is asked of a caller: every value here is in the range that `Good` (Value.antt) states, since a literal's float is finite
 -- (`float_at`, expr/specs/Reader.antt) and its whole number has 32 bits, a folded one is tested here or only changes its sign, and lent CONST rows
 -- are tested by number 6. What the definitions say of other values is never asked.
-use Rattle.std.specs.Prelude.{◌≡◌, Bool, true, false, not, cond, ◌||◌, ℕ, zero, suc, max, ℤ, pos, negsuc, neg_ℤ, ◌+ℤ◌, ◌-ℤ◌, ◌*ℤ◌, eqb}
+use Rattle.std.specs.Prelude.{Bool, true, false, cond, ◌||◌, ℕ, zero, suc, max, ℤ, pos, negsuc, neg_ℤ, ◌+ℤ◌, ◌-ℤ◌, ◌*ℤ◌, eqb}
 use Rattle.std.specs.Int.Signed.{quot_z, rem_z}
 use Rattle.std.specs.Float.Ieee as Ieee
 use Rattle.std.specs.Float.{fin, binary64}

@@ -1,5 +1,4 @@
--- `Value` and `Fold` say what folding two values gives; the laws that other crates cite are vouched for.
+-- `Value` and `Fold` say what folding two values gives; `ValueLaws` is vouched for.
 pub mod Value
 pub mod Fold
 pub mod ValueLaws
-pub mod FoldLaws

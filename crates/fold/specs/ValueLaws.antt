@@ -1,7 +1,6 @@
 -- The words of a value and the value of words are each other's inverse, and the rule of a CONST row says exactly which words a value in range has.
-use Rattle.std.specs.Prelude.{◌≡◌, refl, Bool, true, false, not, cond, ◌&&◌, ◌||◌, ℕ, zero, suc, ◌+◌, ◌-◌, ◌*◌, ◌/◌, ◌%◌, ◌≤◌, ◌<◌, ℤ, pos, negsuc, nat_abs, ◌+ℤ◌, T, eqb, ltb, leb}
-use Rattle.std.proofs.Common.{sym, ap, ap₂, ◌∙◌, subst, div-add-mod', arith, lt-ltb, le-ltb, ltb-true, ltb-false, eqb→eq, leb→le, le→leb, lt→ltb, ltb→lt}
-use Rattle.std.specs.Int.Signed.{lt_z}
+use Rattle.std.specs.Prelude.{◌≡◌, refl, Bool, true, false, cond, ◌&&◌, ◌||◌, ℕ, ◌+◌, ◌-◌, ◌*◌, ◌/◌, ◌%◌, ◌≤◌, ◌<◌, ℤ, pos, negsuc, T, eqb, ltb, leb}
+use Rattle.std.proofs.Common.{sym, ap, ◌∙◌, subst, div-add-mod', arith, lt-ltb, le-ltb, eqb→eq, leb→le, le→leb, lt→ltb, ltb→lt}
 use Rattle.std.proofs.Math.Dec.{eqb_refl}
 use Rattle.std.specs.Float.Ieee as Ieee
 use Rattle.std.specs.Float.{binary64}
@@ -12,8 +11,7 @@ use Rattle.std.specs.Float.Ieee.Scale.{finite}
 use Rattle.words.specs.Word.{pick}
 use Rattle.numbers.specs.Numbers.{of_words, bits_of, whole_at}
 use Rattle.numbers.specs.NumbersLaws.{no_nan, words_finite}
-use Rattle.numbers.specs.SignedLaws.{never}
-use Rattle.fold.specs.Value.{InRange, Good, Known, literal_kind, bits64, low_of, high_of, value_of, whole_rule, float_rule, const_rule}
+use Rattle.fold.specs.Value.{InRange, Good, Known, literal_kind, low_of, high_of, value_of, whole_rule, float_rule, const_rule}
 use Rattle.fold.specs.declared.Value.{Value}
 use Rattle.fold.specs.declared.Value.TheVariants.{Integer, Long, Single, Float, Text}
 

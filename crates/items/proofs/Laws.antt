@@ -18,12 +18,12 @@ use Rattle.tree.proofs.Nodes.{cons_last, stmt_line}
 use Rattle.table.specs.Rows.{Row, width, note_width, find}
 use Rattle.runs.specs.Runs.{Keeps}
 use Rattle.entries.specs.Entries.{row, entry_key, row_word}
-use Rattle.views.specs.View.{TypeRef, Integer, Long, Single, Double, FixedString, Record, head, arg, head_of, arg_of, ScopeItem, View, Shared, Static, is_set, scope_item, items, view}
+use Rattle.views.specs.View.{TypeRef, Integer, Long, Single, Double, FixedString, Record, head, head_of, arg_of, ScopeItem, View, Shared, Static, is_set, scope_item, items, view}
 use Rattle.steps.specs.State.{each, enter}
 use Rattle.steps.specs.declared.Counts.{Counts}
 use Rattle.steps.specs.Held.{Does, Notes, Rows, entering, pushing}
-use Rattle.steps.specs.Compose.{stays_enter, then, rows_does, notes_does, pick_yes, pick_no}
-use Rattle.steps.specs.RowSteps.{rows_nothing, rows_asked, rows_each_none, rows_each_next}
+use Rattle.steps.proofs.Compose.{stays_enter, then, rows_does, notes_does, pick_yes, pick_no}
+use Rattle.steps.proofs.RowSteps.{rows_nothing, rows_asked, rows_each_none, rows_each_next}
 use Rattle.collect.specs.Diagnostics.{items_outside}
 use Rattle.collect.specs.Seen.{Seen, see}
 use Rattle.collect.specs.Collect.{given, marked, typed, item_type, item, statement}

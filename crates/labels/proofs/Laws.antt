@@ -27,7 +27,7 @@ use Rattle.views.specs.View.{View, Label, LabelName, OptionBase, Const, view}
 use Rattle.steps.specs.State.{State, Step, running, stopped, ◌⨾◌, asking, when, fits, change, enter, push}
 use Rattle.steps.specs.declared.Counts.{Counts}
 use Rattle.steps.specs.Held.{Fit, Held, Does, Notes, Rows, entering, pushing, noting}
-use Rattle.steps.specs.Compose.{Stays, then, asked, rows_does, notes_does, stays_when, stays_pick, stays_enter, stays_push, stopped_does}
+use Rattle.steps.proofs.Compose.{Stays, then, asked, rows_does, notes_does, stays_when, stays_pick, stays_enter, stays_push, stopped_does}
 use Rattle.fold.specs.Value.{literal_kind, low_of, high_of}
 use Rattle.fold.specs.declared.Fold.{Fold}
 use Rattle.fold.specs.declared.Fold.TheVariants.{Is, Overflow, NotConstant}

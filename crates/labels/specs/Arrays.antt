@@ -54,10 +54,10 @@ none_above b (r ∷ rs) t h S =
     rw (ne_eqb (kind_of (get_or r 0 0)) 133 (λ e. omega (arith, e, k))) (none_above (suc (key r)) rs t.2 (omega (arith, t.1)) (small_next r rs S))
 
 -- some row is an array's exactly where the two places differ
-pub any_array : (b : ℕ) (rows : List Row) → Table b rows → Small rows → ltb (rank arrays_from rows) (rank arrays_to rows) ≡ any_array rows
+pub any_array_lem : (b : ℕ) (rows : List Row) → Table b rows → Small rows → ltb (rank arrays_from rows) (rank arrays_to rows) ≡ any_array rows
 unfolding any_array rank
-any_array b [] t S = refl
-any_array b (r ∷ rs) t S = go (zone arrays_from arrays_to (key r)) (any_array (suc (key r)) rs t.2 (small_next r rs S))
+any_array_lem b [] t S = refl
+any_array_lem b (r ∷ rs) t S = go (zone arrays_from arrays_to (key r)) (any_array_lem (suc (key r)) rs t.2 (small_next r rs S))
   where
     go : (key r < arrays_from) ⊎ (((arrays_from ≤ key r) × (key r < arrays_to)) ⊎ (arrays_to ≤ key r)) → ltb (rank arrays_from rs) (rank arrays_to rs) ≡ any_array rs
         → ltb (rank arrays_from (r ∷ rs)) (rank arrays_to (r ∷ rs)) ≡ any_array (r ∷ rs)

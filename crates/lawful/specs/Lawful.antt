@@ -23,7 +23,7 @@ use Rattle.tree.specs.Stands.{Stands}
 use Rattle.views.specs.View.{TypeRef, Integer, Long, Single, Double, FixedString, Record, head, arg, head_of, arg_of, Declarator, Param, ScopeItem, FieldDecl, View, Label, LabelName, OptionBase, TypeDef, Const, Shared, Static, Dim, Redim, Sub, Function, Other, view, inner, walk}
 use Rattle.fold.specs.Value.{literal_kind, low_of, high_of}
 use Rattle.fold.specs.ValueLaws.{RowValue, row_rule}
-use Rattle.fold.specs.FoldLaws.{RowFold}
+use Rattle.fold.proofs.FoldLaws.{RowFold}
 use Rattle.fold.specs.declared.Fold.{Fold}
 use Rattle.fold.specs.declared.Fold.TheVariants.{Is, Overflow, NotConstant}
 use Rattle.fold.specs.declared.Value.{Value}
@@ -347,10 +347,10 @@ module _ (ns : List ℕ) (n : ℕ) where
     folded_k line x Overflow c h r = error_k (one_name x h.named)
     folded_k line x NotConstant c h r = error_k (one_name x h.named)
 
-    const_k : (line x : ℕ) (e : Seen) → length ns ≡ n → Named ns x → Folds n e.const_eval_lem → Keeps ns n G (C.const G line x e)
+    const_k : (line x : ℕ) (e : Seen) → length ns ≡ n → Named ns x → Folds n e.folds_to → Keeps ns n G (C.const G line x e)
     unfolding C.const
     const_k line x e c h q =
-        then_k ns n G (asking_k ns n G (λ rows g. when_k ns n G (has rows 132 x 0) (error_k (one_name x h.named)))) (asking_k ns n G (λ rows g. folded_k line x (e.const_eval_lem rows) c h (q rows g.consts)))
+        then_k ns n G (asking_k ns n G (λ rows g. when_k ns n G (has rows 132 x 0) (error_k (one_name x h.named)))) (asking_k ns n G (λ rows g. folded_k line x (e.folds_to rows) c h (q rows g.consts)))
 
     item_k : (static : Bool) (scope : ℕ) (i : ScopeItem) → Scope ns n scope → FineItem ns n i → Keeps ns n G (C.item G static scope i)
     unfolding C.item
@@ -436,10 +436,10 @@ module _ (ns : List ℕ) (n : ℕ) where
     ranked_k scope line x (some rank) l s h q = entry_k _ (array_e x h scope rank line true s q l)
     ranked_k scope line x none l s h q = then_k ns n G (entry_k _ (array_e x h scope 1 line true s (omega arith) l)) (entry_k _ (unranked_e x h scope s))
 
-    array_param_k : (scope line : ℕ) (b : Tree Seen (one body)) (p : Param) → line < 16777216 → Scope ns n scope → FineParam ns n p → ((x : ℕ) → Small (subscript_count (λ name (e : Seen). e.use_of_lem name) x b))
+    array_param_k : (scope line : ℕ) (b : Tree Seen (one body)) (p : Param) → line < 16777216 → Scope ns n scope → FineParam ns n p → ((x : ℕ) → Small (subscript_count (λ name (e : Seen). e.use_under name) x b))
         → Keeps ns n G (C.array_param G scope line b p)
     unfolding C.array_param
-    array_param_k scope line b p l s a u = when_k ns n G p.array (ranked_k scope line p.name (subscript_count (λ name (e : Seen). e.use_of_lem name) p.name b) l s a.name (u p.name))
+    array_param_k scope line b p l s a u = when_k ns n G p.array (ranked_k scope line p.name (subscript_count (λ name (e : Seen). e.use_under name) p.name b) l s a.name (u p.name))
 
     param_type_k : (scope line x : ℕ) (t : Option TypeRef) → Scope ns n scope → Named ns x → OptFine ns n t → Keeps ns n G (C.param_type G scope line x t)
     unfolding C.param_type

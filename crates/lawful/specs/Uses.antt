@@ -23,7 +23,7 @@ Small nothing = Unit {0}
 Small (some k) = k < 16777216
 
 abbrev FineExpr : Seen → Type 0
-FineExpr e = (name : ℕ) → Small (e.use_of_lem name)
+FineExpr e = (name : ℕ) → Small (e.use_under name)
 
 abbrev FineTarget : LValue Seen → Type 0
 FineTarget v = Small (indexed v.indices)
@@ -148,14 +148,14 @@ module _ (ns : List ℕ) (n : ℕ) where
       go false = tt
 
   -- THE LAW
-  pub subscripts_small : {i : Shape} (name : ℕ) (v : Tree Expr i) → Right ns n v → Small (subscript_count (λ name (e : Seen). e.use_of_lem name) name (over see v))
+  pub subscripts_small : {i : Shape} (name : ℕ) (v : Tree Expr i) → Right ns n v → Small (subscript_count (λ name (e : Seen). e.use_under name) name (over see v))
   unfolding subscript_count in_stmt over Right
   subscripts_small name (word x) h = tt
   subscripts_small name (value e) h = tt
   subscripts_small name (Stmt k line r) h =
       let u = uses_small k r h.1 in
       let targets : Small (first_of (in_lvalue name) (uses k (over see r)).targets) = first_small (in_lvalue name) (lvalue_small name) (uses k (over see r)).targets u.0 in
-      let exprs : Small (first_of (λ (e : Seen). e.use_of_lem name) (uses k (over see r)).exprs) = first_small (λ (e : Seen). e.use_of_lem name) (λ e q. q name) (uses k (over see r)).exprs u.1 in
+      let exprs : Small (first_of (λ (e : Seen). e.use_under name) (uses k (over see r)).exprs) = first_small (λ (e : Seen). e.use_under name) (λ e q. q name) (uses k (over see r)).exprs u.1 in
       else_small _ _ (else_small _ _ targets exprs) (subscripts_small name r h.1)
   subscripts_small name (list rs) h = subscripts_small name rs h.1
   subscripts_small name (part r) h = subscripts_small name r h

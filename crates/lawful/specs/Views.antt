@@ -17,7 +17,7 @@ use Rattle.views.specs.View.{TypeRef, Integer, Long, Single, Double, FixedString
 use Rattle.views.specs.KindLaws.{view_kinds, view_other}
 use Rattle.subscripts.specs.Subscripts.{indexed, subscript_count}
 use Rattle.table.specs.Rows.{Row}
-use Rattle.fold.specs.FoldLaws.{RowFold}
+use Rattle.fold.proofs.FoldLaws.{RowFold}
 use Rattle.fold.specs.declared.Fold.{Fold}
 use Rattle.lent.specs.Rules.{is_marked, type_ok, scope_ok}
 use Rattle.lent.specs.Valid.{type_or_none}
@@ -108,7 +108,7 @@ module _ (ns : List ℕ) (n : ℕ) where
   pub record FineParams (ps : List Param) (b : Tree Seen (one body)) : Type 0 where
     pub all : Each FineParam ps
     pub few : length ps < 16777216
-    pub rank : (name : ℕ) → Small (subscript_count (λ name (e : Seen). e.use_of_lem name) name b)
+    pub rank : (name : ℕ) → Small (subscript_count (λ name (e : Seen). e.use_under name) name b)
 
   -- what a statement shows is in order, kind by kind
   abbrev pub FineView : View Seen → Type 0
@@ -116,7 +116,7 @@ module _ (ns : List ℕ) (n : ℕ) where
   FineView (LabelName x) = Named ns x
   FineView (OptionBase x) = x < 16777216
   FineView (TypeDef x fs) = Named ns x × Each FineField fs × (length fs < 16777216)
-  FineView (Const x e) = Named ns x × Folds n e.const_eval_lem
+  FineView (Const x e) = Named ns x × Folds n e.folds_to
   FineView (Shared is) = Each FineItem is
   FineView (Static is) = Each FineItem is
   FineView (Dim ds s) = Each FineDecl ds
@@ -193,6 +193,7 @@ module _ (ns : List ℕ) (n : ℕ) where
   type_fine (that (that (that (this r)))) h = refl
   type_fine (that (that (that (that (this (cons (word k) done)))))) h = lt-ltb k 16777216 h.0.1
   type_fine (that (that (that (that (that (this (cons (word x) done))))))) h = h.0.0
+  type_fine (that (that (that (that (that (that x)))))) h = elim x [ ]
 
   as_type_fine : (v : Tree Expr (one (opt (TypeSort & nil)))) → Right ns n v → OptFine (optional as_type (over see v))
   unfolding optional as_type over Right

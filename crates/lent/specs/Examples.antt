@@ -7,7 +7,6 @@ use Rattle.entries.specs.Entries.{row, line_row, label_row, type_row, field_row,
 use Rattle.fold.specs.Value.{const_rule}
 use Rattle.lent.specs.Rules.{scope_ok, type_ok, const_ok, word_ok, words_ok, kind_ok, row_ok}
 use Rattle.lent.specs.Lent.{all_zero, ended_at, scan, checked}
-use Rattle.lent.specs.declared.Checked.{Checked}
 use Rattle.lent.specs.declared.Checked.TheVariants.{Bad, Rows}
 
 -- the marks of the three strings

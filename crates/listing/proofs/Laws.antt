@@ -5,7 +5,7 @@ use mathlib.Core.Path.{◌≡◌, refl, sym, ap, ◌∙◌}
 use mathlib.Core.Logic.{◌⊎◌, inl, inr}
 use mathlib.Core.List.{List}
 use mathlib.Core.Bool.{Bool, true, false}
-use mathlib.Core.Option.{Option, none, some}
+use mathlib.Core.Option.{none, some}
 use borrow.Author.Tests.{le-leb, ne_eqb}
 use lib.ListN.{length, length-replicate, take, drop}
 use Rattle.words.specs.Told.{Told, stops, gives, unless}
@@ -22,7 +22,7 @@ use Rattle.image.specs.Laws.{Shaped}
 use Rattle.page.specs.Page.{page, refusal}
 use Rattle.page.specs.Chunks.{chunks}
 use Rattle.equivalence.specs.Analysis.{Analysis, analysis}
-use Rattle.equivalence.specs.AcceptedLaws.{Within as Longer, same, rows_full, notes_full, longer_limits}
+use Rattle.equivalence.proofs.AcceptedLaws.{Within as Longer, same, rows_full, notes_full, longer_limits}
 use Rattle.analyse.specs.Analyse.{Analyses, Tells, work, analysis_in, told, counted}
 use Rattle.analyse.specs.ReadOff.{shown_of, read_off, Within, read_off_lem, within}
 use Rattle.analyse.specs.declared.Given.{Given}

@@ -1,6 +1,6 @@
 -- THE LAW: the listing of a file of bytes has at most 722,946 bytes: 2,048 diagnostics of at most 261, 2,048 rows of 56, and an R line of at most 8,192
 -- words of 9. Assumes nothing.
-use Rattle.std.specs.Prelude.{ℕ, zero, suc, ◌+◌, ◌*◌, ◌≤◌, ◌<◌, ◌≡◌, refl, true, leb, take, drop, get_or}
+use Rattle.std.specs.Prelude.{ℕ, zero, suc, ◌+◌, ◌*◌, ◌≤◌, ◌≡◌, refl, true, leb, take, drop}
 use native.Mathlib.Omega.{arith}
 use Rattle.std.proofs.Common.{sym, subst, leb-true, le-leb, take_at}
 use Rattle.std.proofs.Math.Path.{ap}

@@ -12,7 +12,7 @@ use lib.Seq.{slice, take_all, take-suc, drop-cons, take_at, drop_at, take-take, 
 use Rattle.words.specs.Word.{flatten}
 use Rattle.words.specs.Each.{Each}
 use Rattle.table.specs.Rows.{width, Row, key_of, key, Table, rank, find, insert, insert_all, zeros, image, Holds}
-use Rattle.table.specs.Laws.{order, order₃, rank_lt, rank_ge, find_ne, ne_lt, table_down, insert_lt, insert_eq, insert_gt}
+use Rattle.table.specs.Laws.{order, rank_lt, rank_ge, find_ne, ne_lt, table_down, insert_lt, insert_gt}
 use Rattle.table.specs.Each.{each_insert, each_at, wide_each}
 use Rattle.table.specs.Images.{flatten_append, flatten_split, table_wide, holds_full, length_flatten_take, image_append, take_rows, drop_rows, drop_tail, key_of_row}
 use Rattle.merge.specs.Merge.{Apart, Merging}

@@ -1,8 +1,8 @@
 -- An f64's fields, as its sign, its exponent and its significand. Assumes nothing.
-use Rattle.std.proofs.Common.{◌≡◌, ℕ, zero, suc, ◌+◌, ◌-◌, ◌*◌, ◌/◌, ◌%◌, ◌^◌, ◌<◌, ◌≤◌, Bool, true, false, cond, not, T, eqb, leb, sym, refl, ap, ◌∙◌, subst, lt_irrefl, arith, eqb→eq}
+use Rattle.std.proofs.Common.{◌≡◌, ℕ, zero, suc, ◌+◌, ◌*◌, ◌/◌, ◌%◌, ◌^◌, ◌<◌, Bool, true, false, cond, T, eqb, leb, sym, subst, lt_irrefl, arith, eqb→eq}
 use lib.Dec.{not_T}
-use lib.Ieee.{Float, nan, inf, fin, binary64, odd, of_fields, of_bits, to_bits, is_nan, fits}
-use lib.Ieee.Bits.{of_bits-to_bits, cond_no, is_true}
+use lib.Ieee.{Float, nan, inf, binary64, odd, of_fields, of_bits, to_bits, fits}
+use lib.Ieee.Bits.{of_bits-to_bits, cond_no}
 use lib.Ieee.Exact.{HasValue, odd_sign}
 use lib.Ieee.Scale.{finite}
 use Rattle.numbers.specs.Numbers.{PartsOf}

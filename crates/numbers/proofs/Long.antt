@@ -1,16 +1,13 @@
 -- A float as the nearest whole number, from its parts. Assumes nothing.
-use Rattle.std.proofs.Common.{◌≡◌, ℕ, zero, suc, ◌+◌, ◌-◌, ◌*◌, ◌/◌, ◌%◌, ◌^◌, ◌<◌, ◌≤◌, Bool, true, false, cond, not, ℤ, pos, negsuc, ◌-ℤ◌, neg_ℤ, sym, refl, ap, ◌∙◌, subst, le_trans, le_of_eq, mul_assoc, mul-one, arith, pow_pos, pow_mono, pow-add, le-ltb, lt-ltb}
-use lib.IntN.{+ℤ_idl}
-use lib.Signed.{mag}
+use Rattle.std.proofs.Common.{◌≡◌, ℕ, zero, suc, ◌+◌, ◌-◌, ◌*◌, ◌^◌, ◌<◌, ◌≤◌, Bool, true, false, ℤ, sym, refl, ap, ◌∙◌, le_trans, mul_assoc, arith, pow_pos, pow-add, le-ltb, lt-ltb}
 use lib.Ieee.{Float, nan, inf, fin, up, down}
 use lib.Ieee.Fits.{down_pos}
 use lib.Ieee.Exact.{HasValue}
 use Rattle.numbers.specs.declared.Halves.{Halves}
-use Rattle.numbers.specs.declared.Whole.{Whole}
 use Rattle.numbers.specs.declared.Whole.TheVariants.{At, Out}
 use Rattle.numbers.specs.Numbers.{near, whole_of, signed, within, pick_whole, long_of, PartsOf}
 use Rattle.numbers.proofs.Order.{near_same, near_ge}
-use Rattle.numbers.proofs.Value.{pows, quot_ge}
+use Rattle.numbers.proofs.Value.{quot_ge}
 
 -- of a value a / c
 pub whole_value : (h : Halves) (x : Float) (s : Bool) (a c : ℕ) → 0 < c → HasValue x s a c → whole_of h x ≡ signed s (near h a c)

@@ -1,7 +1,7 @@
 -- `near`: what `compare` gives, that equal fractions round alike by either rule for halves, and that a fraction below a half gives 0. Assumes nothing.
-use Rattle.std.proofs.Common.{◌≡◌, ℕ, suc, ◌+◌, ◌*◌, ◌/◌, ◌%◌, ◌^◌, ◌<◌, ◌≤◌, not, T, eqb, sym, refl, ap, ◌∙◌, subst, lt_trans, le_of_eq, lt_irrefl, mod-eq_of_lt, mul_comm, add-mul, lt_of_mul-lt-mul_right, mul-lt-mul_of_pos_right, div-add-mod', mul_right_comm, arith, eqb→eq, leb→le}
+use Rattle.std.proofs.Common.{◌≡◌, ℕ, suc, ◌+◌, ◌*◌, ◌/◌, ◌%◌, ◌<◌, ◌≤◌, not, T, eqb, sym, refl, ap, ◌∙◌, subst, mod-eq_of_lt, mul_comm, add-mul, mul-lt-mul_of_pos_right, div-add-mod', mul_right_comm, arith, eqb→eq, leb→le}
 use Prim.Native.Nat.{compare, Ordering}
-use native.Mathlib.Nat.{eq_of_mul-eq-mul_right, div-eq_of_lt}
+use native.Mathlib.Nat.{div-eq_of_lt}
 use lib.Dec.{is_le, compare_is_eq, nleb→lt, eqb_refl}
 use lib.Arith.{lt_of_le-ne}
 use lib.Ieee.{nearest}

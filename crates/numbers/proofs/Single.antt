@@ -1,8 +1,8 @@
 -- A float at 32 bits, from its parts. Assumes nothing.
-use Rattle.std.proofs.Common.{◌≡◌, ℕ, zero, suc, ◌+◌, ◌-◌, ◌*◌, ◌/◌, ◌%◌, ◌^◌, ◌<◌, ◌≤◌, Bool, true, false, cond, not, T, ltb, leb, ◌⊎◌, sym, refl, ap, ◌∙◌, subst, inl, inr, zero-le, le_trans, le_of_eq, lt_of_lt_of_le, lt_of_le_of_lt, mul-le-mul_right, mul_assoc, mul_comm, div-lt_iff_lt-mul, eq-or-lt_of_le, mul-lt-mul_of_pos_right, mul-pos, le-div_iff_mul-le, mul-one, not-le_of_lt, div-one, mul-div_cancel, arith, le→leb, ltb→lt, lt→ltb, leb→le, pow_pos, pow_mono, pow-add, shl_lt}
+use Rattle.std.proofs.Common.{◌≡◌, ℕ, suc, ◌+◌, ◌-◌, ◌*◌, ◌/◌, ◌^◌, ◌<◌, ◌≤◌, Bool, true, false, cond, not, T, ltb, leb, ◌⊎◌, sym, refl, ap, ◌∙◌, subst, inl, inr, zero-le, le_trans, le_of_eq, lt_of_lt_of_le, lt_of_le_of_lt, mul-le-mul_right, mul_assoc, eq-or-lt_of_le, mul-lt-mul_of_pos_right, mul-pos, mul-one, not-le_of_lt, mul-div_cancel, arith, ltb→lt, leb→le, pow_pos, pow_mono, pow-add}
 use lib.Dec.{not_T, nleb→lt}
 use lib.Pow.{pow-lt}
-use lib.Ieee.{Float, nan, inf, fin, binary32, up, down, size, units, round, to_bits, of_bits, fits, is_nan}
+use lib.Ieee.{Float, nan, inf, fin, binary32, up, down, size, units, round, to_bits, of_bits, fits}
 use lib.Ieee.Digits.{size-le}
 use lib.Ieee.Bits.{of_bits-to_bits, cond_no}
 use lib.Ieee.Fits.{down_pos, round_is, round-fits, core}

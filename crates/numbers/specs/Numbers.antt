@@ -1,6 +1,6 @@
 -- Narrowing, rounding and whole numbers as floats, on the exact values of IEEE 754. Definitions only.
 -- A finite float is `fin s m e`, the number m * 2 ^ e = m * up e / down e, negative where s is true.
-use Rattle.std.specs.Prelude.{◌≡◌, ℕ, suc, ◌+◌, ◌-◌, ◌*◌, ◌/◌, ◌%◌, ◌^◌, ◌<◌, ◌≤◌, Bool, true, false, cond, ℤ, pos, negsuc, neg_ℤ, nat_lt, Float}
+use Rattle.std.specs.Prelude.{ℕ, suc, ◌+◌, ◌-◌, ◌*◌, ◌/◌, ◌%◌, ◌^◌, ◌<◌, ◌≤◌, Bool, true, false, cond, ℤ, pos, negsuc, neg_ℤ, nat_lt, Float}
 use Prim.Native.Nat.{compare, Ordering}
 use Rattle.std.specs.Int.Signed.{mag}
 use Rattle.std.specs.Float.Ieee as Ieee
@@ -41,7 +41,7 @@ whole_of h nan = pos 0
 whole_of h (inf s) = pos 0
 whole_of h (fin s m e) = signed s (near h (m * up e) (down e))
 
--- -2 ^ k ≤ z < 2 ^ k: `mag` (lib.Signed) is n both for n and for -(n + 1)
+-- -2 ^ k ≤ z < 2 ^ k: `mag` (Rattle.std.specs.Int.Signed) is n both for n and for -(n + 1)
 abbrev pub within : ℕ → ℤ → Bool
 within k z = nat_lt (mag z) (2 ^ k)
 

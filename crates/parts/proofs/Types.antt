@@ -47,6 +47,7 @@ module _ {ws : List ℕ} {at end : ℕ} where
   here (that (that (that (this done)))) s = alone 43 Double refl refl (lit< tt) s.wrote
   here (that (that (that (that (this (cons (word n) done)))))) s = pair 44 4 n (FixedString n) refl refl (λ h. omega arith) s.valid.0.1 s.wrote
   here (that (that (that (that (that (this (cons (word x) done))))))) s = pair 45 2 x (Record x) refl refl (λ h. omega arith) s.valid.0.1 s.wrote
+  here {ns = ns} {n = n} (that (that (that (that (that (that x)))))) s = elim x [ ]
 
 -- what `type_ref` tells
 module _ {ws : List ℕ} {at : ℕ} where

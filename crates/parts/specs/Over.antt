@@ -35,6 +35,7 @@ module _ {E F : Type 0} (g : E → F) where
   type_over (that (that (that (this r)))) = refl
   type_over (that (that (that (that (this (cons (word n) done)))))) = refl
   type_over (that (that (that (that (that (this (cons (word x) done))))))) = refl
+  type_over (that (that (that (that (that (that x)))))) = elim x [ ]
 
   -- so is a type that is a row's one field
   pub as_type_over : (v : Tree E (row (TypeSort & nil))) → as_type (over g v) ≡ as_type v

@@ -1,5 +1,5 @@
 -- The first token of what a scan has still to come, and what is left after it. Assumes nothing.
--- `front` says which token it is, `front_at` the same of the words at a place, and `at-word`, `at_raw`, `at_raws`, `at_paren`, `at_call`, `at_stmt`, `at_end` by the kind of the word there.
+-- `front` says which token it is, `front_at` the same of the words at a place, and `at_word`, `at_raw`, `at_raws`, `at_paren`, `at_call`, `at_stmt`, `at_end` by the kind of the word there.
 -- In each, `stmts` tells what happens to the statements that are still to come, and `writes` what to the words written with each expression and statement replaced.
 use Prim.Native.Nat.{ℕ, zero, suc, ◌+◌, ◌≤◌, ◌<◌}
 use native.Mathlib.Omega.{arith}

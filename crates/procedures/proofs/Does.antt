@@ -17,10 +17,10 @@ use Rattle.table.specs.Rows.{Row, width, note_width, key, find, remove, replace}
 use Rattle.runs.specs.Runs.{Keeps}
 use Rattle.runs.specs.Ordinals.{InTurn}
 use Rattle.entries.specs.Entries.{row, entry_key, row_word, has, bit, proc_row, param_row}
-use Rattle.steps.specs.State.{State, Step, ◌⨾◌, nothing, when, asking, each, change, enter, push}
+use Rattle.steps.specs.State.{State, Step, ◌⨾◌, when, asking, each, change, enter, push}
 use Rattle.steps.specs.declared.Counts.{Counts}
 use Rattle.steps.specs.Held.{Fit, Sized, Does, Notes, Rows, changing, entering, noting}
-use Rattle.steps.specs.Compose.{notes_does, rows_does, nothing_does, same, then, each_none, each_next, asked, replaced, stays_when, stays_push}
+use Rattle.steps.proofs.Compose.{notes_does, rows_does, nothing_does, same, then, each_none, each_next, asked, replaced, stays_when, stays_push}
 use Rattle.subscripts.specs.Subscripts.{in_expr, subscript_count}
 use Rattle.tree.specs.Stands.{Stands}
 use Rattle.collect.specs.SeenLaws.{seen_count}
@@ -318,7 +318,7 @@ module _ (scope line : ℕ) {p : ParamAt} {s : Counts} {b : List ℕ} where
   unfolding array_param
   array_no e k t =
       enters_nothing k (λ q o N D st.
-      ap (λ (y : Bool). when y (ranked (plain N D) scope line q.name (subscript_count (λ name (e : Seen). e.use_of_lem name) q.name t)) st) (sym e ∙ o.array))
+      ap (λ (y : Bool). when y (ranked (plain N D) scope line q.name (subscript_count (λ name (e : Seen). e.use_under name) q.name t)) st) (sym e ∙ o.array))
 
   -- one that is has the rank of its first use in the body
   pub array_yes : (u : Use) {ws : List ℕ} {body past : ℕ} {r : Counts} {b' : List ℕ} → p.array ≡ true
@@ -330,11 +330,11 @@ module _ (scope line : ℕ) {p : ParamAt} {s : Counts} {b : List ℕ} where
     where
       by : (q : Param) → ParamOf p q → (d : List ℕ) → s.notes * note_width ≤ length d → Does (λ N D. array_param (plain N D) scope line t q) s r b d b' d
       by q o d k =
-          let rank : Option ℕ = subscript_count (λ name (e : Seen). e.use_of_lem name) q.name t in
+          let rank : Option ℕ = subscript_count (λ name (e : Seen). e.use_under name) q.name t in
           let is : use_of u ≡ rank =
           told B.names B.strings B.tree B.stands ∙ sym (seen_count p.name B.tree)
-          ∙ ap (λ (x : ℕ). subscript_count (λ name (e : Seen). e.use_of_lem name) x (over see B.tree)) o.name
-          ∙ ap (λ (v : Tree Seen (one body_sort)). subscript_count (λ name (e : Seen). e.use_of_lem name) q.name v) B.is in
+          ∙ ap (λ (x : ℕ). subscript_count (λ name (e : Seen). e.use_under name) x (over see B.tree)) o.name
+          ∙ ap (λ (v : Tree Seen (one body_sort)). subscript_count (λ name (e : Seen). e.use_under name) q.name v) B.is in
           same (λ N D. array_param (plain N D) scope line t q)
           (λ N D st. ap₂ (λ (y : Bool) (x : ℕ). when y (ranked (plain N D) scope line x rank) st) (sym e ∙ o.array) o.name)
           (F.does rank is d k)

@@ -47,7 +47,7 @@ apart_there w (x ∷ []) r q = (λ e k. absurd (omega arith), tt)
 apart_there {ws} {at} {end} w (x ∷ y ∷ xs) r q =
     let f = wrote_first r in
     let g = wrote_first f.rest in
-    (λ e k. q at (omega arith) (omega (arith, r.span)) (f.is ∙ e) (ap kind_of g.is ∙ k), apart_there w (y ∷ xs) f.rest (λ i l h. q i (omega arith) h))
+    (λ e k. q at (omega arith) (omega (arith, r.span)) (f.is ∙ e) (ap kind_of g.is ∙ k), apart_there {at = at + 1} w (y ∷ xs) f.rest (λ i l h. q i (omega arith) h))
 
 -- ---- the loop over them
 

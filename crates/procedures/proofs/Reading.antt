@@ -12,8 +12,8 @@ use Rattle.strings.proofs.Laws.{names_length}
 use Rattle.expr.specs.Expr.{Expr}
 use Rattle.expr.specs.Stands.{Wrote}
 use Rattle.expr.proofs.Parts.{First, wrote_at, wrote_first, wrote_left, wrote_right, pay_is}
-use Rattle.tree.specs.Sorts.{name, Sorts, TypeRef as TypeSort, opt, nil, ◌&◌, flag, Param as ParamRow, body as body_sort, stmt, Kind, sorts, sub, function}
-use Rattle.tree.specs.Tree.{strings, one, row, rows, Tree, word, Stmt, list, done, cons, count, words_t, Right, over}
+use Rattle.tree.specs.Sorts.{name, Sorts, TypeRef as TypeSort, opt, nil, ◌&◌, flag, Param as ParamRow, body as body_sort, Kind, sorts, sub, function}
+use Rattle.tree.specs.Tree.{one, row, rows, Tree, word, Stmt, list, done, cons, count, words_t, Right, over}
 use Rattle.tree.specs.Stands.{Stands, SomeTree}
 use Rattle.tree.proofs.Complete.{one_tree, clear}
 use Rattle.tree.proofs.Nodes.{cons_left, cons_right, stmt_line}

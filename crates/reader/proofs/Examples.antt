@@ -2,12 +2,12 @@
 use Prim.Native.Nat.{ℕ, zero, suc}
 use mathlib.Core.Path.{◌≡◌, refl}
 use mathlib.Core.List.{List, [], ◌∷◌}
-use Rattle.words.specs.Told.{Told, stops, gives, after, unless}
-use Rattle.expr.specs.Expr.{Expr, Lit, Elem, Paren, Integer, none as no_expr, more as and_expr, finite}
-use Rattle.expr.specs.Got.{Got, got, wrong, deep, bind}
+use Rattle.words.specs.Told.{stops, gives, after, unless}
+use Rattle.expr.specs.Expr.{Lit, Elem, Paren, Integer, none as no_expr, more as and_expr}
+use Rattle.expr.specs.Got.{bind}
 use Rattle.expr.specs.Reader.{raw_at, test_at, leaf_at, name_at, head_at, float_at, literal_body, literal_at, exprs_at, list_at, body_at, expr_at}
-use Rattle.tree.specs.Sorts.{Sort, stmt, many, nil, ◌&◌, sorts, kind_at, kinds, dim, let'}
-use Rattle.tree.specs.Tree.{Tree, one, word, value, Stmt, list, part, this, that, done, cons, none, more, Program}
+use Rattle.tree.specs.Sorts.{sorts, kind_at, kinds, dim, let'}
+use Rattle.tree.specs.Tree.{word, value, Stmt, list, part, this, that, done, cons, none, more, Program}
 use Rattle.tree.specs.Reader.{word_at, never_at, is_at, stmt_head, rows_at, field_at, row_at, rest_at, stmt_at, program_at}
 use Rattle.reader.specs.Reading.{node_of, statement_of, expression_of}
 use Rattle.reader.specs.Program.{whole_of, erased_from, program_of, accepted_of, verdict}

@@ -1,12 +1,10 @@
 -- A whole program: one list of statements and no word over, and the erased names.
-use Rattle.std.specs.Prelude.{ℕ, ◌+◌, Bool, true, false, ◌&&◌, List, [], ◌∷◌, length, get_or, leb, eqb}
+use Rattle.std.specs.Prelude.{ℕ, ◌+◌, Bool, true, ◌&&◌, List, [], ◌∷◌, length, get_or, leb, eqb}
 use Rattle.words.specs.Word.{pick}
 use Rattle.words.specs.Told.{Told, stops, gives, after, unless}
 use Rattle.words.specs.Refusals.{refused}
-use Rattle.expr.specs.Expr.{Expr}
 use Rattle.expr.specs.Got.{Got, got, wrong, deep}
-use Rattle.tree.specs.Sorts.{stmt, many, nil, ◌&◌}
-use Rattle.tree.specs.Tree.{one, Tree, Program}
+use Rattle.tree.specs.Tree.{Program}
 use Rattle.tree.specs.Reader.{program_at}
 use Rattle.expr.specs.declared.Step.{Step}
 use Rattle.expr.specs.declared.Step.TheVariants.{Read, Wrong, Deep}

@@ -9,7 +9,7 @@ use Rattle.words.specs.Sizes.{max_depth}
 use Rattle.words.specs.Told.{Told, stops, gives, after, unless}
 use Rattle.words.specs.Refusals.{refused}
 use Rattle.strings.specs.Open.{Place, entry_of}
-use Rattle.expr.specs.Expr.{Strings, Expr, Exprs, many, words, words_all}
+use Rattle.expr.specs.Expr.{Expr, many, words, words_all}
 use Rattle.expr.specs.Got.{Got, got, wrong, deep}
 use Rattle.expr.specs.Reader.{expr_at, list_at}
 use Rattle.tree.specs.Tree.{strings, words_t, Program}

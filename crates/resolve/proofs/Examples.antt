@@ -1,14 +1,13 @@
 -- The definitions run. What decides a pair and an element is shared by resolving and by the steps of demand 3, so it has examples of its own.
 -- Assumes nothing.
-use Prim.Native.Nat.{ℕ, ◌+◌, ◌*◌}
+use Prim.Native.Nat.{ℕ}
 use mathlib.Core.Path.{◌≡◌, refl}
 use mathlib.Core.Bool.{Bool, true, false}
 use mathlib.Core.List.{List, [], ◌∷◌}
-use lib.ListN.{length}
 use Rattle.words.specs.Word.{word_of}
-use Rattle.expr.specs.Expr.{Expr, Lit, Var, Elem, Unary, Binary, Call, Field, Paren, Integer, Exprs, none, more}
-use Rattle.tree.specs.Sorts.{sorts, number_of, let', call, sub, if}
-use Rattle.tree.specs.Tree.{Tree, one, word, value, Stmt, list, part, this, that, done, cons, none as nothing, more as add, Program}
+use Rattle.expr.specs.Expr.{Expr, Lit, Var, Elem, Binary, Call, Paren, Integer, none, more}
+use Rattle.tree.specs.Sorts.{sorts, number_of, let', call, sub}
+use Rattle.tree.specs.Tree.{word, value, Stmt, list, this, done, cons, none as nothing, more as add, Program}
 use Rattle.table.specs.Rows.{Row, key, find}
 use Rattle.lookup.specs.Lookup.{shares, visible, lookup_array}
 use Rattle.resolve.specs.Tables.{Tables, nowhere, places, after, element}

@@ -1,10 +1,10 @@
 -- What resolving keeps: the counts of lists, that a tree is right under its strings; and what it makes no larger: the words and the
 -- depth. So the resolved words are accepted again. Assumes nothing.
-use Rattle.std.specs.Prelude.{ℕ, ◌+◌, ◌≤◌, ◌<◌, max, ◌≡◌, refl, Bool, true, false, List, ◌++◌, length}
+use Rattle.std.specs.Prelude.{ℕ, ◌+◌, ◌≤◌, ◌<◌, ◌≡◌, refl, Bool, true, false, List, length}
 use Rattle.std.proofs.Common.{arith, sym, ap, subst, ◌∙◌, length-append}
 use Rattle.expr.specs.Expr.{Strings, Named, Expr, Lit, Var, Elem, Unary, Binary, Call, Field, Paren, Exprs, none, more, many, words, words_all, depth, depths, Valid, Valids}
-use Rattle.tree.specs.Sorts.{Sort, expr, stmt, Sorts, Kind, sorts}
-use Rattle.tree.specs.Tree.{strings, Shape, one, row, rows, Tree, word, value, Stmt, list, part, this, that, done, cons, none as nothing, more as add, count, words_t, depth_t, Right, Program}
+use Rattle.tree.specs.Sorts.{Sorts}
+use Rattle.tree.specs.Tree.{strings, Shape, rows, Tree, word, value, Stmt, list, part, this, that, done, cons, none as nothing, more as add, count, words_t, depth_t, Right}
 use Rattle.resolve.specs.Tables.{Tables, Places, nowhere, places, after, element}
 use Rattle.resolve.specs.Resolve.{called, resolve_expr, resolve_args, first, inside, argued, resolve_tree}
 use Rattle.resolve.specs.Flags.{keep, res_e, res_l, res, res_e_plain, res_l_is, res_is}

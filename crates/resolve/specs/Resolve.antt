@@ -2,8 +2,8 @@
 use Rattle.std.specs.Prelude.{ℕ, ◌+◌, Bool, true, false, ◌||◌, eqb}
 use Rattle.words.specs.Word.{pick}
 use Rattle.expr.specs.Expr.{Expr, Lit, Var, Elem, Unary, Binary, Call, Field, Paren, Exprs, none, more}
-use Rattle.tree.specs.Sorts.{Sort, expr, stmt, many, Sorts, nil, ◌&◌, Kind, sorts, number_of}
-use Rattle.tree.specs.Tree.{Shape, one, row, rows, Tree, word, value, Stmt, list, part, this, that, done, cons, none as nothing, more as add, Program}
+use Rattle.tree.specs.Sorts.{Kind, number_of}
+use Rattle.tree.specs.Tree.{Shape, Tree, word, value, Stmt, list, part, this, that, done, cons, none as nothing, more as add, Program}
 use Rattle.resolve.specs.Tables.{Tables, Places, nowhere, places, after, element}
 
 -- The argument e, resolved to r: by reference, one that stands in parentheses keeps one pair.

@@ -1,6 +1,6 @@
 -- What resolving asks of the tables, and the two questions that decide: which arguments keep a pair of parentheses, and which calls are
 -- elements of an array. A name is its string number; a scope is 0 for the module, else a procedure's name plus 1. These are definitions.
-use Rattle.std.specs.Prelude.{ℕ, suc, Bool, true, false, ◌&&◌, not}
+use Rattle.std.specs.Prelude.{ℕ, suc, Bool, false, ◌&&◌, not}
 
 -- what is asked of the rows
 pub record Tables : Type 0 where

@@ -72,7 +72,7 @@ unfolding many resolve_args
 many_args T σ m none = refl
 many_args T σ m (more e es) = ap (λ (n : ℕ). n + 1) (many_args T σ (after m) es)
 
--- resolveExpr of a call
+-- resolve_expr of a call
 pub call_words : (T : Tables) (σ f : ℕ) (es : Exprs) → words (resolve_expr T σ (Call f es)) ≡ word_of (pick (element T σ f) 18 21) 0 ∷ word_of 2 f ∷ word_of 1 (many es) ∷ words_all (resolve_args T σ (places T f) es)
 unfolding resolve_expr
 call_words T σ f es = rw (called_words (element T σ f) f (resolve_args T σ (places T f) es), many_args T σ (places T f) es)

@@ -1,5 +1,5 @@
 -- What the contracts of resolving expressions cite. These are definitions.
-use Rattle.std.specs.Prelude.{ℕ, ◌+◌, ◌*◌, ◌≤◌, ◌<◌, ◌≡◌, List, length, Bool}
+use Rattle.std.specs.Prelude.{ℕ, ◌+◌, ◌*◌, ◌≤◌, ◌≡◌, List, length, Bool}
 use Rattle.std.proofs.lemmas.List.Edits.{sets}
 use Rattle.expr.specs.Expr.{Strings, Expr, Exprs, many, words, words_all}
 use Rattle.expr.specs.Stands.{Stands, StandsAll}

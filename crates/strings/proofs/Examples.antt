@@ -1,8 +1,7 @@
 -- The definitions run: names, the order, and tables that meet or break the rule. Assumes nothing.
-use Prim.Native.Nat.{ℕ}
 use mathlib.Core.Path.{◌≡◌, refl}
-use mathlib.Core.Bool.{Bool, true, false}
-use mathlib.Core.List.{List, [], ◌∷◌, ◌++◌}
+use mathlib.Core.Bool.{true, false}
+use mathlib.Core.List.{[], ◌∷◌, ◌++◌}
 use lib.ListN.{replicate}
 use Rattle.strings.specs.Order.{order}
 use Rattle.strings.specs.Name.{between, inner, suffix, rest, is_name}

@@ -1,8 +1,8 @@
 -- An entry's promise from the way it took: a size passed, a table that breaks its rule, or the work behind the checks. Assumes nothing.
-use Rattle.std.specs.Prelude.{ℕ, zero, suc, ◌<◌, Bool, true, false, not, ◌&&◌, ◌≡◌, refl, List, length, ltb, eqb}
+use Rattle.std.specs.Prelude.{ℕ, zero, suc, ◌<◌, Bool, true, false, not, ◌&&◌, ◌≡◌, refl, List, length}
 use Rattle.std.proofs.lemmas.Bool.{false≢true}
 use Rattle.std.proofs.Common.{⊎_elim, sym, ap, ◌∙◌, arith, eq-or-lt_of_le, eq-eqb, ne_eqb, lt-ltb}
-use Rattle.words.specs.Told.{Told, stops, gives, unless}
+use Rattle.words.specs.Told.{Told, stops, unless}
 use Rattle.strings.specs.Table.{right_at, all_below, sound, breaks_at}
 use Rattle.strings.specs.Open.{verdict_of, Said, entry_of, Answers}
 use Rattle.strings.specs.declared.Verdict.{Verdict}

@@ -1,5 +1,5 @@
 -- The string table: bytes and an ascending list of ends, the last end being the byte count.
-use Rattle.std.specs.Prelude.{ℕ, zero, suc, ◌+◌, ◌-◌, ◌≤◌, ◌<◌, Bool, true, false, not, ◌&&◌, ◌||◌, ◌≡◌, List, [], ◌∷◌, ◌++◌, length, get_or, take, drop, ltb, leb, eqb}
+use Rattle.std.specs.Prelude.{ℕ, zero, suc, ◌+◌, ◌-◌, ◌≤◌, ◌<◌, Bool, true, not, ◌&&◌, ◌≡◌, List, [], ◌∷◌, ◌++◌, length, get_or, take, drop, ltb, leb, eqb}
 use Rattle.words.specs.Word.{pick}
 use Rattle.strings.specs.Order.{order, is_below}
 use Rattle.strings.specs.Name.{between, is_name}

@@ -12,7 +12,6 @@ use borrow.Author.Tests.{le-leb, lt-leb, ne_eqb, eqb-true, eqb-false, ltb-true, 
 use Rattle.words.specs.Word.{kind_of}
 use Rattle.words.specs.Each.{tuple}
 use Rattle.expr.specs.Expr.{Expr}
-use Rattle.expr.specs.Stands as W
 use Rattle.expr.proofs.Steps.{past}
 use Rattle.tree.specs.Sorts.{Sort, leaf, expr, stmt, many, group, either, never, Sorts, nil, ◌&◌, Kind, sorts, number_of, kind_at, kinds}
 use Rattle.tree.specs.KindLaws.{none_of, same_kinds}

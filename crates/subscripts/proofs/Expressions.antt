@@ -13,7 +13,7 @@ use Rattle.expr.specs.Expr.{Strings, Expr, Exprs, Lit, Var, Elem, Unary, Binary,
 use Rattle.expr.specs.Stands.{Wrote, Stands, StandsAll}
 use Rattle.expr.proofs.Parts.{wrote_first, wrote_left, wrote_right, pay_is}
 use Rattle.expr.proofs.Nodes.{kind_of_lem}
-use Rattle.skip.specs.Shape.{SomeExpr, front, children, back}
+use Rattle.skip.specs.Shape.{SomeExpr, children}
 use Rattle.skip.specs.declared.Shape.{Shape}
 use Rattle.skip.proofs.Laws.{ShapedAt, inside}
 use Rattle.subscripts.specs.Subscripts.{or_else, first_of, subscripted, in_expr, in_exprs}

@@ -36,10 +36,10 @@ mark_new p (suc c) k n (inl e) h = absurd (omega arith)
 mark_new p (suc c) k n (inr l) h = mark_is k n h ∙ (rw (lt-ltb k p l) refl)
 
 -- the use that they say
-use_of_lem : (p c : ℕ) → (c ≡ 0 → ⊥) → use_of (record { found = true; count = (c - 1) % 4294967296 }) ≡ used (mark_of p c)
+use_under : (p c : ℕ) → (c ≡ 0 → ⊥) → use_of (record { found = true; count = (c - 1) % 4294967296 }) ≡ used (mark_of p c)
 unfolding use_of used mark_of
-use_of_lem p zero z = absurd (z refl)
-use_of_lem p (suc c) z = let e : suc c - 1 ≡ c = omega arith in rw e refl
+use_under p zero z = absurd (z refl)
+use_under p (suc c) z = let e : suc c - 1 ≡ c = omega arith in rw e refl
 
 -- ---- where there is room
 
@@ -93,7 +93,7 @@ module _ (base : ℕ) (t : List ℕ) (x : ℕ) where
 
   -- else it is one more than the count
   pub use_some : room base t x ≡ true → (get_or t (2 * (x - base) + 1) 0 ≡ 0 → ⊥) → use_of (record { found = true; count = (get_or t (2 * (x - base) + 1) 0 - 1) % 4294967296 }) ≡ used (mark_at base t x)
-  use_some h z = use_of_lem (get_or t (2 * (x - base)) 0) (get_or t (2 * (x - base) + 1) 0) z ∙ sym (ap used (mark_there h))
+  use_some h z = use_under (get_or t (2 * (x - base)) 0) (get_or t (2 * (x - base) + 1) 0) z ∙ sym (ap used (mark_there h))
 
 -- ---- a use of the name f, noted at k
 

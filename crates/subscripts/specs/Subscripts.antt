@@ -50,11 +50,11 @@ indexed (some is) = some (length is)
 unfoldable pub in_lvalue : {E : Type 0} → ℕ → LValue E → Option ℕ
 in_lvalue name v = pick (eqb v.name name) (indexed v.indices) nothing
 
--- E stands for an expression, and `use_of_lem name e` is the first use of the name in it
-module _ {E : Type 0} (use_of_lem : ℕ → E → Option ℕ) where
+-- E stands for an expression, and `use_under name e` is the first use of the name in it
+module _ {E : Type 0} (use_under : ℕ → E → Option ℕ) where
   -- one statement, without its bodies: its targets, then its expressions
   unfoldable pub in_stmt : ℕ → Uses E → Option ℕ
-  in_stmt name u = or_else (first_of (in_lvalue name) u.targets) (first_of (use_of_lem name) u.exprs)
+  in_stmt name u = or_else (first_of (in_lvalue name) u.targets) (first_of (use_under name) u.exprs)
 
   -- `walk_stmts`: a statement before its bodies. A body, or any part of the tree, by its statements
   unfoldable pub subscript_count : {i : Shape} → ℕ → Tree E i → Option ℕ

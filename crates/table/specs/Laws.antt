@@ -1,5 +1,5 @@
 -- Laws of a table as a list of rows: the place of a key, finding, inserting, taking out. By induction on the rows. Assumes nothing.
-use Rattle.std.specs.Prelude.{◌≡◌, refl, Bool, true, false, ◌⊎◌, List, [], ◌∷◌, ◌++◌, ℕ, zero, suc, ◌+◌, ◌-◌, ◌≤◌, ◌<◌, leb, ltb, eqb, length, take, drop, get_or}
+use Rattle.std.specs.Prelude.{◌≡◌, refl, Bool, true, false, ◌⊎◌, List, [], ◌∷◌, ◌++◌, ℕ, zero, suc, ◌≤◌, ◌<◌, leb, ltb, eqb, length, take, drop, get_or}
 use Rattle.std.proofs.Common.{sym, ap, ◌∙◌, subst, inl, inr, zero-le, arith, le_of_suc-le-suc, not-suc-le-zero, le_trans, lt-ltb, le-ltb, le-leb, eq-eqb, ne_eqb, ltb-true, ltb-false, eqb-true}
 use Rattle.std.proofs.Math.Option.{none, some}
 use Rattle.std.proofs.lemmas.Bool.{lt-leb, eqb-false}
@@ -67,7 +67,7 @@ rank_le k (r ∷ rs) = go (rank_le k rs) (order (key r) k)
 pub table_above : {b : ℕ} (rows : List Row) → Table b rows → (m : ℕ) → m < length rows → b ≤ key (get_or rows m [])
 table_above [] t m h = absurd (not-suc-le-zero h)
 table_above (r ∷ rs) t zero h = t.1
-table_above (r ∷ rs) t (suc m) h = omega (arith, table_above rs t.2 m (le_of_suc-le-suc h), t.1)
+table_above {b = b} (r ∷ rs) t (suc m) h = omega (arith, table_above {b = suc (key r)} rs t.2 m (le_of_suc-le-suc h), t.1)
 
 -- a table with its bound lowered
 pub table_down : (a b : ℕ) (rows : List Row) → a ≤ b → Table b rows → Table a rows
@@ -119,7 +119,7 @@ find_ne k r rs h = pick_false (some r) (find k rs) (ne_eqb (key r) k h)
 pub find_above : {b : ℕ} (k : ℕ) (rows : List Row) → Table b rows → k < b → find k rows ≡ none
 unfolding find
 find_above k [] t h = refl
-find_above k (r ∷ rs) t h = find_ne k r rs (λ (e : key r ≡ k). omega (arith, t.1)) ∙ find_above k rs t.2 (omega (arith, t.1))
+find_above {b = b} k (r ∷ rs) t h = find_ne k r rs (λ (e : key r ≡ k). omega (arith, t.1)) ∙ find_above {b = suc (key r)} k rs t.2 (omega (arith, t.1))
 
 -- where the row at the place of k has the key k, it is what is found
 pub find_hit : (k : ℕ) (rows : List Row) → rank k rows < length rows → key (get_or rows (rank k rows) []) ≡ k → find k rows ≡ some (get_or rows (rank k rows) [])

@@ -1,29 +1,28 @@
 -- The definition of reading gives every right tree that stands at a place and is not too deep. So what stands at a place is one tree only. Assumes nothing.
-use Prim.Native.Nat.{ℕ, zero, suc, ◌+◌, ◌-◌, ◌/◌, ◌%◌, ◌<◌, ◌≤◌, max}
+use Prim.Native.Nat.{ℕ, zero, suc, ◌+◌, ◌-◌, ◌<◌, ◌≤◌, max}
 use mathlib.Core.Path.{◌≡◌, refl, sym, ap, subst, ◌∙◌}
-use mathlib.Core.List.{List, [], ◌∷◌, ◌++◌, append-nil}
+use mathlib.Core.List.{List, ◌∷◌, ◌++◌, append-nil}
 use mathlib.Core.Bool.{Bool, true, false, not, ◌&&◌, ◌||◌, false≢true}
 use mathlib.Mathlib.Data.Bool.Basic.{and_elim_left, and_elim_right, or_inl, or_inr}
 use native.Mathlib.Omega.{arith}
 use native.Mathlib.Numerals.{add-one, sub-one}
-use lib.ListN.{length, get_or, drop, length-append}
+use lib.ListN.{length, get_or}
 use lib.Seq.{drop-length}
-use lib.Dec.{ltb, leb, eqb, lit≤, lit<}
-use borrow.Author.Tests.{lt-ltb, le-leb, eq-eqb, ne_eqb, eqb-true, ltb-true}
-use Rattle.expr.specs.Expr.{Expr, Lit, Var, Elem, Unary, Binary, Call, Field, Paren, words, depth, Valid, kind_e}
-use Rattle.words.specs.Word.{word_of, pick, kind_of, pay_of}
+use lib.Dec.{eqb, lit<}
+use borrow.Author.Tests.{lt-ltb, le-leb, eq-eqb}
+use Rattle.expr.specs.Expr.{Expr, Lit, Var, Elem, Unary, Binary, Call, Field, Paren, kind_e}
+use Rattle.words.specs.Word.{word_of, kind_of, pay_of}
 use Rattle.words.specs.Each.{tuple}
-use Rattle.expr.specs.Got.{Got, got, wrong, deep, bind}
-use Rattle.expr.specs.Reader.{leaf_at, expr_at}
-use Rattle.expr.specs.Stands.{Wrote, Stands}
-use Rattle.expr.proofs.Laws.{pick_true}
-use Rattle.expr.proofs.Parts.{First, wrote_first, wrote_left, wrote_right, kind_is, pay_is, wrote_none, ends}
+use Rattle.expr.specs.Got.{Got, got, bind}
+use Rattle.expr.specs.Reader.{expr_at}
+use Rattle.expr.specs.Stands.{Wrote}
+use Rattle.expr.proofs.Parts.{First, wrote_first, wrote_left, wrote_right, kind_is, pay_is, ends}
 use Rattle.expr.proofs.Complete.{complete, put_leaf}
 use Rattle.expr.proofs.Nodes.{kind_of_lem}
-use Rattle.tree.specs.Sorts.{Leaf, Sort, leaf, expr, stmt, many, group, either, never, Sorts, nil, ◌&◌, Kind, sorts, kinds, kind_at, number_of}
+use Rattle.tree.specs.Sorts.{Sort, leaf, expr, stmt, many, group, either, never, Sorts, nil, ◌&◌, Kind, sorts, kinds, kind_at, number_of}
 use Rattle.tree.specs.KindLaws.{kind_number, same_kinds, number_small}
 use Rattle.tree.specs.Tree.{strings, Shape, one, row, rows, Tree, word, value, Stmt, list, part, this, that, done, cons, none, more, count, kind_l, ok_l, between, words_t, depth_t, Right}
-use Rattle.tree.specs.Reader.{word_at, never_at, is_at, stmt_head, rows_at, field_at, row_at, rest_at, stmt_at, program_at}
+use Rattle.tree.specs.Reader.{word_at, is_at, stmt_head, rows_at, field_at, row_at, rest_at, stmt_at, program_at}
 use Rattle.tree.proofs.Sound.{is_got}
 
 -- ---- no alternative begins like another

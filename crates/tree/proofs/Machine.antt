@@ -4,21 +4,19 @@ use mathlib.Core.Path.{◌≡◌, refl, sym, ap, subst, ◌∙◌}
 use mathlib.Core.List.{List, [], ◌∷◌}
 use mathlib.Core.Bool.{Bool, true, false, ◌&&◌}
 use mathlib.Mathlib.Data.Bool.Basic.{and_elim_left, and_elim_right}
-use mathlib.Core.Logic.{◌⊎◌, inl, inr, ⊎_elim}
+use mathlib.Core.Logic.{◌⊎◌, inl, inr}
 use native.Mathlib.Omega.{arith}
-use native.Mathlib.Nat.{le_trans}
 use lib.ListN.{length, get_or, set}
 use lib.Seq.{get_or-set_same, get_or-set_other}
 use lib.Dec.{ltb, eqb}
 use Rattle.words.specs.Word.{pick}
 use borrow.Author.Tests.{lt-ltb, ltb-true, ltb-false, eq-eqb, ne_eqb}
-use Rattle.expr.specs.Answer.{step_of, then}
-use Rattle.expr.specs.declared.Cursor.{Cursor}
+use Rattle.expr.specs.Answer.{then}
 use Rattle.expr.specs.declared.Step.{Step}
 use Rattle.expr.specs.declared.Step.TheVariants.{Read, Wrong, Deep}
-use Rattle.tree.specs.Sorts.{Sort, never, group, opt, Sorts, nil, ◌&◌}
+use Rattle.tree.specs.Sorts.{Sort, never, group, opt}
 use Rattle.tree.specs.Codes.{codes, pack, row_of, singles, sort_at, unpack, sorts_of}
-use Rattle.tree.specs.Frames.{failed_of, told_of, rest_of, again_of, height, Opens, over, more, field_step, frame_at, Goes, past, into, refused, deep as low, Turned, goes, same}
+use Rattle.tree.specs.Frames.{failed_of, told_of, rest_of, again_of, height, Opens, over, more, field_step, frame_at, past, into, refused, deep as low, Turned, goes, same}
 use Rattle.tree.specs.declared.Frame.{Frame}
 use Rattle.tree.specs.declared.Turn.{Turn}
 use Rattle.tree.proofs.Steps.{then_read, size_s, size_r, size_none, size_pos, size_cons, size_many, size_group, size_opt, small_row, sort_opt, sort_many, sort_group}

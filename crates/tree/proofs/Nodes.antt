@@ -8,7 +8,7 @@ use Rattle.expr.specs.Expr.{Expr}
 use Rattle.words.specs.Word.{pay_of}
 use Rattle.expr.specs.Stands as W
 use Rattle.expr.proofs.Parts.{wrote_first, wrote_left, wrote_right, pay_is}
-use Rattle.tree.specs.Sorts.{Sort, many, Sorts, ◌&◌, Kind, sorts, number_of}
+use Rattle.tree.specs.Sorts.{Sort, many, Sorts, Kind, sorts, number_of}
 use Rattle.tree.specs.Tree.{strings, one, row, rows, Tree, value, Stmt, list, part, done, cons, none, more, count, words_t, Right}
 use Rattle.tree.specs.Stands.{Stands}
 

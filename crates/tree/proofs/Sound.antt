@@ -1,29 +1,29 @@
 -- What is read is the tree whose words stand there, it is right, and it is not too deep. Assumes nothing.
-use Prim.Native.Nat.{ℕ, zero, suc, ◌+◌, ◌-◌, ◌/◌, ◌%◌, ◌<◌, ◌≤◌, max}
-use mathlib.Core.Path.{◌≡◌, refl, sym, ap, subst, ◌∙◌}
-use mathlib.Core.List.{List, [], ◌∷◌, ◌++◌}
+use Prim.Native.Nat.{ℕ, zero, suc, ◌+◌, ◌-◌, ◌<◌, ◌≤◌}
+use mathlib.Core.Path.{◌≡◌, refl, sym, ◌∙◌}
+use mathlib.Core.List.{List}
 use mathlib.Core.Bool.{Bool, true, false}
 use mathlib.Core.Logic.{◌⊎◌, inl, inr, ⊎_elim}
 use native.Mathlib.Omega.{arith}
 use native.Mathlib.Numerals.{add-one}
 use native.Mathlib.Nat.{le_trans}
-use lib.ListN.{length, get_or, drop}
+use lib.ListN.{length, get_or}
 use lib.Dec.{ltb, leb, eqb}
 use borrow.Author.Tests.{ltb-true, leb-true, eqb-true}
-use Rattle.expr.specs.Expr.{Expr, words, depth, Valid}
+use Rattle.expr.specs.Expr.{Expr}
 use Rattle.words.specs.Word.{word_of, pick, kind_of, pay_of}
-use Rattle.expr.specs.Got.{Got, got, wrong, deep, bind}
+use Rattle.expr.specs.Got.{Got, got, bind}
 use Rattle.expr.specs.Reader.{leaf_at, expr_at}
 use Rattle.expr.specs.Stands.{Wrote}
-use Rattle.expr.proofs.Laws.{pick_true, wrong_got, deep_got, bind_got, map_got, IsLeaf, leaf_got}
+use Rattle.expr.proofs.Laws.{pick_true, wrong_got, deep_got, bind_got, map_got, leaf_got}
 use Rattle.expr.proofs.Parts.{wrote_none, wrote_cons, wrote_cat, word_is}
 use Rattle.expr.proofs.Sound.{sound, cons_leaf}
 use Rattle.expr.specs.Answer.{step_of}
 use Rattle.expr.specs.declared.Cursor.{Cursor}
 use Rattle.expr.specs.declared.Step.TheVariants.{Read}
 use Rattle.expr.proofs.Steps.{read}
-use Rattle.tree.specs.Sorts.{Leaf, Sort, leaf, expr, stmt, many, group, either, never, Sorts, nil, ◌&◌, Kind, sorts, kinds, kind_at, number_of}
-use Rattle.tree.specs.Tree.{strings, Shape, one, row, rows, Tree, word, value, Stmt, list, part, this, that, done, cons, none, more, count, kind_l, ok_l, words_t, depth_t, Right}
+use Rattle.tree.specs.Sorts.{Sort, leaf, expr, stmt, many, group, either, never, Sorts, nil, ◌&◌, Kind, sorts, kinds, kind_at, number_of}
+use Rattle.tree.specs.Tree.{strings, Shape, one, row, rows, Tree, word, value, Stmt, list, part, this, that, done, none, count, kind_l, ok_l, words_t, depth_t, Right}
 use Rattle.tree.specs.Reader.{word_at, never_at, is_at, stmt_head, rows_at, field_at, row_at, rest_at, stmt_at, program_at}
 
 -- a word of kind k whose payload is right

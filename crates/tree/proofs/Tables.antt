@@ -1,6 +1,6 @@
 -- The code's tables: past the last row there is nothing, every number is a byte, and six bytes joined are taken apart again. Assumes nothing.
 use Prim.Native.Nat.{ℕ, zero, suc, ◌+◌, ◌*◌, ◌/◌, ◌%◌, ◌-◌, ◌^◌, ◌<◌, ◌≤◌}
-use mathlib.Core.Path.{◌≡◌, refl, sym, ap, subst, ◌∙◌}
+use mathlib.Core.Path.{◌≡◌, refl, sym, ap, ◌∙◌}
 use mathlib.Core.List.{List, [], ◌∷◌, ◌++◌}
 use mathlib.Core.Bool.{Bool, true, ◌&&◌}
 use mathlib.Mathlib.Data.Bool.Basic.{and_elim_left, and_elim_right}

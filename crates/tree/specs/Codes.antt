@@ -1,7 +1,7 @@
 -- The rows of fields in numbers, as the code's tables have them, and what each number says.
-use Rattle.std.specs.Prelude.{ℕ, zero, suc, ◌+◌, ◌*◌, ◌-◌, ◌/◌, ◌%◌, List, [], ◌∷◌, ◌++◌, map, ◌≡◌, refl, length, get_or, take, drop, ltb}
+use Rattle.std.specs.Prelude.{ℕ, zero, suc, ◌+◌, ◌*◌, ◌-◌, ◌/◌, ◌%◌, List, [], ◌∷◌, ◌++◌, map, ◌≡◌, refl, get_or, ltb}
 use Rattle.words.specs.Word.{pick}
-use Rattle.tree.specs.Sorts.{Leaf, Sort, leaf, expr, stmt, many, group, either, never, Sorts, nil, ◌&◌, flag, whole, letter, one_of, named, quoted, opt, exprs, body, GotoTarget, TypeRef, PrintItem, CaseClause, ResumeTarget, LValue, Declarator, Param, ScopeItem, FieldDecl, FieldSlice, DataItem, Case, Kind, sorts, kinds}
+use Rattle.tree.specs.Sorts.{Sort, expr, stmt, many, group, either, never, Sorts, nil, ◌&◌, flag, whole, letter, one_of, named, quoted, opt, exprs, body, GotoTarget, TypeRef, PrintItem, CaseClause, ResumeTarget, LValue, Declarator, Param, ScopeItem, FieldDecl, FieldSlice, DataItem, Case, sorts, kinds}
 
 -- the rows that stand in statements, and then the statements' own
 unfoldable pub parts : List Sorts
@@ -122,20 +122,20 @@ part_codes =
 unfoldable pub stmt_codes : List (List ℕ)
 stmt_codes =
     (4 ∷ 0 ∷ 0 ∷ 0 ∷ 0 ∷ 0 ∷ []) ∷  -- label
-    (1 ∷ 0 ∷ 0 ∷ 0 ∷ 0 ∷ 0 ∷ []) ∷  -- labelName
+    (1 ∷ 0 ∷ 0 ∷ 0 ∷ 0 ∷ 0 ∷ []) ∷  -- label_name
     (1 ∷ 17 ∷ 9 ∷ 0 ∷ 0 ∷ 0 ∷ []) ∷  -- let'
     (16 ∷ 81 ∷ 3 ∷ 16 ∷ 3 ∷ 0 ∷ []) ∷  -- print
     (22 ∷ 3 ∷ 67 ∷ 16 ∷ 0 ∷ 0 ∷ []) ∷  -- input
-    (22 ∷ 115 ∷ 16 ∷ 0 ∷ 0 ∷ 0 ∷ []) ∷  -- lineInput
+    (22 ∷ 115 ∷ 16 ∷ 0 ∷ 0 ∷ 0 ∷ []) ∷  -- line_input
     (9 ∷ 68 ∷ 21 ∷ 0 ∷ 0 ∷ 0 ∷ []) ∷  -- if
     (1 ∷ 9 ∷ 9 ∷ 16 ∷ 68 ∷ 0 ∷ []) ∷  -- for
     (9 ∷ 68 ∷ 0 ∷ 0 ∷ 0 ∷ 0 ∷ []) ∷  -- while
-    (16 ∷ 3 ∷ 3 ∷ 68 ∷ 0 ∷ 0 ∷ []) ∷  -- doLoop
+    (16 ∷ 3 ∷ 3 ∷ 68 ∷ 0 ∷ 0 ∷ []) ∷  -- do_loop
     (11 ∷ 0 ∷ 0 ∷ 0 ∷ 0 ∷ 0 ∷ []) ∷  -- goto
     (11 ∷ 0 ∷ 0 ∷ 0 ∷ 0 ∷ 0 ∷ []) ∷  -- gosub
     (23 ∷ 0 ∷ 0 ∷ 0 ∷ 0 ∷ 0 ∷ []) ∷  -- return
-    (9 ∷ 71 ∷ 0 ∷ 0 ∷ 0 ∷ 0 ∷ []) ∷  -- onGoto
-    (9 ∷ 71 ∷ 0 ∷ 0 ∷ 0 ∷ 0 ∷ []) ∷  -- onGosub
+    (9 ∷ 71 ∷ 0 ∷ 0 ∷ 0 ∷ 0 ∷ []) ∷  -- on_goto
+    (9 ∷ 71 ∷ 0 ∷ 0 ∷ 0 ∷ 0 ∷ []) ∷  -- on_gosub
     (74 ∷ 3 ∷ 0 ∷ 0 ∷ 0 ∷ 0 ∷ []) ∷  -- dim
     (1 ∷ 3 ∷ 75 ∷ 24 ∷ 0 ∷ 0 ∷ []) ∷  -- declare
     (76 ∷ 0 ∷ 0 ∷ 0 ∷ 0 ∷ 0 ∷ []) ∷  -- shared
@@ -144,36 +144,36 @@ stmt_codes =
     (1 ∷ 75 ∷ 68 ∷ 3 ∷ 0 ∷ 0 ∷ []) ∷  -- sub
     (1 ∷ 75 ∷ 24 ∷ 68 ∷ 3 ∷ 3 ∷ []) ∷  -- function
     (1 ∷ 64 ∷ 0 ∷ 0 ∷ 0 ∷ 0 ∷ []) ∷  -- call
-    (115 ∷ 9 ∷ 16 ∷ 9 ∷ 0 ∷ 0 ∷ []) ∷  -- midAssign
+    (115 ∷ 9 ∷ 16 ∷ 9 ∷ 0 ∷ 0 ∷ []) ∷  -- mid_assign
     (115 ∷ 115 ∷ 0 ∷ 0 ∷ 0 ∷ 0 ∷ []) ∷  -- swap
     (1 ∷ 9 ∷ 0 ∷ 0 ∷ 0 ∷ 0 ∷ []) ∷  -- const
-    (3 ∷ 0 ∷ 0 ∷ 0 ∷ 0 ∷ 0 ∷ []) ∷  -- exitLoop
-    (0 ∷ 0 ∷ 0 ∷ 0 ∷ 0 ∷ 0 ∷ []) ∷  -- exitProc
-    (4 ∷ 0 ∷ 0 ∷ 0 ∷ 0 ∷ 0 ∷ []) ∷  -- optionBase
-    (1 ∷ 77 ∷ 0 ∷ 0 ∷ 0 ∷ 0 ∷ []) ∷  -- typeDef
-    (115 ∷ 9 ∷ 0 ∷ 0 ∷ 0 ∷ 0 ∷ []) ∷  -- fieldAssign
+    (3 ∷ 0 ∷ 0 ∷ 0 ∷ 0 ∷ 0 ∷ []) ∷  -- exit_loop
+    (0 ∷ 0 ∷ 0 ∷ 0 ∷ 0 ∷ 0 ∷ []) ∷  -- exit_proc
+    (4 ∷ 0 ∷ 0 ∷ 0 ∷ 0 ∷ 0 ∷ []) ∷  -- option_base
+    (1 ∷ 77 ∷ 0 ∷ 0 ∷ 0 ∷ 0 ∷ []) ∷  -- type_def
+    (115 ∷ 9 ∷ 0 ∷ 0 ∷ 0 ∷ 0 ∷ []) ∷  -- field_assign
     (79 ∷ 0 ∷ 0 ∷ 0 ∷ 0 ∷ 0 ∷ []) ∷  -- data'
     (67 ∷ 0 ∷ 0 ∷ 0 ∷ 0 ∷ 0 ∷ []) ∷  -- read
-    (7 ∷ 80 ∷ 0 ∷ 0 ∷ 0 ∷ 0 ∷ []) ∷  -- defType
+    (7 ∷ 80 ∷ 0 ∷ 0 ∷ 0 ∷ 0 ∷ []) ∷  -- def_type
     (0 ∷ 0 ∷ 0 ∷ 0 ∷ 0 ∷ 0 ∷ []) ∷  -- beep
     (66 ∷ 0 ∷ 0 ∷ 0 ∷ 0 ∷ 0 ∷ []) ∷  -- erase
-    (9 ∷ 0 ∷ 0 ∷ 0 ∷ 0 ∷ 0 ∷ []) ∷  -- raiseError
-    (23 ∷ 0 ∷ 0 ∷ 0 ∷ 0 ∷ 0 ∷ []) ∷  -- onError
+    (9 ∷ 0 ∷ 0 ∷ 0 ∷ 0 ∷ 0 ∷ []) ∷  -- raise_error
+    (23 ∷ 0 ∷ 0 ∷ 0 ∷ 0 ∷ 0 ∷ []) ∷  -- on_error
     (15 ∷ 0 ∷ 0 ∷ 0 ∷ 0 ∷ 0 ∷ []) ∷  -- resume
     (16 ∷ 16 ∷ 0 ∷ 0 ∷ 0 ∷ 0 ∷ []) ∷  -- locate
     (16 ∷ 16 ∷ 0 ∷ 0 ∷ 0 ∷ 0 ∷ []) ∷  -- color
     (16 ∷ 0 ∷ 0 ∷ 0 ∷ 0 ∷ 0 ∷ []) ∷  -- randomize
     (23 ∷ 0 ∷ 0 ∷ 0 ∷ 0 ∷ 0 ∷ []) ∷  -- restore
     (0 ∷ 0 ∷ 0 ∷ 0 ∷ 0 ∷ 0 ∷ []) ∷  -- cls
-    (9 ∷ 85 ∷ 0 ∷ 0 ∷ 0 ∷ 0 ∷ []) ∷  -- selectCase
+    (9 ∷ 85 ∷ 0 ∷ 0 ∷ 0 ∷ 0 ∷ []) ∷  -- select_case
     (0 ∷ 0 ∷ 0 ∷ 0 ∷ 0 ∷ 0 ∷ []) ∷  -- end'
     (0 ∷ 0 ∷ 0 ∷ 0 ∷ 0 ∷ 0 ∷ []) ∷  -- stop
     (9 ∷ 6 ∷ 9 ∷ 16 ∷ 0 ∷ 0 ∷ []) ∷  -- open'
     (64 ∷ 0 ∷ 0 ∷ 0 ∷ 0 ∷ 0 ∷ []) ∷  -- close
     (16 ∷ 9 ∷ 0 ∷ 0 ∷ 0 ∷ 0 ∷ []) ∷  -- width
     (9 ∷ 78 ∷ 0 ∷ 0 ∷ 0 ∷ 0 ∷ []) ∷  -- field'
-    (115 ∷ 9 ∷ 3 ∷ 0 ∷ 0 ∷ 0 ∷ []) ∷  -- setField
-    (9 ∷ 16 ∷ 3 ∷ 0 ∷ 0 ∷ 0 ∷ []) ∷  -- getPut
+    (115 ∷ 9 ∷ 3 ∷ 0 ∷ 0 ∷ 0 ∷ []) ∷  -- set_field
+    (9 ∷ 16 ∷ 3 ∷ 0 ∷ 0 ∷ 0 ∷ []) ∷  -- get_put
     (9 ∷ 35 ∷ 3 ∷ 0 ∷ 0 ∷ 0 ∷ []) ∷  -- lock
     []
 

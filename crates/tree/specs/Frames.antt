@@ -1,9 +1,8 @@
 -- What is left of a row and of the rows after it, and what reading that gives; what reading a field's own words tells.
-use Rattle.std.specs.Prelude.{ℕ, zero, suc, ◌+◌, ◌-◌, ◌/◌, ◌<◌, ◌≤◌, ◌≡◌, ◌⊎◌, List, length, eqb}
+use Rattle.std.specs.Prelude.{ℕ, ◌-◌, ◌/◌, ◌<◌, ◌≤◌, ◌≡◌, ◌⊎◌, List, length, eqb}
 use Rattle.words.specs.Word.{pick}
 use Rattle.expr.specs.Reader.{expr_at}
 use Rattle.expr.specs.Answer.{step_of, then}
-use Rattle.expr.specs.declared.Cursor.{Cursor}
 use Rattle.expr.specs.declared.Step.{Step}
 use Rattle.expr.specs.declared.Step.TheVariants.{Read, Wrong, Deep}
 use Rattle.tree.specs.Sorts.{Sort, group, opt}

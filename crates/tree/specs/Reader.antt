@@ -1,11 +1,11 @@
 -- The definition of reading: by the sorts, and by the depth that is left.
-use Rattle.std.specs.Prelude.{ℕ, zero, suc, ◌+◌, ◌-◌, List, [], ◌∷◌, Bool, true, false, length, get_or, ltb, leb, eqb}
+use Rattle.std.specs.Prelude.{ℕ, zero, suc, ◌+◌, ◌-◌, List, Bool, false, length, get_or, ltb, leb, eqb}
 use Rattle.expr.specs.Expr.{Expr}
 use Rattle.words.specs.Word.{word_of, pick, kind_of, pay_of}
 use Rattle.expr.specs.Got.{Got, got, wrong, deep, bind}
 use Rattle.expr.specs.Reader.{leaf_at, expr_at}
-use Rattle.tree.specs.Sorts.{Leaf, Sort, leaf, expr, stmt, many, group, either, never, Sorts, nil, ◌&◌, Kind, sorts, kind_at}
-use Rattle.tree.specs.Tree.{strings, Shape, one, row, rows, Tree, word, value, Stmt, list, part, this, that, done, cons, none, more, kind_l, ok_l}
+use Rattle.tree.specs.Sorts.{Sort, leaf, expr, stmt, many, group, either, never, Sorts, nil, ◌&◌, sorts, kind_at}
+use Rattle.tree.specs.Tree.{strings, one, row, rows, Tree, word, value, Stmt, list, part, this, that, done, cons, none, more, kind_l, ok_l}
 
 module _ (ws : List ℕ) where
   -- a word of kind k whose payload is right: its payload (`word_at` of image/specs/Image.antt is four bytes)

@@ -1,5 +1,5 @@
 -- What a field may be, and the fields of each statement kind, in order.
-use Rattle.std.specs.Prelude.{ℕ, zero, suc, List, [], ◌∷◌, get_or}
+use Rattle.std.specs.Prelude.{ℕ, List, [], ◌∷◌, get_or}
 
 infixr 50 ◌&◌
 -- one plain word: the number of a name, of any string, or a mark of a kind with a payload from a to below b

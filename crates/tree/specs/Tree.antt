@@ -1,8 +1,8 @@
 -- The tree: one family, by what stands there. Its words, its depth, and when it is right.
-use Rattle.std.specs.Prelude.{ℕ, zero, suc, ◌+◌, ◌<◌, ◌≤◌, max, ◌≡◌, List, [], ◌∷◌, ◌++◌, Bool, true, false, ◌&&◌, ltb, leb, eqb, length, get_or}
+use Rattle.std.specs.Prelude.{ℕ, ◌+◌, ◌<◌, max, ◌≡◌, List, [], ◌∷◌, ◌++◌, Bool, true, ◌&&◌, ltb, leb, eqb, get_or}
 use Rattle.expr.specs.Expr.{Strings, Expr, words, depth, Valid}
 use Rattle.words.specs.Word.{word_of}
-use Rattle.tree.specs.Sorts.{Leaf, name, text, mark, Sort, leaf, expr, stmt, many, group, either, never, Sorts, nil, ◌&◌, Kind, sorts, number_of}
+use Rattle.tree.specs.Sorts.{Leaf, name, text, mark, Sort, leaf, expr, stmt, many, group, either, Sorts, nil, ◌&◌, Kind, sorts, number_of}
 
 -- a field, a row of fields, or several rows. A row here is a row of fields, not of the table
 pub data Shape : Type 0 where

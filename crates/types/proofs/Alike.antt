@@ -20,7 +20,7 @@ use Rattle.lookup.specs.Lookup.{record_words, type_words}
 use Rattle.steps.specs.State.{State, running, stopped, asking, each, change, enter, fits}
 use Rattle.steps.specs.declared.Counts.{Counts}
 use Rattle.steps.specs.Held.{Held, Sized, Rows, changing, entering}
-use Rattle.steps.specs.Compose.{stays_each, stays_enter, stays_change, replaced}
+use Rattle.steps.proofs.Compose.{stays_each, stays_enter, stays_change, replaced}
 use Rattle.collect.specs.Collect.{FieldInfo, field_rows}
 use Rattle.types.specs.Types.{type_code, said, code_of, sized, sized_by, kept_fields}
 use Rattle.types.proofs.Laws.{code_kept, Put, RowsAre}

@@ -19,7 +19,7 @@ use Rattle.entries.specs.Entries.{field_row}
 use Rattle.steps.specs.State.{State, running, stopped, asking, each, enter}
 use Rattle.steps.specs.declared.Counts.{Counts}
 use Rattle.steps.specs.Held.{Held, Rows}
-use Rattle.steps.specs.Compose.{stays_each, stays_enter}
+use Rattle.steps.proofs.Compose.{stays_each, stays_enter}
 use Rattle.collect.specs.Collect.{FieldInfo, field_rows}
 use Rattle.types.specs.Types.{SomeFields, FieldIs, Below, Marks, type_code, field_code, sized, sized_by, kept_fields, Codes, KeepsField, Enters}
 use Rattle.types.specs.declared.FieldAt.{FieldAt}

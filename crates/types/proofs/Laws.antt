@@ -15,7 +15,7 @@ use Rattle.table.specs.Laws.{pick_true, pick_false}
 use Rattle.entries.specs.Entries.{has, type_row, replace_type}
 use Rattle.lookup.specs.Lookup.{type_words}
 use Rattle.steps.specs.State.{State, running, stopped, Step, nothing, stop, change, push, fits}
-use Rattle.steps.specs.Compose.{Stays, stays_pick, stays_stop, stays_push, stays_change}
+use Rattle.steps.proofs.Compose.{Stays, stays_pick, stays_stop, stays_push, stays_change}
 use Rattle.collect.specs.Diagnostics.{field_twice, contains_itself, field_undefined}
 use Rattle.collect.specs.Collect.{FieldInfo, RecordInfo, has_field, type_rejected, rejected, with_field, field_rows, given, or_say, fields}
 use Rattle.types.specs.Types.{type_code, said, code_of, field_code, note_of, grown, sized, sized_by, looks, checks, total, kept_fields}

@@ -17,7 +17,7 @@ use Rattle.lookup.specs.Lookup.{type_words}
 use Rattle.steps.specs.State.{State, Step, nothing, each, stop, enter, push}
 use Rattle.steps.specs.declared.Counts.{Counts}
 use Rattle.steps.specs.Held.{Held, Sized, Notes, Rows, Counted, entering, pushing}
-use Rattle.steps.specs.RowSteps.{rows_same}
+use Rattle.steps.proofs.RowSteps.{rows_same}
 use Rattle.types.specs.Types.{type_code, note_of, grown, sized, looks, Looks, KeepsField}
 use Rattle.types.specs.declared.Kept.{Kept}
 

@@ -1,5 +1,5 @@
 -- Going through the fields of a TYPE, for whatever tree stands there. Assumes nothing.
-use Prim.Native.Nat.{ℕ, ◌+◌, ◌-◌, ◌≤◌, ◌<◌}
+use Prim.Native.Nat.{ℕ, ◌+◌, ◌≤◌, ◌<◌}
 use mathlib.Core.Path.{◌≡◌, refl, sym, ap, ◌∙◌, subst}
 use mathlib.Core.List.{List, [], ◌∷◌, ◌++◌, append-nil}
 use native.Mathlib.Omega.{arith}
@@ -73,6 +73,7 @@ type_small ns n (that (that (this done))) r = lit< tt
 type_small ns n (that (that (that (this done)))) r = lit< tt
 type_small ns n (that (that (that (that (this (cons (word k) done)))))) r = r.0.1
 type_small ns n (that (that (that (that (that (this (cons (word x) done))))))) r = r.0.1
+type_small ns n (that (that (that (that (that (that x)))))) r = elim x [ ]
 
 -- right fields have small arguments
 pub rows_small : (ns : List ℕ) (n : ℕ) (v : Tree Expr (many_rows FieldRow)) → Right ns n v → Small (rows_of field_decl v)

@@ -22,7 +22,7 @@ use Rattle.entries.specs.Entries.{entry_key, has, row_word, type_row}
 use Rattle.steps.specs.State.{State, running, stopped, when, asking, push}
 use Rattle.steps.specs.declared.Counts.{Counts}
 use Rattle.steps.specs.Held.{Fit, Held, Does, Notes, Rows, changing, entering, noting}
-use Rattle.steps.specs.Compose.{then, same, notes_does, asked, stays_asking, stays_when, stays_push}
+use Rattle.steps.proofs.Compose.{then, same, notes_does, asked, stays_asking, stays_when, stays_push}
 use Rattle.collect.specs.Diagnostics.{type_defined, type_inside}
 use Rattle.collect.specs.Seen.{see}
 use Rattle.collect.specs.Collect.{given, fields, type_def, statement}

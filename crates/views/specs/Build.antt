@@ -2,7 +2,7 @@
 use Rattle.std.specs.Prelude.{ℕ, List, [], ◌∷◌}
 use Rattle.std.proofs.Math.Option.{Option, none as absent, some}
 use Rattle.expr.specs.Expr.{Expr}
-use Rattle.tree.specs.Sorts.{Sorts, nil, ◌&◌, stmt, expr, many, opt, exprs, body, TypeRef, LValue, Declarator, Param, ScopeItem, FieldDecl, sorts, label, label_name, let', dim, redim, shared, static, sub, function, const, option_base, type_def}
+use Rattle.tree.specs.Sorts.{Sorts, nil, ◌&◌, stmt, expr, opt, exprs, TypeRef, LValue, Declarator, Param, ScopeItem, FieldDecl, sorts, label, label_name, let', dim, redim, shared, static, sub, function, const, option_base, type_def}
 use Rattle.tree.specs.Tree.{Tree, one, row, rows, word, value, Stmt, list, part, this, that, done, cons, none, more, Program}
 
 -- a statement's tree

@@ -1,5 +1,4 @@
 -- No parentheses, and every call written as an element: what neither folding nor `subscript_count` can tell apart.
-use Rattle.std.specs.Prelude.{ℕ}
 use Rattle.expr.specs.Expr.{Expr, Exprs, Lit, Var, Elem, Unary, Binary, Call, Field, Paren, none, more}
 use Rattle.tree.specs.Tree.{Shape, Tree, over}
 

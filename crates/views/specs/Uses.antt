@@ -1,8 +1,8 @@
 -- Where a statement names arrays: its assignment targets that `subscript_count` looks at first, and the expressions of its own in the order of
 -- `for_each_expr_mut` (sema.rs). E stands for an expression.
-use Rattle.std.specs.Prelude.{ℕ, List, [], ◌∷◌, ◌++◌}
+use Rattle.std.specs.Prelude.{List, [], ◌∷◌, ◌++◌}
 use Rattle.tree.specs.Sorts.{Sorts, Kind, sorts, label, label_name, let', print, input, line_input, if, for, while, do_loop, goto, gosub, return, on_goto, on_gosub, dim, declare, shared, static, redim, sub, function, call, mid_assign, swap, const, exit_loop, exit_proc, option_base, type_def, field_assign, data', read, def_type, beep, erase, raise_error, on_error, resume, locate, color, randomize, restore, cls, select_case, end', stop, open', close, width, field', set_field, get_put, lock}
-use Rattle.tree.specs.Tree.{Shape, one, row, rows, Tree, word, value, Stmt, list, part, this, that, done, cons, none, more}
+use Rattle.tree.specs.Tree.{Shape, row, Tree, word, value, Stmt, list, part, this, that, done, cons, none, more}
 use Rattle.views.specs.View.{LValue, lvalue, optional, expressions, items}
 
 -- the expressions that stand in no nested statement, in the words' order

@@ -1,7 +1,7 @@
 -- What collecting reads of a statement, with the Rust's names (parser.rs), and the walk over all statements. E stands for an expression.
-use Rattle.std.specs.Prelude.{ℕ, ◌+◌, Bool, true, false, List, [], ◌∷◌, eqb}
+use Rattle.std.specs.Prelude.{ℕ, ◌+◌, Bool, List, [], ◌∷◌, eqb}
 use Rattle.std.proofs.Math.Option.{Option, none as absent, some}
-use Rattle.tree.specs.Sorts.{Sort, leaf, expr, stmt, many, group, either, never, Sorts, nil, ◌&◌, flag, named, opt, exprs, body, TypeRef as TypeSort, LValue as LValueRow, Declarator as DeclaratorRow, Param as ParamRow, ScopeItem as ScopeRow, FieldDecl as FieldRow, Kind, sorts, label, label_name, let', print, input, line_input, if, for, while, do_loop, goto, gosub, return, on_goto, on_gosub, dim, declare, shared, static, redim, sub, function, call, mid_assign, swap, const, exit_loop, exit_proc, option_base, type_def, field_assign, data', read, def_type, beep, erase, raise_error, on_error, resume, locate, color, randomize, restore, cls, select_case, end', stop, open', close, width, field', set_field, get_put, lock}
+use Rattle.tree.specs.Sorts.{expr, many, Sorts, nil, ◌&◌, flag, opt, exprs, body, TypeRef as TypeSort, LValue as LValueRow, Declarator as DeclaratorRow, Param as ParamRow, ScopeItem as ScopeRow, FieldDecl as FieldRow, Kind, sorts, label, label_name, let', print, input, line_input, if, for, while, do_loop, goto, gosub, return, on_goto, on_gosub, dim, declare, shared, static, redim, sub, function, call, mid_assign, swap, const, exit_loop, exit_proc, option_base, type_def, field_assign, data', read, def_type, beep, erase, raise_error, on_error, resume, locate, color, randomize, restore, cls, select_case, end', stop, open', close, width, field', set_field, get_put, lock}
 use Rattle.tree.specs.Tree.{Shape, one, row, rows, Tree, word, value, Stmt, list, part, this, that, done, cons, none, more}
 
 -- ---- the Rust's enum and structs, as far as collecting reads them (of LValue not `fields`). As sorts they stand in tree/specs/Sorts.antt
@@ -100,6 +100,7 @@ module _ {E : Type 0} where
   type_ref (that (that (that (this r)))) = Double  -- 43
   type_ref (that (that (that (that (this (cons (word n) done)))))) = FixedString n  -- 44
   type_ref (that (that (that (that (that (this (cons (word x) done))))))) = Record x  -- 45
+  type_ref (that (that (that (that (that (that x)))))) = elim x [ ]  -- no other
 
   -- the type that is a row's one field
   unfoldable pub as_type : Tree E (row (TypeSort & nil)) → TypeRef

@@ -1,0 +1,28 @@
+-- The loop goes past one leaf after the other. Assumes nothing.
+use native.Mathlib.Omega.{arith}
+use Rattle.collecting.proofs.Passing.{passes_none, passes_then, pass_single, idle_low, some_on, some_inside}
+use Rattle.collecting.proofs.leaves.Goals as goal
+
+pub loop-at-init : goal.loop-at-init
+loop-at-init c = passes_none
+
+pub offset_bounds-words-at : goal.offset_bounds-words-at
+offset_bounds-words-at c = omega (arith, some_inside (some_on c.requires c.loop-at.invariant), c.loop-at-test.true)
+
+pub bounds-words-at : goal.bounds-words-at
+bounds-words-at c = omega (arith, some_inside (some_on c.requires c.loop-at.invariant), c.loop-at-test.true)
+
+pub returns-then-words-at-ge24 : goal.returns-then-words-at-ge24
+returns-then-words-at-ge24 c = c.loop-at.invariant
+
+pub overflow_add-at : goal.overflow_add-at
+overflow_add-at c = omega (arith, some_inside (some_on c.requires c.loop-at.invariant), c.loop-at-test.true)
+
+pub loop-at-smaller : goal.loop-at-smaller
+loop-at-smaller c = omega (arith, c.loop-at-test.true)
+
+pub loop-at-preserved : goal.loop-at-preserved
+loop-at-preserved c = passes_then c.loop-at.invariant (pass_single c.loop-at-test.true (λ l u. omega (arith, c.if-words-at-ge24.false)) (idle_low (omega (arith, c.if-words-at-ge24.false))))
+
+pub returns : goal.returns
+returns c = c.loop-at.invariant

@@ -1,0 +1,13 @@
+-- Empty buffers, the walk, and zeros where it stopped: what is left of a whole run. Assumes nothing.
+use Rattle.collecting.specs.Start.{start_ready}
+use Rattle.collection.proofs.Entry.{run_tabled}
+use Rattle.collection.proofs.tables.Goals as goal
+
+pub statements-m-requires : goal.statements-m-requires
+statements-m-requires c = (start_ready c.requires.0 c.begin-s.ensures, c.requires.1)
+
+pub finish-requires : goal.finish-requires
+finish-requires c = c.statements-m.ensures.kept.fit.0
+
+pub returns : goal.returns
+returns c = run_tabled (λ i. (c.shared_slice_known-1.given i).fits) c.requires.0 c.begin-s.ensures c.statements-m.ensures c.finish.ensures

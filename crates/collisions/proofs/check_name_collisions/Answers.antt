@@ -1,0 +1,30 @@
+-- The entry: numbers 5 and 1, or what comes behind them. Assumes nothing.
+use lib.Seq.{length-take-le}
+use lib.ListN.{length}
+use mathlib.Core.Path.{sym, subst}
+use native.Mathlib.Omega.{arith}
+use Rattle.words.specs.Told.{gives}
+use Rattle.strings.specs.Open.{Answers}
+use Rattle.leaves.specs.Leaves.{sized}
+use Rattle.leaves.specs.Entries.{tell_gate, Passes}
+use Rattle.leaves.specs.declared.Gate.{Gate}
+use Rattle.collisions.proofs.EntryLaws.{entry_shut, entry_open}
+use Rattle.collisions.proofs.check_name_collisions.Goals as goal
+
+pub names_of-names-requires : goal.names_of-names-requires
+names_of-names-requires c = subst (λ (g : Gate). Passes (c.args.bytes.now) (c.args.ends.now) g) c.in-Passed.is c.passes.ensures.passed
+
+pub slice_bounds-names-end : goal.slice_bounds-names-end
+slice_bounds-names-end c = omega (arith, (subst (λ (g : Gate). Passes (c.args.bytes.now) (c.args.ends.now) g) c.in-Passed.is c.passes.ensures.passed).1, c.names_of-names.ensures.long)
+
+pub slice_bounds-under-end : goal.slice_bounds-under-end
+slice_bounds-under-end c = sym (length-take-le (length (c.args.ends.now)) c.names_of-names.result (omega (arith, (subst (λ (g : Gate). Passes (c.args.bytes.now) (c.args.ends.now) g) c.in-Passed.is c.passes.ensures.passed).1, c.names_of-names.ensures.long)))
+
+pub under-requires : goal.under-requires
+under-requires c = record { strings = (subst (λ (g : Gate). Passes (c.args.bytes.now) (c.args.ends.now) g) c.in-Passed.is c.passes.ensures.passed).0; names = c.names_of-names.ensures.first }
+
+pub returns-in-Closed : goal.returns-in-Closed
+returns-in-Closed c = entry_shut (subst (λ (g : Gate). Answers (sized (c.args.bytes.now) (c.args.ends.now)) (c.args.bytes.now) (c.args.ends.now) (tell_gate g) (gives (tt {0}))) c.in-Closed.is c.passes.ensures.told)
+
+pub returns-in-Passed : goal.returns-in-Passed
+returns-in-Passed c = entry_open (subst (λ (g : Gate). Answers (sized (c.args.bytes.now) (c.args.ends.now)) (c.args.bytes.now) (c.args.ends.now) (tell_gate g) (gives (tt {0}))) c.in-Passed.is c.passes.ensures.told) c.under.ensures

@@ -1,0 +1,14 @@
+-- `declare_all`: so many declarators, each declared. Assumes nothing.
+use Rattle.dims.proofs.Doing.{Declaring}
+use Rattle.steps.specs.Held.{Fit}
+use Rattle.words.specs.Word.{pay_of}
+use lib.ListN.{length, get_or}
+use mathlib.Core.Path.{◌≡◌}
+use Prim.Native.Nat.{◌+◌}
+use Rattle.dims.proofs.declare_all.Given as goal
+
+abbrev pub invariant-loop-left : goal.invariant-loop-left
+invariant-loop-left l = Declaring l.bytes l.ends l.erased l.scope l.line l.redim l.preserve l.words (l.at + 1) (pay_of (get_or l.words l.at 0)) l.m l.left l.initial.c l.c l.initial.b l.initial.d l.b l.d × Fit l.c (length l.b) (length l.d) × (length l.b ≡ length l.initial.b) × (length l.d ≡ length l.initial.d)
+
+abbrev pub decreases-loop-left : goal.decreases-loop-left
+decreases-loop-left l = l.left

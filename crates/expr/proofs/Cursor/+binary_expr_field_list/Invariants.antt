@@ -1,0 +1,26 @@
+-- What falls from call to call, the levels left, and what the loop over a list keeps.
+use Prim.Native.Nat.{◌+◌}
+use mathlib.Core.Path.{◌≡◌}
+use Rattle.expr.specs.Reader.{exprs_at, expr_at}
+use Rattle.expr.specs.Answer.{step_of}
+use Rattle.expr.proofs.Cursor.+binary_expr_field_list.Given as goal
+
+abbrev pub decreases-expr : goal.decreases-expr
+decreases-expr l = l.left + l.left
+
+abbrev pub decreases-binary : goal.decreases-binary
+decreases-binary l = l.left + l.left + 1
+
+abbrev pub decreases-field : goal.decreases-field
+decreases-field l = l.left + l.left + 1
+
+abbrev pub decreases-list : goal.decreases-list
+decreases-list l = l.left + l.left + 1
+
+abbrev pub invariant-list-loop-count : goal.invariant-list-loop-count
+invariant-list-loop-count l =
+    step_of (exprs_at l.words (record { count = l.n; names = l.names }) (expr_at l.words (record { count = l.n; names = l.names }) l.left) l.initial.count l.initial.c.at) ≡ step_of (exprs_at l.words (record { count = l.n; names = l.names }) (expr_at l.words (record { count = l.n; names = l.names }) l.left) l.count l.c.at)
+
+abbrev pub decreases-list-loop-count : goal.decreases-list-loop-count
+decreases-list-loop-count l =
+    l.count

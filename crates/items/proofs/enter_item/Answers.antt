@@ -1,0 +1,15 @@
+-- An item's mark, its type, or nothing. Assumes nothing.
+use Rattle.items.proofs.Laws.{enters_mark, enters_array, enters_untyped, enters_typed}
+use Rattle.items.proofs.enter_item.Goals as goal
+
+pub returns-then-kind-ne134 : goal.returns-then-kind-ne134
+returns-then-kind-ne134 c = enters_mark c.if-kind-ne134.true _ c.word.ensures c.marked-mark.ensures c.enter.ensures
+
+pub returns-then-i : goal.returns-then-i
+returns-then-i c = enters_array c.if-kind-ne134.false c.requires.0 c.if-i.true
+
+pub returns-then-i-eq0 : goal.returns-then-i-eq0
+returns-then-i-eq0 c = enters_untyped c.if-kind-ne134.false c.requires.0 c.if-i.false c.if-i-eq0.true
+
+pub returns : goal.returns
+returns c = enters_typed c.if-kind-ne134.false c.if-i.false c.if-i-eq0.false c.enter-2.ensures

@@ -1,0 +1,12 @@
+-- There is an array where the first keys of kinds 133 and 134 have different places. Assumes nothing.
+use mathlib.Core.Path.{◌∙◌}
+use native.Mathlib.Omega.{arith}
+use Rattle.runs.specs.Laws.{keeps_table}
+use Rattle.labels.specs.Arrays.{any_array_lem, keeps_small}
+use Rattle.labels.proofs.any_array.Goals as goal
+
+pub any_between-requires : goal.any_between-requires
+any_between-requires c = (c.requires, omega (arith, c.entry_key-from.ensures, c.entry_key-to.ensures))
+
+pub returns : goal.returns
+returns c = λ rows K. c.any_between.ensures rows K ∙ rw (c.entry_key-from.ensures, c.entry_key-to.ensures) (any_array_lem 0 rows (keeps_table K) (keeps_small (λ i. (c.shared_slice_known-1.given i).fits) K))

@@ -1,0 +1,28 @@
+-- CONST: a stopped run passes by; else the diagnostic and the folded constant follow each other. Assumes nothing.
+use mathlib.Core.Path.{sym, subst}
+use native.Mathlib.Omega.{arith}
+use Rattle.fold.specs.Fold.{GoodFold}
+use Rattle.consteval.proofs.Laws.{good}
+use Rattle.labels.proofs.Laws.{const_inside, const_ready, const_stopped, const_collects}
+use Rattle.labels.proofs.constant.Goals as goal
+
+pub returns-then-s-ne0 : goal.returns-then-s-ne0
+returns-then-s-ne0 c = const_stopped c.requires.1 c.if-s-ne0.true
+
+pub bounds-words-at : goal.bounds-words-at
+bounds-words-at c = omega (arith, const_inside c.requires.0)
+
+pub bounds-words-at-2 : goal.bounds-words-at-2
+bounds-words-at-2 c = const_inside c.requires.0
+
+pub const_eval-f-requires : goal.const_eval-f-requires
+const_eval-f-requires c = const_ready c.requires.0 c.if-s-ne0.false
+
+pub fold_of-g-requires : goal.fold_of-g-requires
+fold_of-g-requires c = good (λ i. (c.shared_slice_known-1.given i).fits) (const_ready c.requires.0 c.if-s-ne0.false) c.const_eval-f.ensures
+
+pub folded-requires : goal.folded-requires
+folded-requires c = ((omega (arith, c.push_if-t.ensures.kept, c.requires.1.0), c.push_if-t.ensures.fit), omega arith, subst GoodFold (sym c.fold_of-g.ensures) (good (λ i. (c.shared_slice_known-1.given i).fits) (const_ready c.requires.0 c.if-s-ne0.false) c.const_eval-f.ensures))
+
+pub returns : goal.returns
+returns c = const_collects c.fold_of-g.ensures c.requires.1 c.has-twice.ensures c.const_eval-f.ensures c.push_if-t.ensures c.folded.ensures

@@ -1,0 +1,6 @@
+-- patskneli_listing: the text, and then its end (`done`).
+use Rattle.text.specs.Laws.{done}
+use Rattle.listing.proofs.patskneli_listing.Goals as goal
+
+pub returns : goal.returns
+returns c = done c.put_listing-at.ensures c.finish.ensures

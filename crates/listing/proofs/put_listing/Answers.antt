@@ -1,0 +1,11 @@
+-- put_listing: an image's listing, or `E 5`.
+use mathlib.Core.Path.{sym, ◌∙◌}
+use Rattle.image.specs.Laws.{shaped, not_image}
+use Rattle.listing.proofs.Laws.{no_image}
+use Rattle.listing.proofs.put_listing.Goals as goal
+
+pub put_least-requires : goal.put_least-requires
+put_least-requires c = shaped c.args.image.now c.in-Whole.s (sym c.in-Whole.is ∙ c.open.ensures)
+
+pub returns-in-Malformed : goal.returns-in-Malformed
+returns-in-Malformed c = no_image c.args.image.now (not_image c.args.image.now (sym c.in-Malformed.is ∙ c.open.ensures)) c.put_refusal.ensures

@@ -1,0 +1,7 @@
+-- put_name: a string goes from the end before it to its own.
+use Rattle.message.proofs.Laws.{named}
+use Rattle.text.specs.Laws.{same}
+use Rattle.message.proofs.put_name.Goals as goal
+
+pub returns : goal.returns
+returns c = same (named c.args.bytes.now c.args.ends.now c.args.k c.less_one.result c.end_of.result c.end_of-2.result c.less_one.ensures c.end_of.ensures c.end_of-2.ensures) c.put_part.ensures

@@ -1,0 +1,129 @@
+-- start_of: each start is the length of the templates before, by computation; the rest is past the last (`start_past`).
+use mathlib.Core.Path.{refl}
+use Rattle.words.specs.Laws.{PastArms}
+use Rattle.words.specs.Word.{flatten}
+use Rattle.message.proofs.Laws.{start_past}
+use Rattle.message.specs.Message.{templates}
+use Rattle.message.specs.Table.{run, table}
+use Rattle.text.specs.Text.{ascii}
+use Rattle.message.proofs.start_of.Goals as goal
+
+pub returns-in-0 : goal.returns-in-0
+unfolding table run templates ascii flatten
+returns-in-0 c = rw c.in-0.is refl
+
+pub returns-in-1 : goal.returns-in-1
+unfolding table run templates ascii flatten
+returns-in-1 c = rw c.in-1.is refl
+
+pub returns-in-2 : goal.returns-in-2
+unfolding table run templates ascii flatten
+returns-in-2 c = rw c.in-2.is refl
+
+pub returns-in-3 : goal.returns-in-3
+unfolding table run templates ascii flatten
+returns-in-3 c = rw c.in-3.is refl
+
+pub returns-in-4 : goal.returns-in-4
+unfolding table run templates ascii flatten
+returns-in-4 c = rw c.in-4.is refl
+
+pub returns-in-5 : goal.returns-in-5
+unfolding table run templates ascii flatten
+returns-in-5 c = rw c.in-5.is refl
+
+pub returns-in-6 : goal.returns-in-6
+unfolding table run templates ascii flatten
+returns-in-6 c = rw c.in-6.is refl
+
+pub returns-in-7 : goal.returns-in-7
+unfolding table run templates ascii flatten
+returns-in-7 c = rw c.in-7.is refl
+
+pub returns-in-8 : goal.returns-in-8
+unfolding table run templates ascii flatten
+returns-in-8 c = rw c.in-8.is refl
+
+pub returns-in-9 : goal.returns-in-9
+unfolding table run templates ascii flatten
+returns-in-9 c = rw c.in-9.is refl
+
+pub returns-in-10 : goal.returns-in-10
+unfolding table run templates ascii flatten
+returns-in-10 c = rw c.in-10.is refl
+
+pub returns-in-11 : goal.returns-in-11
+unfolding table run templates ascii flatten
+returns-in-11 c = rw c.in-11.is refl
+
+pub returns-in-12 : goal.returns-in-12
+unfolding table run templates ascii flatten
+returns-in-12 c = rw c.in-12.is refl
+
+pub returns-in-13 : goal.returns-in-13
+unfolding table run templates ascii flatten
+returns-in-13 c = rw c.in-13.is refl
+
+pub returns-in-14 : goal.returns-in-14
+unfolding table run templates ascii flatten
+returns-in-14 c = rw c.in-14.is refl
+
+pub returns-in-15 : goal.returns-in-15
+unfolding table run templates ascii flatten
+returns-in-15 c = rw c.in-15.is refl
+
+pub returns-in-16 : goal.returns-in-16
+unfolding table run templates ascii flatten
+returns-in-16 c = rw c.in-16.is refl
+
+pub returns-in-17 : goal.returns-in-17
+unfolding table run templates ascii flatten
+returns-in-17 c = rw c.in-17.is refl
+
+pub returns-in-18 : goal.returns-in-18
+unfolding table run templates ascii flatten
+returns-in-18 c = rw c.in-18.is refl
+
+pub returns-in-19 : goal.returns-in-19
+unfolding table run templates ascii flatten
+returns-in-19 c = rw c.in-19.is refl
+
+pub returns-in-20 : goal.returns-in-20
+unfolding table run templates ascii flatten
+returns-in-20 c = rw c.in-20.is refl
+
+pub returns-in-21 : goal.returns-in-21
+unfolding table run templates ascii flatten
+returns-in-21 c = rw c.in-21.is refl
+
+pub returns-in-22 : goal.returns-in-22
+unfolding table run templates ascii flatten
+returns-in-22 c = rw c.in-22.is refl
+
+pub returns-in-23 : goal.returns-in-23
+unfolding table run templates ascii flatten
+returns-in-23 c = rw c.in-23.is refl
+
+pub returns-in-24 : goal.returns-in-24
+unfolding table run templates ascii flatten
+returns-in-24 c = rw c.in-24.is refl
+
+pub returns-in-25 : goal.returns-in-25
+unfolding table run templates ascii flatten
+returns-in-25 c = rw c.in-25.is refl
+
+pub returns-in-26 : goal.returns-in-26
+unfolding table run templates ascii flatten
+returns-in-26 c = rw c.in-26.is refl
+
+pub returns-in-27 : goal.returns-in-27
+unfolding table run templates ascii flatten
+returns-in-27 c = rw c.in-27.is refl
+
+pub returns-in-28 : goal.returns-in-28
+unfolding table run templates ascii flatten
+returns-in-28 c = rw c.in-28.is refl
+
+pub returns-in_default : goal.returns-in_default
+unfolding PastArms
+returns-in_default c = start_past c.args.code c.in_default.in_default-own.rest

@@ -1,0 +1,9 @@
+-- `numbers::of_words` meets its contract. Assumes nothing.
+use Rattle.std.proofs.Common.{Bool, not, T, sym, subst}
+use Rattle.numbers.specs.NumbersLaws.{no_nan}
+use lib.Ieee.{binary64}
+use lib.Ieee.Bits.{nan_bits_is}
+use Rattle.numbers.proofs.of_words.Goals as goal
+
+pub float_from_bits-result : goal.float_from_bits-result
+float_from_bits-result c = subst (λ (b : Bool). T (not b)) (sym (nan_bits_is binary64 _)) (no_nan _ c.requires)

@@ -1,0 +1,20 @@
+-- `param_strings`: at each turn the parameters that were read are looked at in order, beside any rows. Assumes nothing.
+use Prim.Native.Nat.{ℕ, ◌-◌, ◌*◌, ◌≤◌}
+use mathlib.Core.Path.{◌≡◌}
+use mathlib.Core.List.{List}
+use lib.ListN.{length}
+use Rattle.table.specs.Rows.{width, note_width}
+use Rattle.steps.specs.State.{each}
+use Rattle.steps.specs.Held.{Does}
+use Rattle.collect.specs.Collect.{param_string}
+use Rattle.procedures.specs.Post.{plain}
+use Rattle.procedures.proofs.Walk.{Walked}
+use Rattle.procedures.proofs.param_strings.Given as goal
+
+abbrev pub invariant-loop-i : goal.invariant-loop-i
+invariant-loop-i l =
+    (length l.d ≡ length l.initial.d) × (l.c.rows ≡ l.initial.c.rows) × (l.c.notes * note_width ≤ length l.d)
+    × Walked (λ ps. (b : List ℕ) → l.initial.c.rows * width ≤ length b → Does (λ N D. each (param_string (plain N D) l.line l.name) ps) l.initial.c l.c b l.initial.d b l.d) l.words l.from l.count l.at l.i
+
+abbrev pub decreases-loop-i : goal.decreases-loop-i
+decreases-loop-i l = l.count - l.i

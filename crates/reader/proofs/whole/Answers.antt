@@ -1,0 +1,18 @@
+-- `whole` by cases: words over, right erased names, wrong ones. Assumes nothing.
+use mathlib.Core.Path.{sym, ◌∙◌}
+use Rattle.words.specs.Refusals.{refused}
+use Rattle.reader.specs.Program.{told}
+use Rattle.reader.proofs.Laws.{end_over, end_fine, end_erased}
+use Rattle.reader.proofs.whole.Goals as goal
+
+pub returns-then-at-words : goal.returns-then-at-words
+unfolding told refused
+returns-then-at-words c = end_over c.args.names.now c.args.words.now c.args.erased.now c.args.at c.if-at-words.true
+
+pub returns-then-erased_right : goal.returns-then-erased_right
+unfolding told refused
+returns-then-erased_right c = end_fine c.args.names.now c.args.words.now c.args.erased.now c.args.at c.if-at-words.false (sym c.erased_right.ensures ∙ c.if-erased_right.true)
+
+pub returns : goal.returns
+unfolding told refused
+returns c = end_erased c.args.names.now c.args.words.now c.args.erased.now c.args.at c.if-at-words.false (sym c.erased_right.ensures ∙ c.if-erased_right.false)

@@ -1,0 +1,44 @@
+-- A list that was read: the refusals of `ruled`, or its head and what `resolver` writes behind it. Assumes nothing.
+use Prim.Native.Nat.{◌-◌}
+use mathlib.Core.Path.{◌∙◌}
+use native.Mathlib.Omega.{arith}
+use lib.ListN.{length-set}
+use lib.ListN.{length}
+use Rattle.resolution.proofs.Laws.{stopped, ruled_as, passed_as, list_span, room_first, ready_args, name_fits, args_shut, args_told}
+use Rattle.resolution.proofs.arguments.Goals as goal
+
+pub overflow_sub-end : goal.overflow_sub-end
+overflow_sub-end c = omega (arith, (list_span c.args.names.now c.args.words.now c.args.rows.now (length c.args.out.now) c.args.scope c.args.name c.args.at c.args.end c.requires.1 c.requires.0).0)
+
+pub offset_bounds-words-at : goal.offset_bounds-words-at
+offset_bounds-words-at c = omega (arith, list_span c.args.names.now c.args.words.now c.args.rows.now (length c.args.out.now) c.args.scope c.args.name c.args.at c.args.end c.requires.1 c.requires.0)
+
+pub bounds-words-at : goal.bounds-words-at
+bounds-words-at c = omega (arith, list_span c.args.names.now c.args.words.now c.args.rows.now (length c.args.out.now) c.args.scope c.args.name c.args.at c.args.end c.requires.1 c.requires.0)
+
+pub bounds-out-0 : goal.bounds-out-0
+bounds-out-0 c = omega (arith, room_first c.args.names.now c.args.words.now c.args.rows.now (length c.args.out.now) c.args.scope c.args.name c.args.at c.args.end c.requires.1 c.requires.0 (passed_as c.admits.ensures (rw c.in-Table.is at c.ruled.ensures)))
+
+pub offset_bounds-words-at-in-Table : goal.offset_bounds-words-at-in-Table
+offset_bounds-words-at-in-Table c = omega (arith, list_span c.args.names.now c.args.words.now c.args.rows.now (length c.args.out.now) c.args.scope c.args.name c.args.at c.args.end c.requires.1 c.requires.0)
+
+pub slice_bounds-resolve_args-count : goal.slice_bounds-resolve_args-count
+slice_bounds-resolve_args-count c = omega (arith, (list_span c.args.names.now c.args.words.now c.args.rows.now (length c.args.out.now) c.args.scope c.args.name c.args.at c.args.end c.requires.1 c.requires.0).0)
+
+pub slice_bounds-resolve_args-start : goal.slice_bounds-resolve_args-start
+slice_bounds-resolve_args-start c = omega (arith, (list_span c.args.names.now c.args.words.now c.args.rows.now (length c.args.out.now) c.args.scope c.args.name c.args.at c.args.end c.requires.1 c.requires.0).0)
+
+pub slice_bounds-resolve_args-end : goal.slice_bounds-resolve_args-end
+slice_bounds-resolve_args-end c = omega (arith, (list_span c.args.names.now c.args.words.now c.args.rows.now (length c.args.out.now) c.args.scope c.args.name c.args.at c.args.end c.requires.1 c.requires.0).1)
+
+pub resolve_args-s-requires : goal.resolve_args-s-requires
+resolve_args-s-requires c = (ready_args c.args.names.now c.args.words.now c.args.rows.now (length c.args.out.now) c.args.scope c.args.name c.args.at c.args.end c.requires.1 c.requires.0 (length-set c.args.out.now 0 _) (passed_as c.admits.ensures (rw c.in-Table.is at c.ruled.ensures)), name_fits c.args.names.now c.args.words.now c.args.rows.now (length c.args.out.now) c.args.scope c.args.name c.args.at c.args.end c.requires.1 c.requires.0 (passed_as c.admits.ensures (rw c.in-Table.is at c.ruled.ensures)))
+
+pub returns-in-Shut : goal.returns-in-Shut
+returns-in-Shut c = stopped _ _ (args_shut c.args.names.now c.args.words.now c.args.rows.now (length c.args.out.now) c.args.scope c.args.name c.args.at c.args.end c.requires.1 c.requires.0 _ (ruled_as c.args.names.now c.args.rows.now (c.args.end - c.args.at) (length c.args.out.now) _ c.admits.ensures (rw c.in-Shut.is at c.ruled.ensures)))
+
+pub shape_of-out : goal.shape_of-out
+shape_of-out c = c.resolve_args-s.auto.out ∙ length-set c.args.out.now 0 _
+
+pub returns-in-Table : goal.returns-in-Table
+returns-in-Table c = args_told c.args.names.now c.args.words.now c.args.rows.now (length c.args.out.now) c.args.scope c.args.name c.args.at c.args.end c.requires.1 c.requires.0 (passed_as c.admits.ensures (rw c.in-Table.is at c.ruled.ensures)) c.resolve_args-s.ensures

@@ -1,0 +1,15 @@
+-- `by_ref` is `places`: the procedure's own row decides first, then the parameter's row. Assumes nothing.
+use mathlib.Core.Path.{sym, ap, ◌∙◌}
+use Rattle.runs.specs.Laws.{holds_keeps}
+use Rattle.resolve.specs.FromRows.{by_ref}
+use Rattle.resolve.proofs.Asked.{known, unknown}
+use Rattle.resolve.proofs.by_ref.Goals as goal
+
+pub takes-requires : goal.takes-requires
+takes-requires c = (c.requires.0, c.find_entry.ensures.within)
+
+pub returns-then-has : goal.returns-then-has
+returns-then-has c = λ rows H. known rows c.args.f c.args.i _ (sym (c.has.ensures rows (holds_keeps H)) ∙ c.if-has.true) (c.takes.ensures ∙ ap by_ref (c.find_entry.ensures.found rows (holds_keeps H)))
+
+pub returns : goal.returns
+returns c = λ rows H. unknown rows c.args.f c.args.i (sym (c.has.ensures rows (holds_keeps H)) ∙ c.if-has.false)

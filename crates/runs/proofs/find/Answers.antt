@@ -1,0 +1,13 @@
+-- Fewer than 32 rows are one run; else `find_long` finds it. Assumes nothing.
+use Rattle.runs.specs.Laws.{keeps_short}
+use Rattle.runs.specs.Places.{row_filled}
+use Rattle.runs.specs.Parts.{found_part}
+use Rattle.runs.proofs.find.Goals as goal
+
+pub returns-then-count-lt32-clause-within : goal.returns-then-count-lt32-clause-within
+returns-then-count-lt32-clause-within c = c.find.ensures.within
+
+pub returns-then-count-lt32-clause-found : goal.returns-then-count-lt32-clause-found
+returns-then-count-lt32-clause-found c = λ rows K.
+    let H = keeps_short K c.if-count-lt32.true in
+    found_part c.args.b.now H (row_filled H.filled) c.args.k c.find.result c.find.ensures.within (c.find.ensures.found rows H)

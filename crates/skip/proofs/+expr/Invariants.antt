@@ -1,0 +1,16 @@
+-- What falls from call to call, and what the loop over a list keeps.
+use Prim.Native.Nat.{◌-◌, ◌<◌}
+use lib.ListN.{length}
+use Rattle.skip.proofs.Laws.{Left}
+use Rattle.skip.proofs.+expr.Given as goal
+
+abbrev pub decreases-expr : goal.decreases-expr
+decreases-expr l = length l.words.now - l.at
+
+abbrev pub invariant-loop-left : goal.invariant-loop-left
+invariant-loop-left l =
+    (l.at < l.m) × Left l.words l.at l.m l.left l.s.back
+
+abbrev pub decreases-loop-left : goal.decreases-loop-left
+decreases-loop-left l =
+    l.left

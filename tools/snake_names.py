@@ -14,6 +14,7 @@ import os
 import re
 import subprocess
 import sys
+import tempfile
 
 WORD = r'[^\s(){}.;,@"«»]+'
 QUIET = re.compile(r'"(?:[^"\\\n]|\\.)*"|(?<![^\s(){}.;,@"«»])--[^\n]*|//[^\n]*')
@@ -178,7 +179,7 @@ def main():
                 text = spans(t)
                 if text != t:
                     open(p, "w", encoding="utf-8").write(text)
-    with open("/tmp/snake_names.tsv", "w") as f:
+    with open(os.path.join(tempfile.gettempdir(), "snake_names.tsv"), "w") as f:
         f.writelines(f"{a}\t{b}\n" for a, b in sorted(new.items()))
     for c in sorted(crates):
         if os.path.isdir(os.path.join("crates", c, "src")):

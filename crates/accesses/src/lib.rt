@@ -9,6 +9,7 @@ ghost use Rattle.tree.specs.Memo.{Remembers};
 ghost use Rattle.accesses.specs.Post.{ReadyToken, DoneToken, ReadyScan, DoneScan, PastStmt, ReadyProgram, ResolvedProgram};
 
 use resolver::Spot;
+use table::Rows;
 
 // The place past the statement at `at`.
 fn past(words: &[u32], names: &[u8], at: usize, memo: &[u32]) -> usize
@@ -18,7 +19,7 @@ fn past(words: &[u32], names: &[u8], at: usize, memo: &[u32]) -> usize
     tree::past(words, names, names.len() as u32, memo, at)
 }
 
-// Copies one word.
+// Copies one word. One to three words are stored by hand here and below: a call that moves memory would cost more.
 fn one(words: &[u32], out: &mut [u32], at: usize, to: usize) -> Spot
     requires { (at < length words.now) × (to < length out.old) }
     ensures { (result.at ≡ at + 1) × (result.to ≡ to + 1) × (out.new ≡ set out.old to (get_or words.now at 0)) }
@@ -59,21 +60,20 @@ fn three(words: &[u32], out: &mut [u32], at: usize, to: usize, h: u32) -> Spot
 fn call(
     words: &[u32],
     names: &[u8],
-    rows: &[u32],
-    count: usize,
+    rows: &Rows<'_>,
     scope: u32,
     out: &mut [u32],
     at: usize,
     to: usize,
 ) -> Spot
-    requires { ReadyToken names.now words.now rows.now count scope at to (length out.old) × (kind_of (get_or words.now at 0) ≡ 21) }
-    ensures { DoneToken names.now words.now rows.now out.old out.new count scope at to result.at result.to }
+    requires { ReadyToken names.now words.now rows.now.words.now rows.now.count scope at to (length out.old) × (kind_of (get_or words.now at 0) ≡ 21) }
+    ensures { DoneToken names.now words.now rows.now.words.now out.old out.new rows.now.count scope at to result.at result.to }
 {
     let f = words[at + 1] % 16777216;
-    if lookup::has(rows, count, 135, f, 0) {
-        return resolver::resolve_expr(words, rows, count, scope, out, at, to);
+    if lookup::has(rows, 135, f, 0) {
+        return resolver::resolve_expr(words, rows, scope, out, at, to);
     }
-    let h = resolver::headed(resolve::is_array(rows, count, scope, f));
+    let h = resolver::headed(resolve::is_array(rows, scope, f));
     three(words, out, at, to, h)
 }
 
@@ -81,21 +81,20 @@ fn call(
 fn calling(
     words: &[u32],
     names: &[u8],
-    rows: &[u32],
-    count: usize,
+    rows: &Rows<'_>,
     scope: u32,
     out: &mut [u32],
     at: usize,
     to: usize,
 ) -> Spot
-    requires { ReadyToken names.now words.now rows.now count scope at to (length out.old) × (kind_of (get_or words.now at 0) ≡ 86) }
-    ensures { DoneToken names.now words.now rows.now out.old out.new count scope at to result.at result.to }
+    requires { ReadyToken names.now words.now rows.now.words.now rows.now.count scope at to (length out.old) × (kind_of (get_or words.now at 0) ≡ 86) }
+    ensures { DoneToken names.now words.now rows.now.words.now out.old out.new rows.now.count scope at to result.at result.to }
 {
     let f = words[at + 1] % 16777216;
     let n = words[at + 2] % 16777216;
     let s = three(words, out, at, to, words[at]);
-    if lookup::has(rows, count, 135, f, 0) {
-        return resolver::resolve_args(words, rows, count, scope, out, at + 3, to + 3, f, n);
+    if lookup::has(rows, 135, f, 0) {
+        return resolver::resolve_args(words, rows, scope, out, at + 3, to + 3, f, n);
     }
     s
 }
@@ -105,32 +104,20 @@ fn calling(
 fn procedure(
     words: &[u32],
     names: &[u8],
-    rows: &[u32],
-    count: usize,
+    rows: &Rows<'_>,
     scope: u32,
     out: &mut [u32],
     at: usize,
     to: usize,
     memo: &[u32],
 ) -> Spot
-    requires { ReadyToken names.now words.now rows.now count scope at to (length out.old) × (84 ≤ kind_of (get_or words.now at 0)) × (kind_of (get_or words.now at 0) < 86) × Remembers words.now names.now (length names.now) memo.now }
-    ensures { DoneToken names.now words.now rows.now out.old out.new count scope at to result.at result.to }
+    requires { ReadyToken names.now words.now rows.now.words.now rows.now.count scope at to (length out.old) × (84 ≤ kind_of (get_or words.now at 0)) × (kind_of (get_or words.now at 0) < 86) × Remembers words.now names.now (length names.now) memo.now }
+    ensures { DoneToken names.now words.now rows.now.words.now out.old out.new rows.now.count scope at to result.at result.to }
 {
     out[to] = words[at];
     let end = past(words, names, at, memo);
     let inner = plans::inside(words, at, scope);
-    let t = scan(
-        words,
-        names,
-        rows,
-        count,
-        inner,
-        out,
-        at + 1,
-        end,
-        to + 1,
-        memo,
-    );
+    let t = scan(words, names, rows, inner, out, at + 1, end, to + 1, memo);
     Spot { at: end, to: t }
 }
 
@@ -140,16 +127,15 @@ fn procedure(
 fn token(
     words: &[u32],
     names: &[u8],
-    rows: &[u32],
-    count: usize,
+    rows: &Rows<'_>,
     scope: u32,
     out: &mut [u32],
     at: usize,
     to: usize,
     memo: &[u32],
 ) -> Spot
-    requires { ReadyToken names.now words.now rows.now count scope at to (length out.old) × Remembers words.now names.now (length names.now) memo.now }
-    ensures { DoneToken names.now words.now rows.now out.old out.new count scope at to result.at result.to }
+    requires { ReadyToken names.now words.now rows.now.words.now rows.now.count scope at to (length out.old) × Remembers words.now names.now (length names.now) memo.now }
+    ensures { DoneToken names.now words.now rows.now.words.now out.old out.new rows.now.count scope at to result.at result.to }
 {
     let w = words[at];
     let k = w / 16777216;
@@ -157,15 +143,12 @@ fn token(
         return one(words, out, at, to);
     }
     match k {
-        21 => call(words, names, rows, count, scope, out, at, to),
+        21 => call(words, names, rows, scope, out, at, to),
         23 => Spot { at: at + 1, to },
-        24 => two(words, out, at, to),
-        25 => two(words, out, at, to),
-        26 => three(words, out, at, to, w),
-        27 => three(words, out, at, to, w),
-        84 => procedure(words, names, rows, count, scope, out, at, to, memo),
-        85 => procedure(words, names, rows, count, scope, out, at, to, memo),
-        86 => calling(words, names, rows, count, scope, out, at, to),
+        24 | 25 => two(words, out, at, to),
+        26 | 27 => three(words, out, at, to, w),
+        84 | 85 => procedure(words, names, rows, scope, out, at, to, memo),
+        86 => calling(words, names, rows, scope, out, at, to),
         _ => one(words, out, at, to),
     }
 }
@@ -175,8 +158,7 @@ fn token(
 fn scan(
     words: &[u32],
     names: &[u8],
-    rows: &[u32],
-    count: usize,
+    rows: &Rows<'_>,
     scope: u32,
     out: &mut [u32],
     from: usize,
@@ -184,17 +166,15 @@ fn scan(
     to: usize,
     memo: &[u32],
 ) -> usize
-    requires { ReadyScan names.now words.now rows.now count scope from end to (length out.old) × Remembers words.now names.now (length names.now) memo.now }
-    ensures { DoneScan names.now words.now rows.now out.old out.new count scope from end to result }
+    requires { ReadyScan names.now words.now rows.now.words.now rows.now.count scope from end to (length out.old) × Remembers words.now names.now (length names.now) memo.now }
+    ensures { DoneScan names.now words.now rows.now.words.now out.old out.new rows.now.count scope from end to result }
 {
-    let mut a = from;
-    let mut t = to;
-    while a < end {
-        let m = token(words, names, rows, count, scope, out, a, t, memo);
-        a = m.at;
-        t = m.to;
+    let mut spot = Spot { at: from, to };
+    // A `while`: a token takes one to three words, or all those of a call or a procedure.
+    while spot.at < end {
+        spot = token(words, names, rows, scope, out, spot.at, spot.to, memo);
     }
-    t
+    spot.to
 }
 
 // Resolves the program that is all of the words, of strings whose marks are `names`, with a memo of the ends of its
@@ -202,29 +182,27 @@ fn scan(
 pub fn resolve_with(
     words: &[u32],
     names: &[u8],
-    rows: &[u32],
-    count: usize,
+    rows: &Rows<'_>,
     out: &mut [u32],
     memo: &[u32],
 ) -> usize
-    requires { ReadyProgram names.now words.now rows.now count (length out.old) × Remembers words.now names.now (length names.now) memo.now }
-    ensures { ResolvedProgram names.now words.now rows.now out.old out.new count result }
+    requires { ReadyProgram names.now words.now rows.now.words.now rows.now.count (length out.old) × Remembers words.now names.now (length names.now) memo.now }
+    ensures { ResolvedProgram names.now words.now rows.now.words.now out.old out.new rows.now.count result }
 {
     let end = words.len();
-    scan(words, names, rows, count, 0, out, 0, end, 0, memo)
+    scan(words, names, rows, 0, out, 0, end, 0, memo)
 }
 
 // The same, where no memo is at hand.
 pub fn resolve_array_accesses(
     words: &[u32],
     names: &[u8],
-    rows: &[u32],
-    count: usize,
+    rows: &Rows<'_>,
     out: &mut [u32],
 ) -> usize
-    requires { ReadyProgram names.now words.now rows.now count (length out.old) }
-    ensures { ResolvedProgram names.now words.now rows.now out.old out.new count result }
+    requires { ReadyProgram names.now words.now rows.now.words.now rows.now.count (length out.old) }
+    ensures { ResolvedProgram names.now words.now rows.now.words.now out.old out.new rows.now.count result }
 {
     let memo = [0u32; 1];
-    resolve_with(words, names, rows, count, out, &memo)
+    resolve_with(words, names, rows, out, &memo)
 }

@@ -1,13 +1,12 @@
 -- What `analyse` tells, by the way that it took. No line here knows the code. Assumes nothing.
 use Prim.Native.Nat.{ℕ, ◌≤◌, ◌<◌}
 use mathlib.Core.Path.{◌≡◌, refl, sym, ap, ◌∙◌, subst}
-use mathlib.Core.Bool.{Bool, true, false}
+use mathlib.Core.Bool.{true, false}
 use mathlib.Core.List.{List, []}
 use mathlib.Core.Option.{some}
 use native.Mathlib.Omega.{arith}
 use lib.ListN.{length}
 use borrow.Author.Tests.{le-leb, lt-leb}
-use Rattle.words.specs.Word.{pick}
 use Rattle.words.specs.Told.{Told, stops, gives, after, unless}
 use Rattle.words.specs.Refusals.{number_of, place_of, refused}
 use Rattle.words.specs.declared.Refusal.{Refusal}
@@ -43,11 +42,10 @@ use Rattle.resolver.specs.Post.{Room}
 use Rattle.accesses.specs.Post.{ReadyProgram, ResolvedProgram}
 use Rattle.equivalence.specs.Analysis.{Analysis, result_of}
 use Rattle.analyse.specs.Analyse.{work, analysis_in, told, counted, rows_after, notes_after, out_after, Formed, Tells, Analyses}
-use Rattle.analyse.specs.Run.{Ends, Tabled, answer_of, refused_of}
-use Rattle.analyse.specs.declared.Outcome.{Outcome}
-use Rattle.analyse.specs.declared.Answer.{Answer}
-use Rattle.analyse.specs.declared.Answer.TheVariants.{Refused, Done}
+use Rattle.analyse.specs.Run.{Ends, Tabled}
 use Rattle.analyse.proofs.Stops.{Zeroing, analysed_zeroing}
+use Rattle.std.specs.Prelude.{Result, Err, Ok}
+use Rattle.analyse.specs.declared.Given.{Given}
 
 -- ---- rows and diagnostics
 
@@ -100,16 +98,16 @@ module _ {bytes ends erased ws marks : List ℕ} (P : Passed bytes ends erased w
   unfolding work after unless
   work_is N D O h = rw (P.accepted, le-leb (length ws) O h) refl
 
-tells_as : {r : Answer} {notes rows out notes' rows' out' : List ℕ} {t u : Told Analysis} → t ≡ u → Tells r notes rows out notes' rows' out' t → Tells r notes rows out notes' rows' out' u
+tells_as : {r : Result Given Refusal} {notes rows out notes' rows' out' : List ℕ} {t u : Told Analysis} → t ≡ u → Tells r notes rows out notes' rows' out' t → Tells r notes rows out notes' rows' out' u
 tells_as {r} {notes} {rows} {out} {notes'} {rows'} {out'} e T = subst (Tells r notes rows out notes' rows' out') e T
 
 -- a refusal that leaves the buffers as they came
-pub refused_tells : (f : Refusal) (notes rows out : List ℕ) → zeroing (number_of f) ≡ false → Tells (Refused f) notes rows out notes rows out (refused f)
+pub refused_tells : (f : Refusal) (notes rows out : List ℕ) → zeroing (number_of f) ≡ false → Tells (Err f) notes rows out notes rows out (refused f)
 unfolding told counted refused notes_after rows_after out_after Formed
 refused_tells f notes rows out z = record { answer = refl; notes_now = sym (pick_false _ _ z); rows_now = sym (pick_false _ _ z); out_now = refl; formed = tt }
 
 stopped_tells : (p : Program) (notes rows out : List ℕ) {s : Counts} {b d : List ℕ} {f : Refusal} (st : State) → Left (length rows) (length notes) st s b d → Ends (length rows) (length notes) st
-    → (s.stop ≡ 0 → ⊥) → Numbered s.stop f → Tells (Refused f) notes rows out d b out (result_of p st)
+    → (s.stop ≡ 0 → ⊥) → Numbered s.stop f → Tells (Err f) notes rows out d b out (result_of p st)
 unfolding counts_of rows_left notes_left Ends result_of told counted refused notes_after rows_after out_after Formed
 stopped_tells p notes rows out (running rs ns) L E h F = absurd (h (ap (λ (c : Counts). c.stop) L.answer))
 stopped_tells p notes rows out {f = f} (stopped k) L E h F =
@@ -132,7 +130,7 @@ room_of ws (stopped k) o L E h = absurd (stops_some E (sym (ap (λ (c : Counts).
 
 running_tells : (p : Program) (notes rows out ws ns : List ℕ) {s : Counts} {b d out' : List ℕ} {to : ℕ} (st : State) → Left (length rows) (length notes) st s b d → Ends (length rows) (length notes) st
     → s.stop ≡ 0 → Stands ws ns (length ns) 0 p (length ws) → length ws ≤ length out → ResolvedProgram ns ws b out out' s.rows to
-    → Tells (Done (record { notes = s.notes; rows = s.rows; words = to })) notes rows out d b out' (result_of p st)
+    → Tells (Ok (record { notes = s.notes; rows = s.rows; words = to })) notes rows out d b out' (result_of p st)
 unfolding counts_of rows_left notes_left Ends result_of resolve_array_accesses told counted notes_after rows_after out_after Formed
 running_tells p notes rows out ws ns {s} {b} {d} {out'} {to} (running rs ds) L E h S o R =
     let k : s.rows ≡ length rs = ap (λ (c : Counts). c.rows) L.answer in
@@ -157,14 +155,14 @@ whole_of {ws = ws} {marks} P = subst (λ (n : ℕ). Whole ws marks n P.program) 
 module _ {bytes ends erased ws marks : List ℕ} (P : Passed bytes ends erased ws marks) where
   module _ {notes rows out : List ℕ} (fits : length ws ≤ length out) {s : Counts} {b d : List ℕ} (T : Tabled bytes ends erased ws s rows notes b d) where
     -- a run that stopped
-    pub run_stopped : {f : Refusal} → (s.stop ≡ 0 → ⊥) → Numbered s.stop f → Tells (Refused f) notes rows out d b out (work (length rows) (length notes) (length out) bytes ends erased ws)
+    pub run_stopped : {f : Refusal} → (s.stop ≡ 0 → ⊥) → Numbered s.stop f → Tells (Err f) notes rows out d b out (work (length rows) (length notes) (length out) bytes ends erased ws)
     run_stopped h F =
         tells_as (sym (work_is P (length rows) (length notes) (length out) fits)) (
         stopped_tells P.program notes rows out _ (T.left P.program P.accepted) (T.ends_in P.program P.accepted) h F)
 
     -- one that goes on, and is resolved
     pub run_resolved : s.stop ≡ 0 → {out' : List ℕ} {to : ℕ} → ResolvedProgram marks ws b out out' s.rows to
-        → Tells (Done (record { notes = s.notes; rows = s.rows; words = to })) notes rows out d b out' (work (length rows) (length notes) (length out) bytes ends erased ws)
+        → Tells (Ok (record { notes = s.notes; rows = s.rows; words = to })) notes rows out d b out' (work (length rows) (length notes) (length out) bytes ends erased ws)
     run_resolved h R =
         tells_as (sym (work_is P (length rows) (length notes) (length out) fits)) (
         running_tells P.program notes rows out ws marks _ (T.left P.program P.accepted) (T.ends_in P.program P.accepted) h
@@ -186,48 +184,31 @@ module _ {bytes ends erased ws marks : List ℕ} (P : Passed bytes ends erased w
 
 -- 2, 3 or 4: the buffers are as they came
 pub not_accepted : (bytes ends erased ws notes rows out : List ℕ) {f : Refusal} → accepted_of (names_of bytes ends) ws erased ≡ stops (number_of f) (place_of f)
-    → Tells (Refused f) notes rows out notes rows out (work (length rows) (length notes) (length out) bytes ends erased ws)
+    → Tells (Err f) notes rows out notes rows out (work (length rows) (length notes) (length out) bytes ends erased ws)
 unfolding refused work after
 not_accepted bytes ends erased ws notes rows out {f} r = rw r (refused_tells f notes rows out (accepted_leaves (names_of bytes ends) ws erased r))
 
 -- an output that is shorter than the tree
 pub short_tells : {bytes ends erased ws marks : List ℕ} → Passed bytes ends erased ws marks → (notes rows out : List ℕ) → length out < length ws
-    → Tells (Refused Output) notes rows out notes rows out (work (length rows) (length notes) (length out) bytes ends erased ws)
+    → Tells (Err Output) notes rows out notes rows out (work (length rows) (length notes) (length out) bytes ends erased ws)
 unfolding work after unless zeroing refused
 short_tells {ws = ws} P notes rows out h = rw (P.accepted, lt-leb (length ws) (length out) h) (refused_tells Output notes rows out refl)
 
 -- ---- the entry
 
 -- what is told behind 5 and 1 is told by the entry
-pub entry_tells : {bytes ends erased words : List ℕ} {r : Answer} {notes rows out notes' rows' out' : List ℕ} {t : Told Analysis}
+pub entry_tells : {bytes ends erased words : List ℕ} {r : Result Given Refusal} {notes rows out notes' rows' out' : List ℕ} {t : Told Analysis}
     → Answers (sized_program bytes ends words erased) bytes ends t (work (length rows) (length notes) (length out) bytes ends erased words) → Tells r notes rows out notes' rows' out' t
     → Analyses bytes ends erased words r notes rows out notes' rows' out'
 unfolding analysis_in
 entry_tells A T = record { at = A.at; place = A.place; is = tells_as A.is T }
 
--- the answer of an outcome, by whether all is fine
-pub fine_answer : (o : Outcome) → o.fine ≡ true → Done (record { notes = o.notes; rows = o.rows; words = o.words }) ≡ answer_of o
-fine_answer o e = sym (ap (λ (b : Bool). pick b (Done (record { notes = o.notes; rows = o.rows; words = o.words })) (Refused o.refusal)) e)
-
--- a refusal's outcome tells what the refusal does
-pub outcome_refused : {o : Outcome} {f : Refusal} {notes rows out notes' rows' out' : List ℕ} {t : Told Analysis} → o ≡ refused_of f → Tells (Refused f) notes rows out notes' rows' out' t
-    → Tells (answer_of o) notes rows out notes' rows' out' t
-outcome_refused {notes = notes} {rows} {out} {notes'} {rows'} {out'} {t} e T = subst (λ (x : Outcome). Tells (answer_of x) notes rows out notes' rows' out' t) (sym e) T
-
--- and where it is not fine
-pub refused_answer : (o : Outcome) → o.fine ≡ false → Refused o.refusal ≡ answer_of o
-refused_answer o e = sym (ap (λ (b : Bool). pick b (Done (record { notes = o.notes; rows = o.rows; words = o.words })) (Refused o.refusal)) e)
-
--- what an answer tells, another that is the same tells
-pub same_tells : {a r : Answer} {notes rows out notes' rows' out' : List ℕ} {u : Told Analysis} → r ≡ a → Tells a notes rows out notes' rows' out' u → Tells r notes rows out notes' rows' out' u
-same_tells {a} {r} {notes} {rows} {out} {notes'} {rows'} {out'} {u} e T = subst (λ (x : Answer). Tells x notes rows out notes' rows' out' u) (sym e) T
-
 -- 5 and 1 leave the buffers
-pub size_tells : (notes rows out : List ℕ) → Tells (Refused Size) notes rows out notes rows out (stops 5 0)
+pub size_tells : (notes rows out : List ℕ) → Tells (Err Size) notes rows out notes rows out (stops 5 0)
 unfolding refused zeroing
 size_tells notes rows out = refused_tells Size notes rows out refl
 
 -- 1
-pub breaks_tells : (p : ℕ) (notes rows out : List ℕ) → Tells (Refused (Strings p)) notes rows out notes rows out (stops 1 p)
+pub breaks_tells : (p : ℕ) (notes rows out : List ℕ) → Tells (Err (Strings p)) notes rows out notes rows out (stops 1 p)
 unfolding refused zeroing
 breaks_tells p notes rows out = refused_tells (Strings p) notes rows out refl

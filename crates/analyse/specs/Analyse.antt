@@ -1,6 +1,6 @@
 -- `analyse`: collecting, collisions and resolving in one call, over lent strings, tree words and erased names, into three lent buffers: rows, diagnostics and
 -- resolved words. What it answers, and every word of the buffers afterwards. These are definitions.
-use Rattle.std.specs.Prelude.{ℕ, ◌*◌, ◌≤◌, ◌≡◌, List, leb, length}
+use Rattle.std.specs.Prelude.{ℕ, ◌*◌, ◌≤◌, ◌≡◌, List, leb, length, Result, Err, Ok}
 use Rattle.std.proofs.Math.Option.{some}
 use Rattle.std.proofs.lemmas.List.Edits.{sets}
 use Rattle.words.specs.Word.{pick}
@@ -15,8 +15,7 @@ use Rattle.steps.specs.Refused.{zeroing}
 use Rattle.collect.specs.Collect.{given, analysed}
 use Rattle.equivalence.specs.Analysis.{Analysis, result_of}
 use Rattle.analyse.specs.declared.Given.{Given}
-use Rattle.analyse.specs.declared.Answer.{Answer}
-use Rattle.analyse.specs.declared.Answer.TheVariants.{Refused, Done}
+use Rattle.words.specs.declared.Refusal.{Refusal}
 
 -- Behind the checks of sizes and strings: 2 or 3, then 4, then 10 where the output is shorter than the tree; then collecting and the collision check, which may
 -- stop with 7, 8 or 9; then resolving. A room is the words that a lent buffer has.
@@ -33,9 +32,9 @@ analysis_in rows notes out at bytes ends erased words = entry_of (sized_program 
 -- ---- the answer
 
 -- document 01's number and place, or how many diagnostics, rows and resolved words there are
-unfoldable pub told : Answer → Told Given
-told (Refused f) = refused f
-told (Done n) = gives n
+unfoldable pub told : Result Given Refusal → Told Given
+told (Err f) = refused f
+told (Ok n) = gives n
 
 -- the same of what the definition tells
 unfoldable pub counted : Told Analysis → Told Given
@@ -75,7 +74,7 @@ Formed rows notes out (gives a) = Fits rows notes out a
 -- ---- the promise
 
 -- the answer and the buffers are what the definition u gives
-pub record Tells (r : Answer) (notes rows out notes' rows' out' : List ℕ) (u : Told Analysis) : Type 0 where
+pub record Tells (r : Result Given Refusal) (notes rows out notes' rows' out' : List ℕ) (u : Told Analysis) : Type 0 where
   pub answer : told r ≡ counted u
   pub notes_now : notes' ≡ notes_after notes u
   pub rows_now : rows' ≡ rows_after rows u
@@ -83,7 +82,7 @@ pub record Tells (r : Answer) (notes rows out notes' rows' out' : List ℕ) (u :
   pub formed : Formed (length rows) (length notes) (length out) u
 
 -- and before it, 5 and 1
-pub record Analyses (bytes ends erased words : List ℕ) (r : Answer) (notes rows out notes' rows' out' : List ℕ) : Type 0 where
+pub record Analyses (bytes ends erased words : List ℕ) (r : Result Given Refusal) (notes rows out notes' rows' out' : List ℕ) : Type 0 where
   pub at : ℕ
   pub place : Place bytes ends at
   pub is : Tells r notes rows out notes' rows' out' (analysis_in (length rows) (length notes) (length out) at bytes ends erased words)

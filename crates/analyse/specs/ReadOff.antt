@@ -1,5 +1,5 @@
 -- What an answer and the buffers show, read off them by the answer's counts, is what the definition gives: for a caller that prints them. Assumes nothing.
-use Rattle.std.specs.Prelude.{ℕ, ◌+◌, ◌*◌, ◌≤◌, ◌≡◌, List, length, take, drop}
+use Rattle.std.specs.Prelude.{ℕ, ◌+◌, ◌*◌, ◌≤◌, ◌≡◌, List, length, take, drop, Result, Err, Ok}
 use Rattle.std.proofs.Common.{arith, ap, ◌∙◌, take_at}
 use Rattle.std.proofs.Math.Path.{refl}
 use Rattle.std.proofs.lemmas.List.Edits.{sets, sets-eq}
@@ -13,8 +13,6 @@ use Rattle.page.specs.Chunks.{chunks, chunks_filled}
 use Rattle.equivalence.specs.Analysis.{Analysis}
 use Rattle.analyse.specs.Analyse.{Fits, Formed, told, counted, rows_after, notes_after, out_after, Tells}
 use Rattle.analyse.specs.declared.Given.{Given}
-use Rattle.analyse.specs.declared.Answer.{Answer}
-use Rattle.analyse.specs.declared.Answer.TheVariants.{Refused, Done}
 
 -- what a program is given, but for its tree
 pub record Shown : Type 0 where
@@ -28,27 +26,27 @@ shown_of (stops n p) = stops n p
 shown_of (gives a) = gives (record { rows = a.rows; diagnostics = a.diagnostics; resolved = a.resolved })
 
 -- the same from the answer and the buffers
-unfoldable pub read_off : Answer → (notes rows out : List ℕ) → Told Shown
-read_off (Refused f) notes rows out = refused f
-read_off (Done n) notes rows out = gives (record { rows = chunks width n.rows rows; diagnostics = chunks note_width n.notes notes; resolved = take n.words out })
+unfoldable pub read_off : Result Given Refusal → (notes rows out : List ℕ) → Told Shown
+read_off (Err f) notes rows out = refused f
+read_off (Ok n) notes rows out = gives (record { rows = chunks width n.rows rows; diagnostics = chunks note_width n.notes notes; resolved = take n.words out })
 
 -- an answer's counts lie in the buffers
-abbrev pub Within : Answer → (notes rows out : List ℕ) → Type 0
-Within (Refused f) notes rows out = Unit {0}
-Within (Done n) notes rows out = (n.notes * note_width ≤ length notes) × (n.rows * width ≤ length rows) × (n.words ≤ length out)
+abbrev pub Within : Result Given Refusal → (notes rows out : List ℕ) → Type 0
+Within (Err f) notes rows out = Unit {0}
+Within (Ok n) notes rows out = (n.notes * note_width ≤ length notes) × (n.rows * width ≤ length rows) × (n.words ≤ length out)
 
 -- ---- answers case by case
 
-refused_as : (f : Refusal) (u : Told Analysis) (notes rows out : List ℕ) → told (Refused f) ≡ counted u → read_off (Refused f) notes rows out ≡ shown_of u
+refused_as : (f : Refusal) (u : Told Analysis) (notes rows out : List ℕ) → told (Err f) ≡ counted u → read_off (Err f) notes rows out ≡ shown_of u
 unfolding told counted refused read_off shown_of
 refused_as f (stops n p) notes rows out e = cc
 refused_as f (gives a) notes rows out e = absurd (let z : ◌≡◌ {A = ℕ} 0 1 = cc in omega arith)
 
-done_not : (n : Given) (m p : ℕ) → told (Done n) ≡ counted (stops m p) → ⊥
+done_not : (n : Given) (m p : ℕ) → told (Ok n) ≡ counted (stops m p) → ⊥
 unfolding told counted
 done_not n m p e = let z : ◌≡◌ {A = ℕ} 0 1 = cc in omega arith
 
-done_counts : (n : Given) (a : Analysis) → told (Done n) ≡ counted (gives a) → n ≡ record { notes = length a.diagnostics; rows = length a.rows; words = length a.resolved }
+done_counts : (n : Given) (a : Analysis) → told (Ok n) ≡ counted (gives a) → n ≡ record { notes = length a.diagnostics; rows = length a.rows; words = length a.resolved }
 unfolding told counted
 done_counts n a e = cc
 
@@ -65,11 +63,11 @@ words_read : (out xs : List ℕ) → length xs ≤ length out → take (length x
 words_read out xs h = ap (take (length xs)) (sets-eq xs out 0 (omega arith)) ∙ take_at xs (drop (0 + length xs) out) (length xs) refl
 
 module _ {notes rows out notes' rows' out' : List ℕ} where
-  shown : (n : Given) (a : Analysis) → Tells (Done n) notes rows out notes' rows' out' (gives a) → read_off (Done n) notes' rows' out' ≡ shown_of (gives a)
+  shown : (n : Given) (a : Analysis) → Tells (Ok n) notes rows out notes' rows' out' (gives a) → read_off (Ok n) notes' rows' out' ≡ shown_of (gives a)
   unfolding read_off shown_of rows_after notes_after out_after Formed
   shown n a t = rw (done_counts n a t.answer, t.rows_now, t.notes_now, t.out_now, chunks_filled (rows_filled a t.formed), chunks_filled (notes_filled a t.formed), words_read out a.resolved t.formed.words_fit) refl
 
-  lies : (n : Given) (a : Analysis) → Tells (Done n) notes rows out notes' rows' out' (gives a) → Within (Done n) notes' rows' out'
+  lies : (n : Given) (a : Analysis) → Tells (Ok n) notes rows out notes' rows' out' (gives a) → Within (Ok n) notes' rows' out'
   unfolding rows_after notes_after out_after Formed
   lies n a t =
       let F = t.formed in
@@ -80,13 +78,13 @@ module _ {notes rows out notes' rows' out' : List ℕ} where
       )
 
   -- what is read off is what the definition gives
-  pub read_off_lem : (r : Answer) (u : Told Analysis) → Tells r notes rows out notes' rows' out' u → read_off r notes' rows' out' ≡ shown_of u
-  read_off_lem (Refused f) u t = refused_as f u notes' rows' out' t.answer
-  read_off_lem (Done n) (stops m p) t = absurd (done_not n m p t.answer)
-  read_off_lem (Done n) (gives a) t = shown n a t
+  pub read_off_lem : (r : Result Given Refusal) (u : Told Analysis) → Tells r notes rows out notes' rows' out' u → read_off r notes' rows' out' ≡ shown_of u
+  read_off_lem (Err f) u t = refused_as f u notes' rows' out' t.answer
+  read_off_lem (Ok n) (stops m p) t = absurd (done_not n m p t.answer)
+  read_off_lem (Ok n) (gives a) t = shown n a t
 
   -- and the counts lie in the buffers
-  pub within : (r : Answer) (u : Told Analysis) → Tells r notes rows out notes' rows' out' u → Within r notes' rows' out'
-  within (Refused f) u t = tt
-  within (Done n) (stops m p) t = absurd (done_not n m p t.answer)
-  within (Done n) (gives a) t = lies n a t
+  pub within : (r : Result Given Refusal) (u : Told Analysis) → Tells r notes rows out notes' rows' out' u → Within r notes' rows' out'
+  within (Err f) u t = tt
+  within (Ok n) (stops m p) t = absurd (done_not n m p t.answer)
+  within (Ok n) (gives a) t = lies n a t

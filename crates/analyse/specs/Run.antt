@@ -1,5 +1,5 @@
 -- What the contracts behind the checks of sizes and strings cite. These are definitions.
-use Rattle.std.specs.Prelude.{ℕ, ◌*◌, ◌≤◌, true, false, ◌≡◌, List, length}
+use Rattle.std.specs.Prelude.{ℕ, ◌*◌, ◌≤◌, true, ◌≡◌, List, length}
 use Rattle.std.proofs.Math.Option.{some}
 use Rattle.tree.specs.Tree.{Program}
 use Rattle.words.specs.Told.{gives}
@@ -12,19 +12,6 @@ use Rattle.steps.specs.declared.Counts.{Counts}
 use Rattle.steps.specs.Held.{Left}
 use Rattle.collect.specs.Collect.{given, analysed}
 use Rattle.tree.specs.Memo.{Remembers}
-use Rattle.words.specs.Word.{pick}
-use Rattle.words.specs.declared.Refusal.{Refusal}
-use Rattle.analyse.specs.declared.Outcome.{Outcome}
-use Rattle.analyse.specs.declared.Answer.{Answer}
-use Rattle.analyse.specs.declared.Answer.TheVariants.{Refused, Done}
-
--- the answer that an outcome is
-abbrev pub answer_of : Outcome → Answer
-answer_of o = pick o.fine (Done (record { notes = o.notes; rows = o.rows; words = o.words })) (Refused o.refusal)
-
--- the outcome that is a refusal
-abbrev pub refused_of : Refusal → Outcome
-refused_of f = record { notes = 0; rows = 0; words = 0; refusal = f; fine = false }
 
 -- what the memo remembers is right, whatever the strings' marks are
 pub record Blank (ws memo : List ℕ) : Type 0 where

@@ -1,6 +1,6 @@
 -- Demand 3 of the code: what two runs of `analyse` leave in their buffers, for two programs with the same strings and the same erased names, whatever the
 -- lengths of the buffers are. Assumes nothing.
-use Rattle.std.specs.Prelude.{ℕ, refl, ◌↔◌, Bool, List, [], leb, length, take}
+use Rattle.std.specs.Prelude.{ℕ, refl, ◌↔◌, Bool, List, [], leb, length, take, Ok}
 use Rattle.std.proofs.Common.{arith, sym, ◌∙◌}
 use Rattle.std.proofs.Math.Path.{◌≡◌, ap}
 use Rattle.std.proofs.Math.Bool.{true, false}
@@ -22,7 +22,6 @@ use Rattle.equivalence.proofs.Demand3.{demand_3}
 use Rattle.analyse.specs.Analyse.{work, analysis_in, told, counted, rows_after, notes_after, Tells, Analyses}
 use Rattle.analyse.specs.ReadOff.{Shown, shown_of, read_off, read_off_lem}
 use Rattle.analyse.specs.declared.Given.{Given}
-use Rattle.analyse.specs.declared.Answer.TheVariants.{Done}
 
 -- ---- a run that gives no number gives what the analysis without an output's length does
 
@@ -78,12 +77,12 @@ record Stood (bytes ends erased words : List ℕ) (n : Given) (notes rows notes'
   notes_are : notes' ≡ image note_width (length notes) a.diagnostics
 
 module _ {bytes ends erased words : List ℕ} {n : Given} {notes rows out notes' rows' out' : List ℕ} where
-  stood_by : (at : ℕ) (u : Told Analysis) → analysis_in (length rows) (length notes) (length out) at bytes ends erased words ≡ u → Tells (Done n) notes rows out notes' rows' out' u
+  stood_by : (at : ℕ) (u : Told Analysis) → analysis_in (length rows) (length notes) (length out) at bytes ends erased words ≡ u → Tells (Ok n) notes rows out notes' rows' out' u
       → Stood bytes ends erased words n notes rows notes' rows' out'
   unfolding told counted read_off shown_of rows_in notes_in words_in rows_after notes_after
   stood_by at (stops m p) e t = absurd (let h = t.answer in let z : ◌≡◌ {A = ℕ} 0 1 = cc in omega arith)
   stood_by at (gives a) e t =
-      let q = read_off_lem (Done n) (gives a) t in
+      let q = read_off_lem (Ok n) (gives a) t in
       record {
         a = a;
         accepts = accepted bytes ends erased words (length rows) (length notes) at a (without_ten (length rows) (length notes) (length out) at bytes ends erased words a e);
@@ -95,7 +94,7 @@ module _ {bytes ends erased words : List ℕ} {n : Given} {notes rows out notes'
         notes_are = t.notes_now;
       }
 
-  stood : Analyses bytes ends erased words (Done n) notes rows out notes' rows' out' → Stood bytes ends erased words n notes rows notes' rows' out'
+  stood : Analyses bytes ends erased words (Ok n) notes rows out notes' rows' out' → Stood bytes ends erased words n notes rows notes' rows' out'
   stood r = stood_by r.at (analysis_in (length rows) (length notes) (length out) r.at bytes ends erased words) refl r.is
 
 -- ---- two runs
@@ -149,6 +148,6 @@ module _ {bytes ends erased words words₂ : List ℕ} {n n₂ : Given} {notes r
       }
 
   -- so it is of what two calls of `analyse` leave that give no number
-  pub demand_3_code : {out out₂ : List ℕ} → Analyses bytes ends erased words (Done n) notes rows out notes' rows' out' → Analyses bytes ends erased words₂ (Done n₂) notes₂ rows₂ out₂ notes₂' rows₂' out₂'
+  pub demand_3_code : {out out₂ : List ℕ} → Analyses bytes ends erased words (Ok n) notes rows out notes' rows' out' → Analyses bytes ends erased words₂ (Ok n₂) notes₂ rows₂ out₂ notes₂' rows₂' out₂'
       → TwoRuns bytes ends words words₂ (length rows) (length rows₂) (length notes) (length notes₂) n n₂ rows' rows₂' notes' notes₂' out' out₂'
   demand_3_code p q = two (stood p) (stood q)

@@ -9,62 +9,18 @@ ghost use Rattle.steps.specs.Held.{Fresh};
 ghost use Rattle.collect.specs.Code.{Named};
 ghost use Rattle.collect.specs.Passed.{Passed};
 ghost use Rattle.analyse.specs.Analyse.{Tells, Analyses, work};
-ghost use Rattle.analyse.specs.Run.{Tabled, Blank, answer_of, refused_of};
+ghost use Rattle.analyse.specs.Run.{Tabled, Blank};
 
-use reader::Accepted;
 use steps::Counts;
-use strings::Verdict;
+use table::Rows;
 use words::Refusal;
 
 // How many diagnostics, rows and resolved words stand in their buffers.
-#[derive(Clone, Copy)]
+#[derive(Clone, Copy, PartialEq, Eq, Debug)]
 pub struct Given {
     pub notes: usize,
     pub rows: usize,
     pub words: usize,
-}
-
-#[derive(Clone, Copy)]
-pub enum Answer {
-    Refused(Refusal),
-    Done(Given),
-}
-
-// The same inside: the counts where all is fine, else the refusal. The two share no room, so that it is passed on without being taken apart.
-#[derive(Clone, Copy)]
-struct Outcome {
-    notes: usize,
-    rows: usize,
-    words: usize,
-    refusal: Refusal,
-    fine: bool,
-}
-
-fn answered(o: Outcome) -> Answer
-    ensures { result ≡ answer_of o }
-{
-    if o.fine {
-        return Answer::Done(Given {
-            notes: o.notes,
-            rows: o.rows,
-            words: o.words,
-        });
-    }
-    let f = o.refusal;
-    Answer::Refused(f)
-}
-
-// No counts, but why there are none.
-fn refused(f: Refusal) -> Outcome
-    ensures { result ≡ refused_of f }
-{
-    Outcome {
-        notes: 0,
-        rows: 0,
-        words: 0,
-        refusal: f,
-        fine: false,
-    }
 }
 
 // Rows and diagnostics of a program that passed the checks; a run that stops leaves zeros.
@@ -83,10 +39,9 @@ fn tables(
     ensures { Tabled bytes.now ends.now erased.now words.now result rows.old notes.old rows.new notes.new }
 {
     let s = steps::begin_in(rows, notes, fresh);
-    let m = collecting::statements(
+    let c = collecting::statements(
         words, names, bytes, ends, erased, rows, notes, s, 0, 0, memo,
     );
-    let c = m.counts;
     steps::settle(rows, c);
     let d = collisions::collisions(bytes, ends, rows, notes, c);
     steps::finish(rows, notes, d)
@@ -104,22 +59,24 @@ fn run(
     out: &mut [u32],
     memo: &[u32],
     fresh: bool,
-) -> Outcome
+) -> Result<Given, Refusal>
     requires { Passed bytes.now ends.now erased.now words.now names.now × (length words.now ≤ length out.old) × Remembers words.now names.now (length names.now) memo.now × Fresh fresh rows.old notes.old }
-    ensures { Tells (answer_of result) notes.old rows.old out.old notes.new rows.new out.new (work (length rows.old) (length notes.old) (length out.old) bytes.now ends.now erased.now words.now) }
+    ensures { Tells result notes.old rows.old out.old notes.new rows.new out.new (work (length rows.old) (length notes.old) (length out.old) bytes.now ends.now erased.now words.now) }
 {
     let s = tables(words, names, bytes, ends, erased, rows, notes, memo, fresh);
     if s.stop != 0 {
-        return refused(steps::refusal(s.stop));
+        return Err(steps::refusal(s.stop));
     }
-    let count = accesses::resolve_with(words, names, rows, s.rows, out, memo);
-    Outcome {
+    let kept = Rows {
+        words: rows,
+        count: s.rows,
+    };
+    let count = accesses::resolve_with(words, names, &kept, out, memo);
+    Ok(Given {
         notes: s.notes,
         rows: s.rows,
         words: count,
-        refusal: Refusal::Size,
-        fine: true,
-    }
+    })
 }
 
 // Where the names' marks are known: 2 or 3, 4, 10, and then the run, with a memo of the ends of procedures.
@@ -134,21 +91,17 @@ fn noted(
     out: &mut [u32],
     memo: &mut [u32],
     fresh: bool,
-) -> Outcome
+) -> Result<Given, Refusal>
     requires { Named bytes.now ends.now names.now × (length names.now ≤ max_strings) × Remembers words.now names.now (length names.now) memo.old × Fresh fresh rows.old notes.old }
-    ensures { Tells (answer_of result) notes.old rows.old out.old notes.new rows.new out.new (work (length rows.old) (length notes.old) (length out.old) bytes.now ends.now erased.now words.now) }
+    ensures { Tells result notes.old rows.old out.old notes.new rows.new out.new (work (length rows.old) (length notes.old) (length out.old) bytes.now ends.now erased.now words.now) }
 {
-    match reader::check_program_with(words, erased, names, memo) {
-        Accepted::Refused(f) => refused(f),
-        Accepted::Fine => {
-            if out.len() < words.len() {
-                return refused(Refusal::Output);
-            }
-            run(
-                words, names, bytes, ends, erased, notes, rows, out, memo, fresh,
-            )
-        }
+    reader::check_program_with(words, erased, names, memo)?;
+    if out.len() < words.len() {
+        return Err(Refusal::Output);
     }
+    run(
+        words, names, bytes, ends, erased, notes, rows, out, memo, fresh,
+    )
 }
 
 // Where the strings are sound: their marks, one for each, and then the checks of the tree, with an empty memo.
@@ -163,9 +116,9 @@ fn marked_in(
     out: &mut [u32],
     memo: &mut [u32],
     fresh: bool,
-) -> Outcome
+) -> Result<Given, Refusal>
     requires { (sound bytes.now ends.now ≡ true) × (length ends.now ≤ max_strings) × (length marks.old ≡ length ends.now) × Blank words.now memo.old × Fresh fresh rows.old notes.old }
-    ensures { Tells (answer_of result) notes.old rows.old out.old notes.new rows.new out.new (work (length rows.old) (length notes.old) (length out.old) bytes.now ends.now erased.now words.now) }
+    ensures { Tells result notes.old rows.old out.old notes.new rows.new out.new (work (length rows.old) (length notes.old) (length out.old) bytes.now ends.now erased.now words.now) }
 {
     strings::mark_names(bytes, ends, marks);
     noted(
@@ -173,9 +126,9 @@ fn marked_in(
     )
 }
 
-// With room for the marks of all strings that a table may have, and for the ends of 2,047 procedures. An odd number of slots: procedures of equal length get
-// different ones.
-fn many(
+// With room for the marks of so many strings, and a memo of so many words. Not inlined, so that the large arrays of one size stay out of the stack of the others.
+#[inline(never)]
+fn marked_with<const STRINGS: usize, const MEMO: usize>(
     words: &[u32],
     bytes: &[u8],
     ends: &[u32],
@@ -184,13 +137,13 @@ fn many(
     rows: &mut [u32],
     out: &mut [u32],
     fresh: bool,
-) -> Outcome
-    requires { (sound bytes.now ends.now ≡ true) × (length ends.now ≤ max_strings) × Fresh fresh rows.old notes.old }
-    ensures { Tells (answer_of result) notes.old rows.old out.old notes.new rows.new out.new (work (length rows.old) (length notes.old) (length out.old) bytes.now ends.now erased.now words.now) }
+) -> Result<Given, Refusal>
+    requires { (sound bytes.now ends.now ≡ true) × (length ends.now ≤ max_strings) × (length ends.now ≤ STRINGS) × (STRINGS ≤ max_strings) × (MEMO ≤ 4094) × Fresh fresh rows.old notes.old }
+    ensures { Tells result notes.old rows.old out.old notes.new rows.new out.new (work (length rows.old) (length notes.old) (length out.old) bytes.now ends.now erased.now words.now) }
 {
     let n = ends.len();
-    let mut marks = [0u8; 1024];
-    let mut memo = [0u32; 4094];
+    let mut marks = [0u8; STRINGS];
+    let mut memo = [0u32; MEMO];
     marked_in(
         words,
         &mut marks[..n],
@@ -205,8 +158,8 @@ fn many(
     )
 }
 
-// Most programs have few strings and words, and so little room to clear. The other function is called twice, so that the compiler leaves its large arrays out of
-// this one.
+// Most programs have few strings and words, and so little room to clear; the others have room for the marks of all strings that a table may have, and for the ends
+// of 2,047 procedures. An odd number of slots: procedures of equal length get different ones.
 fn marked(
     words: &[u32],
     bytes: &[u8],
@@ -216,31 +169,15 @@ fn marked(
     rows: &mut [u32],
     out: &mut [u32],
     fresh: bool,
-) -> Outcome
+) -> Result<Given, Refusal>
     requires { (sound bytes.now ends.now ≡ true) × (length ends.now ≤ max_strings) × Fresh fresh rows.old notes.old }
-    ensures { Tells (answer_of result) notes.old rows.old out.old notes.new rows.new out.new (work (length rows.old) (length notes.old) (length out.old) bytes.now ends.now erased.now words.now) }
+    ensures { Tells result notes.old rows.old out.old notes.new rows.new out.new (work (length rows.old) (length notes.old) (length out.old) bytes.now ends.now erased.now words.now) }
 {
-    let n = ends.len();
-    if 64 < n {
-        return many(words, bytes, ends, erased, notes, rows, out, fresh);
+    if ends.len() <= 64 && words.len() <= 2048 {
+        marked_with::<64, 128>(words, bytes, ends, erased, notes, rows, out, fresh)
+    } else {
+        marked_with::<1024, 4094>(words, bytes, ends, erased, notes, rows, out, fresh)
     }
-    if 2048 < words.len() {
-        return many(words, bytes, ends, erased, notes, rows, out, fresh);
-    }
-    let mut marks = [0u8; 64];
-    let mut memo = [0u32; 128];
-    marked_in(
-        words,
-        &mut marks[..n],
-        bytes,
-        ends,
-        erased,
-        notes,
-        rows,
-        out,
-        &mut memo,
-        fresh,
-    )
 }
 
 // A refusal leaves the buffers as they came, but for 7, 8 and 9, which leave rows and diagnostics zero. Rows and diagnostics that are zeros, as in new buffers,
@@ -254,19 +191,15 @@ pub fn analyse_in(
     rows: &mut [u32],
     out: &mut [u32],
     fresh: bool,
-) -> Answer
+) -> Result<Given, Refusal>
     requires { Fresh fresh rows.old notes.old }
     ensures { Analyses bytes.now ends.now erased.now words.now result notes.old rows.old out.old notes.new rows.new out.new }
 {
     if !reader::sized_program(bytes, ends, words, erased) {
-        return Answer::Refused(Refusal::Size);
+        return Err(Refusal::Size);
     }
-    let v = strings::check(bytes, ends);
-    if let Verdict::Breaks(p) = v {
-        return Answer::Refused(Refusal::Strings(p));
-    }
-    let o = marked(words, bytes, ends, erased, notes, rows, out, fresh);
-    answered(o)
+    strings::check(bytes, ends)?;
+    marked(words, bytes, ends, erased, notes, rows, out, fresh)
 }
 
 // Into buffers that may hold anything.
@@ -278,7 +211,7 @@ pub fn analyse(
     notes: &mut [u32],
     rows: &mut [u32],
     out: &mut [u32],
-) -> Answer
+) -> Result<Given, Refusal>
     ensures { Analyses bytes.now ends.now erased.now words.now result notes.old rows.old out.old notes.new rows.new out.new }
 {
     analyse_in(bytes, ends, words, erased, notes, rows, out, false)

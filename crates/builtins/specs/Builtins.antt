@@ -1,6 +1,6 @@
 -- `BUILTINS` of sema.rs, in its order: each builtin function's name, and the least and most arguments that it takes. These are definitions.
 use Prim.Native.String as S
-use Rattle.std.specs.Prelude.{ℕ, ◌-◌, Bool, true, false, not, ◌&&◌, ◌||◌, List, [], ◌∷◌, ◌++◌, map, leb, eqb, length, get_or, replicate}
+use Rattle.std.specs.Prelude.{ℕ, Bool, true, false, not, ◌&&◌, ◌||◌, List, [], ◌∷◌, leb, eqb, length, get_or}
 use Rattle.std.proofs.Math.Option.{Option, none, some}
 use Rattle.words.specs.Word.{pick}
 use Rattle.text.specs.Text.{ascii}
@@ -105,23 +105,7 @@ unfoldable pub is_builtin : List ℕ → Bool
 unfolding builtin
 is_builtin name = is_some (builtin name)
 
--- ---- for contracts inside and proofs
-
--- the code's table: the name's length, the least and most arguments, the name and zeros
-unfoldable pub cells_of : Builtin → List ℕ
-cells_of b = length b.name ∷ b.least ∷ b.most ∷ b.name ++ replicate (7 - length b.name) 0
-
--- the rows of all builtins
-unfoldable pub cells : List (List ℕ)
-unfolding builtins cells_of
-cells = map cells_of builtins
-
--- the name of builtin i (`name_at` of expr/specs/Reader.antt reads a name's number)
-unfoldable pub name_at : ℕ → List ℕ
-unfolding builtins
-name_at i = get_or (map (λ (b : Builtin). b.name) builtins) i []
-
--- ---- a quick test that every builtin's name passes, and few others
+-- ---- for contracts inside and proofs: a quick test that every builtin's name passes, and few others
 
 -- the lengths from 3 to 7 that go with a first byte
 unfoldable pub length_fits : (first n : ℕ) → Bool

@@ -1,151 +1,93 @@
 // The builtin functions of sema.rs, by name.
 #![tactic(auto)]
 
-ghost use Rattle.std.specs.Prelude.{◌≡◌, ◌||◌, [], ◌<◌, get_or, eqb};
-ghost use Rattle.words.specs.Word.{flatten};
-ghost use Rattle.builtins.specs.Builtins.{cells, name_at, same, length_fits, may_be, builtin as builtin_of};
-ghost use Rattle.builtins.specs.Answers.{arguments_of};
+ghost use Rattle.std.specs.Prelude.{◌≡◌, map};
+ghost use Rattle.builtins.specs.Builtins.{length_fits, may_be, entry_of, builtin as builtin_of};
+ghost use Rattle.builtins.specs.Answers.{arguments_of, told};
 
-// `BUILTINS` of sema.rs: ten bytes for each, the name's length, the least and most arguments, the name and zeros.
-const BUILTINS: [u8; 550] = *b"\
-\x03\x01\x01ABS\0\0\0\0\
-\x03\x01\x01ASC\0\0\0\0\
-\x03\x01\x01ATN\0\0\0\0\
-\x04\x01\x01CDBL\0\0\0\
-\x04\x01\x01CHR$\0\0\0\
-\x04\x01\x01CINT\0\0\0\
-\x04\x01\x01CLNG\0\0\0\
-\x03\x01\x01COS\0\0\0\0\
-\x04\x01\x01CSNG\0\0\0\
-\x03\x01\x01CVD\0\0\0\0\
-\x03\x01\x01CVI\0\0\0\0\
-\x03\x01\x01CVL\0\0\0\0\
-\x03\x01\x01CVS\0\0\0\0\
-\x03\x01\x01EOF\0\0\0\0\
-\x03\x01\x01EXP\0\0\0\0\
-\x03\x01\x01FIX\0\0\0\0\
-\x04\x01\x01HEX$\0\0\0\
-\x05\x02\x03INSTR\0\0\
-\x03\x01\x01INT\0\0\0\0\
-\x06\x01\x02LBOUND\0\
-\x06\x01\x01LCASE$\0\
-\x05\x02\x02LEFT$\0\0\
-\x03\x01\x01LEN\0\0\0\0\
-\x03\x01\x01LOC\0\0\0\0\
-\x03\x01\x01LOF\0\0\0\0\
-\x06\x01\x01LTRIM$\0\
-\x03\x01\x01LOG\0\0\0\0\
-\x04\x02\x03MID$\0\0\0\
-\x04\x01\x01MKD$\0\0\0\
-\x04\x01\x01MKI$\0\0\0\
-\x04\x01\x01MKL$\0\0\0\
-\x04\x01\x01MKS$\0\0\0\
-\x04\x01\x01OCT$\0\0\0\
-\x03\x01\x01POS\0\0\0\0\
-\x05\x00\x00DATE$\0\0\
-\x05\x00\x00TIME$\0\0\
-\x03\x01\x01FRE\0\0\0\0\
-\x06\x02\x02RIGHT$\0\
-\x06\x01\x01RTRIM$\0\
-\x03\x00\x01RND\0\0\0\0\
-\x03\x01\x01SGN\0\0\0\0\
-\x03\x01\x01SPC\0\0\0\0\
-\x03\x01\x01SIN\0\0\0\0\
-\x06\x01\x01SPACE$\0\
-\x03\x01\x01SQR\0\0\0\0\
-\x04\x01\x01STR$\0\0\0\
-\x07\x02\x02STRING$\
-\x03\x01\x01TAB\0\0\0\0\
-\x06\x01\x02UBOUND\0\
-\x06\x01\x01UCASE$\0\
-\x03\x01\x01TAN\0\0\0\0\
-\x05\x00\x01TIMER\0\0\
-\x03\x00\x00ERR\0\0\0\0\
-\x03\x00\x00ERL\0\0\0\0\
-\x03\x01\x01VAL\0\0\0\0";
-
-fn cell(table: &[u8], i: usize, j: usize) -> u8
-    requires { (table.now ≡ flatten cells) × (i < 55) × (j < 10) }
-    ensures { result ≡ get_or (get_or cells i []) j 0 }
-{
-    table[i * 10 + j]
+// The least and most arguments that a builtin function takes.
+#[derive(Clone, Copy, Debug, PartialEq, Eq)]
+pub struct Arguments {
+    pub least: u8,
+    pub most: u8,
 }
 
-// Whether it is the name of entry i.
-fn is_named(name: &[u8], table: &[u8], i: usize) -> bool
-    requires { (table.now ≡ flatten cells) × (i < 55) }
-    ensures { result ≡ same name.now (name_at i) }
-{
-    let n = cell(table, i, 0) as usize;
-    if name.len() != n {
-        return false;
-    }
-    let mut j = 0;
-    while j < n {
-        if name[j] != cell(table, i, j + 3) {
-            return false;
-        }
-        j += 1;
-    }
-    true
-}
+// A builtin function: its name, and the least and most arguments.
+struct Takes(&'static [u8], u8, u8);
 
-// A builtin function: unknown, or the least and most arguments that it takes.
-#[derive(Clone, Copy)]
-pub enum Arguments {
-    Unknown,
-    Takes { least: u8, most: u8 },
-}
-
-// The entry of that name.
-fn search(name: &[u8], table: &[u8]) -> Arguments
-    requires { table.now ≡ flatten cells }
-    ensures { result ≡ arguments_of (builtin_of name.now) }
-{
-    let mut i = 0;
-    while i < 55 {
-        if is_named(name, table, i) {
-            return Arguments::Takes {
-                least: cell(table, i, 1),
-                most: cell(table, i, 2),
-            };
-        }
-        i += 1;
-    }
-    Arguments::Unknown
-}
-
-// Whether a length is one of two.
-fn is_either(n: usize, a: usize, b: usize) -> bool
-    ensures { result ≡ (eqb n a || eqb n b) }
-{
-    if n == a {
-        return true;
-    }
-    n == b
-}
+// `BUILTINS` of sema.rs.
+static BUILTINS: [Takes; 55] = [
+    Takes(b"ABS", 1, 1),
+    Takes(b"ASC", 1, 1),
+    Takes(b"ATN", 1, 1),
+    Takes(b"CDBL", 1, 1),
+    Takes(b"CHR$", 1, 1),
+    Takes(b"CINT", 1, 1),
+    Takes(b"CLNG", 1, 1),
+    Takes(b"COS", 1, 1),
+    Takes(b"CSNG", 1, 1),
+    Takes(b"CVD", 1, 1),
+    Takes(b"CVI", 1, 1),
+    Takes(b"CVL", 1, 1),
+    Takes(b"CVS", 1, 1),
+    Takes(b"EOF", 1, 1),
+    Takes(b"EXP", 1, 1),
+    Takes(b"FIX", 1, 1),
+    Takes(b"HEX$", 1, 1),
+    Takes(b"INSTR", 2, 3),
+    Takes(b"INT", 1, 1),
+    Takes(b"LBOUND", 1, 2),
+    Takes(b"LCASE$", 1, 1),
+    Takes(b"LEFT$", 2, 2),
+    Takes(b"LEN", 1, 1),
+    Takes(b"LOC", 1, 1),
+    Takes(b"LOF", 1, 1),
+    Takes(b"LTRIM$", 1, 1),
+    Takes(b"LOG", 1, 1),
+    Takes(b"MID$", 2, 3),
+    Takes(b"MKD$", 1, 1),
+    Takes(b"MKI$", 1, 1),
+    Takes(b"MKL$", 1, 1),
+    Takes(b"MKS$", 1, 1),
+    Takes(b"OCT$", 1, 1),
+    Takes(b"POS", 1, 1),
+    Takes(b"DATE$", 0, 0),
+    Takes(b"TIME$", 0, 0),
+    Takes(b"FRE", 1, 1),
+    Takes(b"RIGHT$", 2, 2),
+    Takes(b"RTRIM$", 1, 1),
+    Takes(b"RND", 0, 1),
+    Takes(b"SGN", 1, 1),
+    Takes(b"SPC", 1, 1),
+    Takes(b"SIN", 1, 1),
+    Takes(b"SPACE$", 1, 1),
+    Takes(b"SQR", 1, 1),
+    Takes(b"STR$", 1, 1),
+    Takes(b"STRING$", 2, 2),
+    Takes(b"TAB", 1, 1),
+    Takes(b"UBOUND", 1, 2),
+    Takes(b"UCASE$", 1, 1),
+    Takes(b"TAN", 1, 1),
+    Takes(b"TIMER", 0, 1),
+    Takes(b"ERR", 0, 0),
+    Takes(b"ERL", 0, 0),
+    Takes(b"VAL", 1, 1),
+];
 
 // Whether a builtin's name of 3 to 7 bytes that begins with this one may have this length.
 fn length_fits(first: u8, n: usize) -> bool
     ensures { result ≡ length_fits first n }
 {
     match first {
-        65 => n == 3,
-        67 => n <= 4,
-        68 => n == 5,
-        69 => n == 3,
-        70 => n == 3,
-        72 => n == 4,
-        73 => is_either(n, 3, 5),
-        76 => n != 4,
-        77 => n == 4,
-        79 => n == 4,
-        80 => n == 3,
-        82 => is_either(n, 3, 6),
-        83 => n != 5,
-        84 => is_either(n, 3, 5),
-        85 => n == 6,
-        86 => n == 3,
+        b'A' | b'E' | b'F' | b'P' | b'V' => n == 3,
+        b'C' => n <= 4,
+        b'D' => n == 5,
+        b'H' | b'M' | b'O' => n == 4,
+        b'I' | b'T' => n == 3 || n == 5,
+        b'L' => n != 4,
+        b'R' => n == 3 || n == 6,
+        b'S' => n != 5,
+        b'U' => n == 6,
         _ => false,
     }
 }
@@ -154,24 +96,29 @@ fn length_fits(first: u8, n: usize) -> bool
 fn may_be(name: &[u8]) -> bool
     ensures { result ≡ may_be name.now }
 {
-    let n = name.len();
-    if n < 3 {
-        return false;
+    match name.len() {
+        n @ 3..=7 => length_fits(name[0], n),
+        _ => false,
     }
-    if 7 < n {
-        return false;
-    }
-    length_fits(name[0], n)
 }
 
-// The builtin function of that name. The table is made once for all entries, and only for a name that may be one: a constant costs its length
-// wherever it is named.
-pub fn builtin(name: &[u8]) -> Arguments
+// The first entry of that name.
+fn search(name: &[u8], entries: &[Takes]) -> Option<Arguments>
+    ensures { result ≡ arguments_of (entry_of name.now (map told entries.now)) }
+{
+    let entry = entries.iter().find(|entry| entry.0 == name)?;
+    Some(Arguments {
+        least: entry.1,
+        most: entry.2,
+    })
+}
+
+// The builtin function of that name. Few other names pass the quick test before the search.
+pub fn builtin(name: &[u8]) -> Option<Arguments>
     ensures { result ≡ arguments_of (builtin_of name.now) }
 {
     if !may_be(name) {
-        return Arguments::Unknown;
+        return None;
     }
-    let table = BUILTINS;
-    search(name, &table)
+    search(name, &BUILTINS)
 }

@@ -1,26 +1,25 @@
 -- Collecting can't tell a program from the one with all parentheses gone and all calls written as elements.
-use Rattle.std.specs.Prelude.{ℕ, ◌≡◌, refl, List, [], eqb}
+use Rattle.std.specs.Prelude.{◌≡◌, refl, List, [], eqb, Err}
 use Rattle.std.proofs.Common.{ap, ap₂}
 use Rattle.words.specs.Word.{pick}
-use Rattle.expr.specs.Expr.{Expr, Exprs, Lit, Var, Elem, Unary, Binary, Call, Field, Paren}
+use Rattle.expr.specs.Expr.{Expr, Lit, Var, Elem, Unary, Binary, Call, Field, Paren}
 use Rattle.tree.specs.Tree.{Shape, Tree, word, value, Stmt, list, part, this, that, done, cons, none, more, over}
 use Rattle.views.specs.Strip.{strip_e, strip}
 use Rattle.table.specs.Rows.{Row}
 use Rattle.fold.specs.Fold.{negate_of, binary_of}
-use Rattle.fold.specs.declared.Fold.TheVariants.{NotConstant}
 use Rattle.consteval.specs.ConstEval.{const_eval}
-use Rattle.subscripts.specs.Subscripts.{in_expr}
 use Rattle.subscripts.specs.Blind.{in_expr_strip}
-use Rattle.collect.specs.Seen.{Seen, see}
+use Rattle.collect.specs.Seen.{see}
 use Rattle.steps.specs.State.{running}
 use Rattle.collect.specs.Collect.{Given, collected, analysed, check_name_collisions, collect}
+use Rattle.fold.specs.declared.Unfolded.TheVariants.{NotConstant}
 
 const_eval_strip : (rows : List Row) (e : Expr) → const_eval rows (strip_e e) ≡ const_eval rows e
 unfolding const_eval strip_e
 const_eval_strip rows (Lit l) = refl
 const_eval_strip rows (Var n) = refl
 const_eval_strip rows (Elem n es) = refl
-const_eval_strip rows (Unary o e) = ap (λ f. pick (eqb o 0) (negate_of f) NotConstant) (const_eval_strip rows e)
+const_eval_strip rows (Unary o e) = ap (λ f. pick (eqb o 0) (negate_of f) (Err NotConstant)) (const_eval_strip rows e)
 const_eval_strip rows (Binary o l r) = ap₂ (binary_of o) (const_eval_strip rows l) (const_eval_strip rows r)
 const_eval_strip rows (Call n es) = refl
 const_eval_strip rows (Field e n) = refl

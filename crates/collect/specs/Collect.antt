@@ -3,7 +3,7 @@
 -- The kinds of rows, whose words entries/specs/Entries.antt lists: 128 line number, 129 label, 130 TYPE, 131 field, 132 CONST, 133 array,
 -- 134 typed variable, 135 procedure, 136 parameter, 137 DIM SHARED, 138 SHARED item, 139 STATIC item, 140 STATIC procedure, 141 DEF FN,
 -- 142 unranked array parameter, 143 OPTION BASE seen.
-use Rattle.std.specs.Prelude.{ℕ, ◌+◌, ◌%◌, Bool, true, false, ◌&&◌, ◌||◌, not, List, [], ◌∷◌, ◌++◌, eqb, leb, length, get_or}
+use Rattle.std.specs.Prelude.{ℕ, ◌+◌, ◌%◌, Bool, true, false, ◌&&◌, ◌||◌, not, List, [], ◌∷◌, ◌++◌, eqb, leb, length, get_or, Ok, Err}
 use Rattle.std.proofs.Math.Option.{Option, none, some}
 use Rattle.words.specs.Word.{kind_of, pay_of, pick}
 use Rattle.strings.specs.Name.{suffix}
@@ -12,10 +12,8 @@ use Rattle.expr.specs.Expr.{Expr}
 use Rattle.tree.specs.Sorts.{body}
 use Rattle.tree.specs.Tree.{Shape, one, Tree, over}
 use Rattle.views.specs.View.{TypeRef, Integer, Long, Single, Double, FixedString, Record, head, arg, head_of, arg_of, Declarator, Param, ScopeItem, FieldDecl, View, Label, LabelName, OptionBase, TypeDef, Const, Shared, Static, Dim, Redim, Sub, Function, Other, walk}
-use Rattle.fold.specs.declared.Fold.{Fold}
-use Rattle.fold.specs.declared.Fold.TheVariants.{Is, Overflow, NotConstant}
 use Rattle.fold.specs.declared.Value.{Value}
-use Rattle.fold.specs.Value.{literal_kind, low_of, high_of}
+use Rattle.fold.specs.Value.{literal_kind, low_of, high_of, Fold}
 use Rattle.table.specs.Rows.{Row, find}
 use Rattle.entries.specs.Entries.{entry_key, row_word, has, line_row, label_row, type_row, field_row, const_row, array_row, typed_var_row, proc_row, param_row, dim_shared_row, shared_row, static_row, static_proc_row, def_fn_row, unranked_row, option_base_row, replace_type, replace_proc}
 use Rattle.lookup.specs.Lookup.{type_words, from_suffix, from_type_ref}
@@ -24,6 +22,7 @@ use Rattle.subscripts.specs.Subscripts.{subscript_count}
 use Rattle.steps.specs.State.{State, running, Step, ◌⨾◌, nothing, when, asking, each, stop, change, enter, push}
 use Rattle.collect.specs.Diagnostics.{duplicate_line, duplicate_label, type_defined, type_inside, field_twice, contains_itself, field_undefined, option_base_twice, option_base_late, const_defined, const_overflow, not_constant, items_outside, dim_shared_inside, suffix_differs, undefined_type, declared_twice, no_dimension, array_twice, other_rank, fixed_param, fixed_result, proc_inside, proc_defined, param_undefined, array_and_proc, array_and_builtin}
 use Rattle.collect.specs.Seen.{Seen, see}
+use Rattle.fold.specs.declared.Unfolded.TheVariants.{Overflow, NotConstant}
 
 -- what is given beside the tree: the words that the lent buffers of rows and of diagnostics have (none: no limit), the bytes of each string,
 -- the erased names
@@ -218,9 +217,9 @@ module _ (G : Given) where
 
   -- a value is entered, a failure said
   unfoldable pub folded : (line name : ℕ) → Fold → Step
-  folded line name (Is v) = entry (const_of name v)
-  folded line name Overflow = error (const_overflow line name)
-  folded line name NotConstant = error (not_constant line name)
+  folded line name (Ok v) = entry (const_of name v)
+  folded line name (Err Overflow) = error (const_overflow line name)
+  folded line name (Err NotConstant) = error (not_constant line name)
 
   -- a name that has a value is said; the new value counts, if there is one
   unfoldable pub const : (line name : ℕ) → Seen → Step

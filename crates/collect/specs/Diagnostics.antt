@@ -1,6 +1,6 @@
 -- The diagnostics: code, line, two names in the message's order, a number, the note's line; what a message lacks is 0. Above each, its message in sema.rs.
 -- A note stands on a line of its own.
-use Rattle.std.specs.Prelude.{ℕ, ◌+◌, Bool, true, false, List, [], ◌∷◌}
+use Rattle.std.specs.Prelude.{ℕ, ◌+◌, Bool, true, false, [], ◌∷◌}
 use Rattle.table.specs.Rows.{Row}
 use Rattle.entries.specs.Entries.{bit}
 

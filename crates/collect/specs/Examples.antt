@@ -11,12 +11,12 @@ use Rattle.views.specs.Build.{Statement, program, declarator, lowered, param, it
 use Rattle.subscripts.specs.Subscripts as S
 use Rattle.fold.specs.Value.{value_of}
 use Rattle.fold.specs.Fold as F
-use Rattle.table.specs.Rows.{Row, find, insert, insert_all, remove, replace, key}
+use Rattle.table.specs.Rows.{find, insert, insert_all, remove, replace, key}
 use Rattle.lookup.specs.Lookup as L
 use Rattle.text.specs.Text.{ascii}
 use Rattle.builtins.specs.Builtins as N
 use Rattle.consteval.specs.ConstEval.{literal, const_eval}
-use Rattle.collect.specs.Seen.{Seen, see}
+use Rattle.collect.specs.Seen.{see}
 use Rattle.steps.specs.State as T
 use Rattle.steps.specs.State.{State, running, stopped, Step}
 use Rattle.collect.specs.Collect as C

@@ -1,5 +1,5 @@
 -- What the checks' answer says of the program; that a program that passed is all of the words; and that no number of the checks leaves zeros. Assumes nothing.
-use Rattle.std.specs.Prelude.{ℕ, ◌≤◌, ◌≡◌, refl, Bool, true, false, List, eqb, length, take}
+use Rattle.std.specs.Prelude.{ℕ, ◌≤◌, ◌≡◌, refl, Bool, true, false, List, eqb, length, take, Result, Ok, Err}
 use Rattle.std.proofs.Common.{sym, ap, ◌∙◌, subst, arith}
 use Rattle.tree.specs.Tree.{Program}
 use Rattle.words.specs.Word.{pick}
@@ -13,8 +13,6 @@ use Rattle.expr.specs.Got.{Got, got, wrong, deep}
 use Rattle.tree.specs.Reader.{program_at}
 use Rattle.reader.specs.Program.{whole_of, erased_from, program_of, accepted_of, verdict, told as told_program}
 use Rattle.reader.specs.Whole.{Whole, accepted_whole}
-use Rattle.reader.specs.declared.Accepted.{Accepted}
-use Rattle.reader.specs.declared.Accepted.TheVariants.{Fine, Refused}
 use Rattle.steps.specs.Refused.{zeroing}
 use Rattle.collect.specs.Code.{Named}
 use Rattle.collect.specs.Passed.{Passed}
@@ -39,12 +37,12 @@ unfolding verdict
 verdict_gives (stops n p) e = let z : ◌≡◌ {A = ℕ} 0 1 = cc in absurd (omega arith)
 verdict_gives (gives a) e = record { value = a; is = refl }
 
-by_names : {bytes ends marks : List ℕ} (erased ws : List ℕ) (a : Accepted) → Named bytes ends marks → told_program a ≡ verdict (accepted_of marks ws erased)
+by_names : {bytes ends marks : List ℕ} (erased ws : List ℕ) (a : Result (Unit {0}) Refusal) → Named bytes ends marks → told_program a ≡ verdict (accepted_of marks ws erased)
     → told_program a ≡ verdict (accepted_of (names_of bytes ends) ws erased)
 by_names erased ws a N e = e ∙ ap (λ (ns : List ℕ). verdict (accepted_of ns ws erased)) N.names
 
--- the code's Fine: the program is accepted
-pub passed : {bytes ends erased ws marks : List ℕ} {a : Accepted} → Named bytes ends marks → length marks ≤ max_strings → told_program a ≡ verdict (accepted_of marks ws erased) → a ≡ Fine
+-- the code's Ok: the program is accepted
+pub passed : {bytes ends erased ws marks : List ℕ} {a : Result (Unit {0}) Refusal} → Named bytes ends marks → length marks ≤ max_strings → told_program a ≡ verdict (accepted_of marks ws erased) → a ≡ (Ok tt)
     → Passed bytes ends erased ws marks
 unfolding told_program
 passed {bytes} {ends} {erased} {ws} {a = a} N few e q =
@@ -52,7 +50,7 @@ passed {bytes} {ends} {erased} {ws} {a = a} N few e q =
     record { named = N; few = few; program = g.value; accepted = g.is }
 
 -- the code's refusal: the definition stops with its number and place
-pub not_passed : {bytes ends marks : List ℕ} (erased ws : List ℕ) {a : Accepted} {f : Refusal} → Named bytes ends marks → told_program a ≡ verdict (accepted_of marks ws erased) → a ≡ Refused f
+pub not_passed : {bytes ends marks : List ℕ} (erased ws : List ℕ) {a : Result (Unit {0}) Refusal} {f : Refusal} → Named bytes ends marks → told_program a ≡ verdict (accepted_of marks ws erased) → a ≡ Err f
     → accepted_of (names_of bytes ends) ws erased ≡ stops (number_of f) (place_of f)
 unfolding told_program refused
 not_passed {bytes} {ends} erased ws {a} N e q = verdict_stops (accepted_of (names_of bytes ends) ws erased) (sym (ap told_program q) ∙ by_names erased ws a N e)

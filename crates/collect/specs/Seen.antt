@@ -3,9 +3,9 @@ use Rattle.std.specs.Prelude.{ℕ, List}
 use Rattle.std.proofs.Math.Option.{Option}
 use Rattle.expr.specs.Expr.{Expr}
 use Rattle.table.specs.Rows.{Row}
-use Rattle.fold.specs.declared.Fold.{Fold}
 use Rattle.consteval.specs.ConstEval.{const_eval}
 use Rattle.subscripts.specs.Subscripts.{in_expr}
+use Rattle.fold.specs.Value.{Fold}
 
 -- its fold under given rows, and the subscripts of a name's first use
 pub record Seen : Type 0 where

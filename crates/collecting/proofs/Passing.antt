@@ -3,6 +3,7 @@ use Prim.Native.Nat.{ℕ, ◌+◌, ◌≤◌, ◌<◌}
 use native.Mathlib.Omega.{arith}
 use mathlib.Core.Path.{◌≡◌, refl, sym, ap, ◌∙◌}
 use mathlib.Core.List.{List, [], ◌∷◌, append-nil}
+use Rattle.std.specs.Prelude.{Option, Some, None}
 use lib.ListN.{length, get_or}
 use Rattle.words.specs.Word.{kind_of}
 use Rattle.expr.specs.Expr.{Expr}
@@ -141,25 +142,25 @@ module _ {ws : List ℕ} {at to : ℕ} (z : at < to) where
   pass_single o I = record { ahead = omega arith; past = λ ns n xs h. past_single h z o I }
 
   -- as many words as are taken at once
-  pub pass : {r : ℕ} → Takes (kind_of (get_or ws at 0)) r → (r ≡ 0 → ⊥) → Passes ws at (at + r) to
-  pass (two l u e) f = rw e record { ahead = omega arith; past = λ ns n xs h. past_words (at_raw h z l u) }
-  pass (three l u e) f = rw e record { ahead = omega arith; past = λ ns n xs h. past_words (at_raws h z l u) }
-  pass (single o I e) f = rw e (pass_single o I)
-  pass (doing D e) f = absurd (f e)
+  pub pass : {r : Option ℕ} {n : ℕ} → Takes (kind_of (get_or ws at 0)) r → r ≡ Some n → Passes ws at (at + n) to
+  pass {r} {n} (two l u e) f = let q : n ≡ 2 = cc in rw q record { ahead = omega arith; past = λ ns n xs h. past_words (at_raw h z l u) }
+  pass {r} {n} (three l u e) f = let q : n ≡ 3 = cc in rw q record { ahead = omega arith; past = λ ns n xs h. past_words (at_raws h z l u) }
+  pass {r} {n} (single o I e) f = let q : n ≡ 1 = cc in rw q (pass_single o I)
+  pass {r} {n} (doing D e) f = cc
 
 -- where none is taken, the statement does something
-pub none_taken : {k r : ℕ} → Takes k r → r ≡ 0 → Doing k
-none_taken (two l u e) z = absurd (omega arith)
-none_taken (three l u e) z = absurd (omega arith)
-none_taken (single o I e) z = absurd (omega arith)
+pub none_taken : {k : ℕ} {r : Option ℕ} → Takes k r → r ≡ None → Doing k
+none_taken (two l u e) z = cc
+none_taken (three l u e) z = cc
+none_taken (single o I e) z = cc
 none_taken (doing D e) z = D
 
--- at most three words are taken at once
-pub few_taken : {k r : ℕ} → Takes k r → r ≤ 3
-few_taken (two l u e) = omega arith
-few_taken (three l u e) = omega arith
-few_taken (single o I e) = omega arith
-few_taken (doing D e) = omega arith
+-- one to three words are taken at once
+pub few_taken : {k n : ℕ} {r : Option ℕ} → Takes k r → r ≡ Some n → (0 < n) × (n ≤ 3)
+few_taken {k} {n} (two l u e) f = let q : n ≡ 2 = cc in omega arith
+few_taken {k} {n} (three l u e) f = let q : n ≡ 3 = cc in omega arith
+few_taken {k} {n} (single o I e) f = let q : n ≡ 1 = cc in omega arith
+few_taken {k} {n} (doing D e) f = let q : n ≡ 1 = cc in omega arith
 
 -- ---- some items
 

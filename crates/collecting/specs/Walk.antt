@@ -1,6 +1,6 @@
 -- What the scan of collecting asks and promises: whatever stands there is collected, and the lent rows stay such that a lent table may have them.
 -- Definitions only.
-use Rattle.std.specs.Prelude.{ℕ, ◌≤◌, ◌≡◌, List, length, get_or}
+use Rattle.std.specs.Prelude.{ℕ, ◌≤◌, ◌≡◌, List, length, get_or, Option, Some, None}
 use Rattle.std.proofs.Math.Option.{some}
 use Rattle.words.specs.Word.{kind_of}
 use Rattle.expr.specs.Expr.{Expr}
@@ -92,11 +92,11 @@ pub record Idle (k : ℕ) : Type 0 where
   pub no_type_def : k ≡ 93 → ⊥
 
 -- how many words a scan takes at once where the kind of the first is k: a literal with its raw words, any other word that says nothing, none of a statement that may do something
-pub data Takes (k r : ℕ) : Type 0 where
-  two : 24 ≤ k → k ≤ 25 → r ≡ 2 → Takes k r
-  three : 26 ≤ k → k ≤ 27 → r ≡ 3 → Takes k r
-  single : (24 ≤ k → k ≤ 27 → ⊥) → Idle k → r ≡ 1 → Takes k r
-  doing : Doing k → r ≡ 0 → Takes k r
+pub data Takes (k : ℕ) (r : Option ℕ) : Type 0 where
+  two : 24 ≤ k → k ≤ 25 → r ≡ Some 2 → Takes k r
+  three : 26 ≤ k → k ≤ 27 → r ≡ Some 3 → Takes k r
+  single : (24 ≤ k → k ≤ 27 → ⊥) → Idle k → r ≡ Some 1 → Takes k r
+  doing : Doing k → r ≡ None → Takes k r
 
 -- some items stand from a place to another
 pub record SomeItems (ws : List ℕ) (at to : ℕ) : Type 0 where

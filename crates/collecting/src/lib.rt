@@ -11,13 +11,6 @@ ghost use Rattle.collecting.specs.Walk.{Ready, Alone, ReadyProcedure, ReadyWhole
 
 use steps::Counts;
 
-// The counts, and the place past what was walked.
-#[derive(Clone, Copy)]
-pub struct Moved {
-    pub counts: Counts,
-    pub next: usize,
-}
-
 // One statement that is no procedure, but for its bodies.
 fn statement(
     words: &[u32],
@@ -65,36 +58,35 @@ fn procedure(
     ensures { (erased : List ℕ) → Stated words.now names.now (length ends.now) bytes.now ends.now erased scope at s result b.old d.old b.new d.new }
 {
     if words[at] / 16777216 == 84 {
-        return procedures::sub(words, names, bytes, ends, b, d, s, scope, at, end);
+        procedures::sub(words, names, bytes, ends, b, d, s, scope, at, end)
+    } else {
+        procedures::function(words, names, bytes, ends, b, d, s, scope, at, end)
     }
-    procedures::function(words, names, bytes, ends, b, d, s, scope, at, end)
 }
 
 // The words of what stands there, a literal with its raw words; none of a statement that may do something.
-fn quiet(k: u32) -> usize
+fn quiet(k: u32) -> Option<usize>
     ensures { Takes k result }
 {
     match k {
-        24 | 25 => 2,
-        26 | 27 => 3,
-        64 | 65 | 79 | 81..=85 | 89 | 92 | 93 => 0,
-        _ => 1,
+        24 | 25 => Some(2),
+        26 | 27 => Some(3),
+        64 | 65 | 79 | 81..=85 | 89 | 92 | 93 => None,
+        _ => Some(1),
     }
 }
 
-// Past the leaves, which are most of the words.
+// Past the leaves, which are most of the words. (A `for` and no `find`: of that the check does not see by itself that all before its answer are leaves.)
 fn leaves(words: &[u32], from: usize, to: usize) -> usize
     requires { SomeItems words.now from to }
     ensures { Passes words.now from result to }
 {
-    let mut at = from;
-    while at < to {
+    for at in from..to {
         if 24 <= words[at] / 16777216 {
             return at;
         }
-        at += 1;
     }
-    at
+    to
 }
 
 // The next statement that may do something, or `to`: no other word says anything.
@@ -104,17 +96,18 @@ fn ahead(words: &[u32], from: usize, to: usize) -> usize
     ensures doing { result < to → Doing (kind_of (get_or words.now result 0)) }
 {
     let mut at = leaves(words, from, to);
+    // A `while`: what stands there takes one to three words.
     while at < to {
-        let n = quiet(words[at] / 16777216);
-        if n == 0 {
+        let Some(n) = quiet(words[at] / 16777216) else {
             return at;
-        }
+        };
         at = leaves(words, at + n, to);
     }
     at
 }
 
-// All statements of the words from one place to another, by one scan: a literal's raw words are passed over, and a procedure's body is scanned in its own scope.
+// All statements of the words from one place to another, by one scan: a literal's raw words are passed over, and a procedure's body is scanned in its own scope. A `while`:
+// a statement's head is one word, a procedure has as many as it has.
 fn scan(
     words: &[u32],
     names: &[u8],
@@ -140,8 +133,10 @@ fn scan(
                 let e = tree::past(words, names, ends.len() as u32, memo, at);
                 let own = plans::inside(words, at, scope);
                 t = procedure(words, names, bytes, ends, b, d, t, scope, at, e);
-                let m = at + 1;
-                t = scan(words, names, bytes, ends, erased, b, d, t, own, m, e, memo);
+                let first = at + 1;
+                t = scan(
+                    words, names, bytes, ends, erased, b, d, t, own, first, e, memo,
+                );
                 at = ahead(words, e, to);
             }
             _ => {
@@ -166,13 +161,22 @@ pub fn statements(
     scope: u32,
     at: usize,
     memo: &[u32],
-) -> Moved
+) -> Counts
     requires { ReadyWhole words.now names.now bytes.now ends.now scope at s b.old d.old × Remembers words.now names.now (length names.now) memo.now }
-    ensures { Collects words.now names.now bytes.now ends.now erased.now scope at result.next s result.counts b.old d.old b.new d.new }
+    ensures { Collects words.now names.now bytes.now ends.now erased.now scope at (length words.now) s result b.old d.old b.new d.new }
 {
-    let n = words.len();
-    let c = scan(
-        words, names, bytes, ends, erased, b, d, s, scope, at, n, memo,
-    );
-    Moved { counts: c, next: n }
+    scan(
+        words,
+        names,
+        bytes,
+        ends,
+        erased,
+        b,
+        d,
+        s,
+        scope,
+        at,
+        words.len(),
+        memo,
+    )
 }

@@ -1,15 +1,17 @@
 -- What the entry's answers tell, by the way that they took. No line here knows the code. Assumes nothing.
 use Prim.Native.Nat.{ℕ}
 use mathlib.Core.Path.{◌≡◌, refl, sym, ap, subst, ◌∙◌}
-use mathlib.Core.Bool.{true, false}
+use mathlib.Core.Bool.{Bool, true, false}
+use native.Mathlib.Omega.{arith}
 use mathlib.Core.List.{List, []}
 use mathlib.Core.Option.{some}
 use lib.ListN.{length}
-use Rattle.words.specs.Told.{Told, stops, after}
+use Rattle.words.specs.Told.{Told, stops, gives, after, unless}
 use Rattle.words.specs.Refusals.{refused, number_of, place_of}
 use Rattle.words.specs.declared.Refusal.{Refusal}
-use Rattle.words.specs.declared.Refusal.TheVariants.{Size, Strings}
-use Rattle.strings.specs.Table.{names_of}
+use Rattle.strings.specs.Table.{sound, names_of}
+use Rattle.strings.specs.Open.{Answers, entry_of}
+use Rattle.reader.specs.Begun.{Begun}
 use Rattle.reader.specs.Program.{accepted_of}
 use Rattle.consteval.specs.EvalLaws.{Words32}
 use Rattle.steps.specs.State.{State, running, stopped}
@@ -26,14 +28,14 @@ use Rattle.lawful.specs.Views.{stands_known}
 use Rattle.lawful.specs.Lawful.{collected_good}
 use Rattle.collecting.specs.Walk.{Collects}
 use Rattle.collection.specs.Entry.{Buffers, buffers_of, work, told, Leaves, Tells, Tabled}
-use Rattle.collection.specs.declared.Answer.{Answer}
-use Rattle.collection.specs.declared.Answer.TheVariants.{Refused, Done}
+use Rattle.std.specs.Prelude.{Result, Err, Ok}
+use Rattle.collection.specs.declared.Sizes.{Sizes}
 
 -- ---- 2, 3 and 4
 
 -- they are told, and the buffers are as they came
 pub refused_tells : (bytes ends erased ws : List ℕ) (N D : ℕ) {f : Refusal} (b d : List ℕ) → accepted_of (names_of bytes ends) ws erased ≡ stops (number_of f) (place_of f)
-    → Tells (Refused f) b d b d (work N D bytes ends erased ws)
+    → Tells (Err f) b d b d (work N D bytes ends erased ws)
 unfolding work after told refused
 refused_tells bytes ends erased ws N D {f} b d r =
     let z : zeroing (number_of f) ≡ false = accepted_leaves (names_of bytes ends) ws erased r in
@@ -60,14 +62,14 @@ module _ (ns : List ℕ) (n : ℕ) (b d b' d' : List ℕ) (r : Counts) where
   stopping (running rows notes) L g h = absurd (h (ap (λ (c : Counts). c.stop) L.answer))
   stopping (stopped k) L g h = ap (λ (c : Counts). zeroing c.stop) L.answer ∙ g
 
-  stop_tells : (st : State) → Left (length b) (length d) st r b' d' → Good ns n st → (r.stop ≡ 0 → ⊥) → {f : Refusal} → Numbered r.stop f → Tells (Refused f) b d b' d' (buffers_of (length b) (length d) st)
+  stop_tells : (st : State) → Left (length b) (length d) st r b' d' → Good ns n st → (r.stop ≡ 0 → ⊥) → {f : Refusal} → Numbered r.stop f → Tells (Err f) b d b' d' (buffers_of (length b) (length d) st)
   unfolding counts_of rows_left notes_left buffers_of told refused
   stop_tells (running rows notes) L g h F = absurd (h (ap (λ (c : Counts). c.stop) L.answer))
   stop_tells (stopped k) L g h {f} F =
       let k_is : number_of f ≡ k = F.number ∙ ap (λ (c : Counts). c.stop) L.answer in
       record { is = rw (k_is, F.place) refl; leaves = (rw g L.rows, rw g L.notes) }
 
-  done_tells : (st : State) → Left (length b) (length d) st r b' d' → Good ns n st → r.stop ≡ 0 → Tells (Done (record { rows = r.rows; notes = r.notes })) b d b' d' (buffers_of (length b) (length d) st)
+  done_tells : (st : State) → Left (length b) (length d) st r b' d' → Good ns n st → r.stop ≡ 0 → Tells (Ok (record { rows = r.rows; notes = r.notes })) b d b' d' (buffers_of (length b) (length d) st)
   unfolding counts_of rows_left notes_left buffers_of told
   done_tells (running rows notes) L g h = record { is = rw (L.answer, L.rows, L.notes) refl; leaves = tt }
   done_tells (stopped k) L g h = absurd (stops_some g (sym (ap (λ (c : Counts). c.stop) L.answer) ∙ h))
@@ -82,25 +84,29 @@ module _ {bytes ends erased ws ns : List ℕ} {r : Counts} {b d b' d' : List ℕ
   work_is = rw P.accepted refl
 
   -- its number is told
-  pub run_refused : (r.stop ≡ 0 → ⊥) → {f : Refusal} → Numbered r.stop f → Tells (Refused f) b d b' d' (work (length b) (length d) bytes ends erased ws)
-  run_refused h {f} F = subst (Tells (Refused f) b d b' d') (sym work_is) (stop_tells ns (length ends) b d b' d' r _ (T.left P.program P.accepted) (T.good P.program P.accepted) h F)
+  pub run_refused : (r.stop ≡ 0 → ⊥) → {f : Refusal} → Numbered r.stop f → Tells (Err f) b d b' d' (work (length b) (length d) bytes ends erased ws)
+  run_refused h {f} F = subst (Tells (Err f) b d b' d') (sym work_is) (stop_tells ns (length ends) b d b' d' r _ (T.left P.program P.accepted) (T.good P.program P.accepted) h F)
 
   -- one that went through tells its counts
-  pub run_done : r.stop ≡ 0 → Tells (Done (record { rows = r.rows; notes = r.notes })) b d b' d' (work (length b) (length d) bytes ends erased ws)
-  run_done h = subst (Tells (Done (record { rows = r.rows; notes = r.notes })) b d b' d') (sym work_is) (done_tells ns (length ends) b d b' d' r _ (T.left P.program P.accepted) (T.good P.program P.accepted) h)
+  pub run_done : r.stop ≡ 0 → Tells (Ok (record { rows = r.rows; notes = r.notes })) b d b' d' (work (length b) (length d) bytes ends erased ws)
+  run_done h = subst (Tells (Ok (record { rows = r.rows; notes = r.notes })) b d b' d') (sym work_is) (done_tells ns (length ends) b d b' d' r _ (T.left P.program P.accepted) (T.good P.program P.accepted) h)
 
 -- ---- 5 and 1 leave the buffers
 
--- 5
-pub leaves_size : (b d : List ℕ) → Leaves (told b d (Refused Size)) b d b d
-unfolding told refused zeroing
-leaves_size b d = (refl, refl)
+-- what stops before the work is 5 or 1
+leaves_first : (b d : List ℕ) (at : ℕ) (s t : Bool) (n p : ℕ) → ◌≡◌ {A = Told (Unit {0})} (stops n p) (unless s 5 0 (unless t 1 at (gives tt))) → Leaves (stops n p) b d b d
+unfolding unless zeroing
+leaves_first b d at true true n p e = let z : ◌≡◌ {A = ℕ} 0 1 = cc in absurd (omega arith)
+leaves_first b d at true false n p e = let z : n ≡ 1 = cc in rw z (refl, refl)
+leaves_first b d at false t n p e = let z : n ≡ 5 = cc in rw z (refl, refl)
 
--- 1
-pub leaves_breaks : (b d : List ℕ) (p : ℕ) → Leaves (told b d (Refused (Strings p))) b d b d
-unfolding told refused zeroing
-leaves_breaks b d p = (refl, refl)
+-- so a refusal of the beginning does
+pub leaves_begun : (sized : Bool) (bytes ends : List ℕ) {v : Result (List ℕ) Refusal} {r : Refusal} (b d : List ℕ) → Begun sized bytes ends v → v ≡ Err r → Leaves (told b d (Err r)) b d b d
+unfolding Begun entry_of refused told
+leaves_begun sized bytes ends {r = r} b d B e =
+    let a : Answers sized bytes ends (refused {A = Unit {0}} r) (gives tt) = rw e at B in
+    leaves_first b d a.at sized (sound bytes ends) _ _ a.is
 
 -- what is told is left so
-pub leaves_told : {r : Answer} {b d b' d' : List ℕ} {u : Told Buffers} → Tells r b d b' d' u → Leaves (told b' d' r) b d b' d'
+pub leaves_told : {r : Result Sizes Refusal} {b d b' d' : List ℕ} {u : Told Buffers} → Tells r b d b' d' u → Leaves (told b' d' r) b d b' d'
 leaves_told {r} {b} {d} {b'} {d'} T = subst (λ (u : Told Buffers). Leaves u b d b' d') (sym T.is) T.leaves

@@ -1,6 +1,6 @@
 -- `collect` as an entry: over lent strings, tree words and erased names, into two lent buffers, rows and diagnostics. What it tells, and every word of the
 -- buffers afterwards. Definitions only.
-use Rattle.std.specs.Prelude.{ℕ, ◌≡◌, List, length}
+use Rattle.std.specs.Prelude.{ℕ, ◌≡◌, List, length, Result, Err, Ok}
 use Rattle.std.proofs.Math.Option.{some}
 use Rattle.tree.specs.Tree.{Program}
 use Rattle.words.specs.Word.{pick}
@@ -17,8 +17,8 @@ use Rattle.steps.specs.Held.{Left}
 use Rattle.steps.specs.declared.Counts.{Counts}
 use Rattle.collect.specs.Collect.{given, collected}
 use Rattle.lawful.specs.Good.{Good}
-use Rattle.collection.specs.declared.Answer.{Answer}
-use Rattle.collection.specs.declared.Answer.TheVariants.{Refused, Done}
+use Rattle.words.specs.declared.Refusal.{Refusal}
+use Rattle.collection.specs.declared.Sizes.{Sizes}
 
 -- how many rows and diagnostics there are, and the words of both buffers
 pub record Buffers : Type 0 where
@@ -42,9 +42,9 @@ work N D bytes ends erased words = after (accepted_of (names_of bytes ends) word
 -- ---- the answer, with both buffers as they are afterwards
 
 -- document 01's number and place, or the counts and what stands in the buffers
-unfoldable pub told : (b d : List ℕ) → Answer → Told Buffers
-told b d (Refused f) = refused f
-told b d (Done n) = gives (record { rows = n.rows; notes = n.notes; row_words = b; note_words = d })
+unfoldable pub told : (b d : List ℕ) → Result Sizes Refusal → Told Buffers
+told b d (Err f) = refused f
+told b d (Ok n) = gives (record { rows = n.rows; notes = n.notes; row_words = b; note_words = d })
 
 -- 7, 8 and 9 leave both buffers zero; all other numbers leave them as they came
 abbrev pub left_by : ℕ → List ℕ → List ℕ
@@ -58,12 +58,12 @@ Leaves (gives t) b d b' d' = Unit {0}
 -- ---- the promises
 
 -- it tells u
-pub record Tells (r : Answer) (b d b' d' : List ℕ) (u : Told Buffers) : Type 0 where
+pub record Tells (r : Result Sizes Refusal) (b d b' d' : List ℕ) (u : Told Buffers) : Type 0 where
   pub is : told b' d' r ≡ u
   pub leaves : Leaves u b d b' d'
 
 -- and before it, 5 and 1
-pub record Entered (bytes ends erased words : List ℕ) (r : Answer) (b d b' d' : List ℕ) : Type 0 where
+pub record Entered (bytes ends erased words : List ℕ) (r : Result Sizes Refusal) (b d b' d' : List ℕ) : Type 0 where
   pub answers : Answers (sized_program bytes ends words erased) bytes ends (told b' d' r) (work (length b) (length d) bytes ends erased words)
   pub leaves : Leaves (told b' d' r) b d b' d'
 

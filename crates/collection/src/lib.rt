@@ -9,22 +9,14 @@ ghost use Rattle.collect.specs.Code.{Named};
 ghost use Rattle.collect.specs.Passed.{Passed};
 ghost use Rattle.collection.specs.Entry.{Tabled, Tells, Entered, work};
 
-use reader::Accepted;
 use steps::Counts;
-use strings::Verdict;
 use words::Refusal;
 
-// How many rows and diagnostics stand in their buffers.
-#[derive(Clone, Copy)]
+// How many rows and diagnostics stand in their buffers. Crate `page` has the same two numbers as what it is to lay out: it knows nothing of collecting.
+#[derive(Clone, Copy, PartialEq, Eq, Debug)]
 pub struct Sizes {
     pub rows: usize,
     pub notes: usize,
-}
-
-#[derive(Clone, Copy)]
-pub enum Answer {
-    Refused(Refusal),
-    Done(Sizes),
 }
 
 // The rows and diagnostics of a program that passed the checks; a run that stops leaves zeros.
@@ -42,12 +34,12 @@ fn tables(
     ensures { Tabled bytes.now ends.now erased.now words.now names.now result b.old d.old b.new d.new }
 {
     let s = steps::begin(b, d);
-    let m = collecting::statements(words, names, bytes, ends, erased, b, d, s, 0, 0, memo);
-    let t = m.counts;
+    let t = collecting::statements(words, names, bytes, ends, erased, b, d, s, 0, 0, memo);
     steps::finish(b, d, t)
 }
 
-// Where the names' marks are known: 2 or 3, 4, and then the run, with a memo of the ends of procedures.
+// Where the names' marks are known: 2 or 3, 4, and then the run, with a memo of the ends of procedures. (The `noted` of crate `analyse` has a check more before its run, a
+// buffer more, and answers something else.)
 fn noted(
     words: &[u32],
     names: &[u8],
@@ -57,19 +49,16 @@ fn noted(
     b: &mut [u32],
     d: &mut [u32],
     memo: &mut [u32],
-) -> Answer
+) -> Result<Sizes, Refusal>
     requires { Named bytes.now ends.now names.now × (length names.now ≤ max_strings) × Remembers words.now names.now (length names.now) memo.old }
     ensures { Tells result b.old d.old b.new d.new (work (length b.old) (length d.old) bytes.now ends.now erased.now words.now) }
 {
-    let a = reader::check_program_with(words, erased, names, memo);
-    if let Accepted::Refused(f) = a {
-        return Answer::Refused(f);
-    }
+    reader::check_program_with(words, erased, names, memo)?;
     let s = tables(words, names, bytes, ends, erased, b, d, memo);
     if s.stop != 0 {
-        return Answer::Refused(steps::refusal(s.stop));
+        return Err(steps::refusal(s.stop));
     }
-    Answer::Done(Sizes {
+    Ok(Sizes {
         rows: s.rows,
         notes: s.notes,
     })
@@ -84,7 +73,7 @@ fn checked(
     erased: &[u32],
     b: &mut [u32],
     d: &mut [u32],
-) -> Answer
+) -> Result<Sizes, Refusal>
     requires { Named bytes.now ends.now names.now × (length names.now ≤ max_strings) }
     ensures { Tells result b.old d.old b.new d.new (work (length b.old) (length d.old) bytes.now ends.now erased.now words.now) }
 {
@@ -100,17 +89,18 @@ pub fn collect(
     erased: &[u32],
     rows: &mut [u32],
     notes: &mut [u32],
-) -> Answer
+) -> Result<Sizes, Refusal>
     ensures { Entered bytes.now ends.now erased.now words.now result rows.old notes.old rows.new notes.new }
 {
-    if !reader::sized_program(bytes, ends, words, erased) {
-        return Answer::Refused(Refusal::Size);
-    }
-    let v = strings::check(bytes, ends);
-    if let Verdict::Breaks(p) = v {
-        return Answer::Refused(Refusal::Strings(p));
-    }
-    let names = strings::names_of(bytes, ends);
-    let n = ends.len();
-    checked(words, &names[..n], bytes, ends, erased, rows, notes)
+    let sized = reader::sized_program(bytes, ends, words, erased);
+    let names = reader::marks(sized, bytes, ends)?;
+    checked(
+        words,
+        &names[..ends.len()],
+        bytes,
+        ends,
+        erased,
+        rows,
+        notes,
+    )
 }

@@ -20,8 +20,6 @@ use Rattle.builtins.specs.Builtins.{is_builtin}
 use Rattle.runs.specs.Laws.{holds_keeps}
 use Rattle.lent.specs.Lent.{checked, lent_rows}
 use Rattle.lent.specs.LentLaws.{checked_sound}
-use Rattle.lent.specs.declared.Checked.{Checked}
-use Rattle.lent.specs.declared.Checked.TheVariants.{Bad, Rows}
 use Rattle.leaves.specs.Leaves.{sized}
 use Rattle.steps.specs.State.{State, running, stopped, Step, when, asking, each, fits, push}
 use Rattle.steps.specs.declared.Counts.{Counts}
@@ -32,8 +30,7 @@ use Rattle.collect.specs.Code.{Named}
 use Rattle.collisions.specs.Collisions.{Ready, Checks}
 use Rattle.collisions.specs.Laws.{arrays_named}
 use Rattle.collisions.specs.Entry.{end_of, said_of, over_of, checked_of, counted, left_of, told_as, Tells, Entry, LentReady}
-use Rattle.collisions.specs.declared.Collided.{Collided}
-use Rattle.collisions.specs.declared.Collided.TheVariants.{Refused, Noted}
+use Rattle.std.specs.Prelude.{Option as RustOption, None, Some, Result, Err, Ok, IsErrAnd, ok_or}
 
 -- ---- only 8 stops the check
 
@@ -88,37 +85,49 @@ module _ {bytes ends buf : List ℕ} {n : ℕ} (L : LentReady bytes ends buf n) 
     after_run = (C.does []).after (length buf) (length d) (running (rows_of n buf) []) (record { rows_long = refl; notes_long = l; inside = (refl, holds_keeps L.lent.holds, E) })
 
     -- it went through: how many diagnostics there are
-    pub over_fine : t.stop ≡ 0 → Tells d (Noted t.notes) d₂ (over_of bytes ends buf (length d) n)
+    pub over_fine : t.stop ≡ 0 → Tells d (Ok t.notes) d₂ (over_of bytes ends buf (length d) n)
     unfolding over_of said_of end_of told_as counted left_of
     over_fine go = by (check_name_collisions (given (some (length buf)) (some (length d)) bytes ends []) (running (rows_of n buf) [])) after_run
       where
-        by : (st : State) → Held (length buf) (length d) st t buf d₂ → Tells d (Noted t.notes) d₂ (end_of st)
+        by : (st : State) → Held (length buf) (length d) st t buf d₂ → Tells d (Ok t.notes) d₂ (end_of st)
         by (running rows notes) H = record { told = ap gives (sym H.inside.2.count); left = H.inside.2.words ∙ ap (λ (k : ℕ). image note_width k notes) H.notes_long }
         by (stopped k) H =
             let z : k ≡ 0 = sym H.inside.0 ∙ go in
             absurd (omega (arith, H.inside.1))
 
     -- it stopped: 8, and zeros
-    pub over_full : (t.stop ≡ 0 → ⊥) → {d₃ : List ℕ} → d₃ ≡ zeros (length d₂) → Tells d (Refused DiagnosticsFull) d₃ (over_of bytes ends buf (length d) n)
+    pub over_full : (t.stop ≡ 0 → ⊥) → {d₃ : List ℕ} → d₃ ≡ zeros (length d₂) → Tells d (Err DiagnosticsFull) d₃ (over_of bytes ends buf (length d) n)
     unfolding over_of said_of end_of told_as counted left_of refused
     over_full h {d₃} z = by (check_name_collisions (given (some (length buf)) (some (length d)) bytes ends []) (running (rows_of n buf) [])) after_run (check_eight (given (some (length buf)) (some (length d)) bytes ends []) (rows_of n buf))
       where
-        by : (st : State) → Held (length buf) (length d) st t buf d₂ → Eight st → Tells d (Refused DiagnosticsFull) d₃ (end_of st)
+        by : (st : State) → Held (length buf) (length d) st t buf d₂ → Eight st → Tells d (Err DiagnosticsFull) d₃ (end_of st)
         by (running rows notes) H e = absurd (h H.inside.0)
         by (stopped k) H e = rw e (record { told = refl; left = z ∙ ap zeros H.notes_long })
 
+-- an answer that is handed on is the same
+pub handed : {r : Result ℕ Refusal} {f : Refusal} → IsErrAnd r (λ x. x ≡ f) → r ≡ Err f
+handed {r = Ok n} h = absurd h
+handed {r = Err x} h = ap Err h
+
+-- no rows, made into a refusal and handed on
+pub no_rows : {k : RustOption ℕ} {x r : Result ℕ Refusal} {f : Refusal} → x ≡ ok_or k RowsRefused → x ≡ Err f → IsErrAnd r (λ y. y ≡ f) → (k ≡ None) × (r ≡ Err RowsRefused)
+no_rows {k = Some n} e q h = let z : ◌≡◌ {A = ℕ} 0 1 = cc in absurd (omega arith)
+no_rows {k = None} {f = f} e q h =
+    let same : f ≡ RowsRefused = cc in
+    (refl, handed h ∙ ap Err same)
+
 -- ---- number 6
 
-module _ {bytes ends names : List ℕ} (buf : List ℕ) (M : Named bytes ends names) {k : Checked} (e : k ≡ checked names buf) where
+module _ {bytes ends names : List ℕ} (buf : List ℕ) (M : Named bytes ends names) {k : RustOption ℕ} (e : k ≡ checked names buf) where
   -- no lent table: 6, and the buffer as it came
-  pub rows_bad : (d : List ℕ) → k ≡ Bad → Tells d (Refused RowsRefused) d (checked_of bytes ends buf (length d))
+  pub rows_bad : (d : List ℕ) → k ≡ None → Tells d (Err RowsRefused) d (checked_of bytes ends buf (length d))
   unfolding checked_of said_of lent_rows after told_as counted left_of refused
   rows_bad d q =
-      let b : checked (names_of bytes ends) buf ≡ Bad = ap (λ (l : List ℕ). checked l buf) (sym M.names) ∙ sym e ∙ q in
+      let b : checked (names_of bytes ends) buf ≡ None = ap (λ (l : List ℕ). checked l buf) (sym M.names) ∙ sym e ∙ q in
       rw b (record { told = refl; left = refl })
 
-  module _ {n : ℕ} (q : k ≡ Rows n) where
-    is_rows : checked (names_of bytes ends) buf ≡ Rows n
+  module _ {n : ℕ} (q : k ≡ Some n) where
+    is_rows : checked (names_of bytes ends) buf ≡ Some n
     is_rows = ap (λ (l : List ℕ). checked l buf) (sym M.names) ∙ sym e ∙ q
 
     -- a lent table: its rows passed
@@ -126,7 +135,7 @@ module _ {bytes ends names : List ℕ} (buf : List ℕ) (M : Named bytes ends na
     lent_ready = record { strings = M.strings; lent = checked_sound (names_of bytes ends) n buf is_rows }
 
     -- then what the check tells is told
-    pub rows_fine : {d d' : List ℕ} {r : Collided} → Tells d r d' (over_of bytes ends buf (length d) n) → Tells d r d' (checked_of bytes ends buf (length d))
+    pub rows_fine : {d d' : List ℕ} {r : Result ℕ Refusal} → Tells d r d' (over_of bytes ends buf (length d) n) → Tells d r d' (checked_of bytes ends buf (length d))
     unfolding checked_of over_of lent_rows after
     rows_fine T = rw is_rows T
 
@@ -134,11 +143,11 @@ module _ {bytes ends names : List ℕ} (buf : List ℕ) (M : Named bytes ends na
 
 module _ {bytes ends buf d : List ℕ} where
   -- one of them: the buffer as it came
-  pub entry_shut : {f : Refusal} → Answers (sized bytes ends) bytes ends (refused f) (gives (tt {0})) → Entry bytes ends buf d (Refused f) d
+  pub entry_shut : {f : Refusal} → Answers (sized bytes ends) bytes ends (refused f) (gives (tt {0})) → Entry bytes ends buf d (Err f) d
   unfolding refused entry_of unless told_as counted left_of
   entry_shut {f} a = record { at = a.at; place = a.place; tells = go (sized bytes ends) (sound bytes ends) a.is }
     where
-      go : (s t : Bool) → refused f ≡ unless s 5 0 (unless t 1 a.at (gives (tt {0}))) → Tells d (Refused f) d (unless s 5 0 (unless t 1 a.at (checked_of bytes ends buf (length d))))
+      go : (s t : Bool) → refused f ≡ unless s 5 0 (unless t 1 a.at (gives (tt {0}))) → Tells d (Err f) d (unless s 5 0 (unless t 1 a.at (checked_of bytes ends buf (length d))))
       go true true e =
           let z : ◌≡◌ {A = ℕ} 0 1 = cc in
           absurd (omega arith)
@@ -146,7 +155,7 @@ module _ {bytes ends buf d : List ℕ} where
       go false t e = record { told = cc; left = refl }
 
   -- neither: what is told behind them
-  pub entry_open : {r : Collided} {d' : List ℕ} → Answers (sized bytes ends) bytes ends (gives (tt {0})) (gives (tt {0})) → Tells d r d' (checked_of bytes ends buf (length d)) → Entry bytes ends buf d r d'
+  pub entry_open : {r : Result ℕ Refusal} {d' : List ℕ} → Answers (sized bytes ends) bytes ends (gives (tt {0})) (gives (tt {0})) → Tells d r d' (checked_of bytes ends buf (length d)) → Entry bytes ends buf d r d'
   unfolding entry_of unless
   entry_open {r} {d'} a T = record { at = a.at; place = a.place; tells = go (sized bytes ends) (sound bytes ends) a.is }
     where

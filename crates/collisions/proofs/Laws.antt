@@ -19,13 +19,9 @@ use Rattle.table.specs.Images.{word_at_lem}
 use Rattle.runs.specs.Runs.{row_of, row_in, Keeps}
 use Rattle.runs.specs.Laws.{holds_keeps, keeps_same}
 use Rattle.runs.specs.Places.{row_word_lem}
-use Rattle.table.specs.declared.Found.{Found}
-use Rattle.table.specs.declared.Found.TheVariants.{At, Nothing}
 use Rattle.entries.specs.Entries.{entry_key}
 use Rattle.builtins.specs.Answers.{arguments_of}
 use Rattle.builtins.specs.Builtins.{Builtin, builtin, is_builtin, is_some}
-use Rattle.builtins.specs.declared.Arguments.{Arguments}
-use Rattle.builtins.specs.declared.Arguments.TheVariants.{Unknown, Takes}
 use Rattle.consteval.specs.EvalLaws.{Words32}
 use Rattle.steps.specs.State.{State, running, stopped, Step, when, asking, each}
 use Rattle.steps.specs.declared.Counts.{Counts}
@@ -35,38 +31,30 @@ use Rattle.collect.specs.Diagnostics.{array_and_proc, array_and_builtin}
 use Rattle.collect.specs.Collect.{Given, given, any_array, collides, collision, check_name_collisions}
 use Rattle.labels.specs.Arrays.{keeps_small, arrays_from, arrays_to, take_quiet, drop_quiet, array_between}
 use Rattle.collisions.specs.Collisions.{Ready, Checks, head_at, word_at, NamedAt, Collides}
+use Rattle.std.specs.Prelude.{Option as RustOption, Some, None, is_some as is_there}
+use Rattle.builtins.specs.declared.Arguments.{Arguments}
 
 -- ---- a builtin's name
 
-no_builtin : (o : Option Builtin) → Unknown ≡ arguments_of o → false ≡ is_some o
-no_builtin none e = refl
-no_builtin (some b) e =
-    let z : ◌≡◌ {A = ℕ} 0 1 = cc in
-    absurd (omega arith)
+known : (o : Option Builtin) → is_there (arguments_of o) ≡ is_some o
+known none = refl
+known (some b) = refl
 
-a_builtin : (o : Option Builtin) (least most : ℕ) → Takes least most ≡ arguments_of o → true ≡ is_some o
-a_builtin none least most e =
-    let z : ◌≡◌ {A = ℕ} 0 1 = cc in
-    absurd (omega arith)
-a_builtin (some b) least most e = refl
+-- a name is a builtin's where the code knows its arguments
+pub knows : (name : List ℕ) {a : RustOption Arguments} → a ≡ arguments_of (builtin name) → is_there a ≡ is_builtin name
+unfolding is_builtin
+knows name e = ap is_there e ∙ known (builtin name)
 
-module _ (name : List ℕ) where
-  -- the code knows no arguments: it is none
-  pub is_none : {a : Arguments} → a ≡ arguments_of (builtin name) → a ≡ Unknown → false ≡ is_builtin name
-  unfolding is_builtin
-  is_none e q = no_builtin (builtin name) (sym q ∙ e)
-
-  -- it knows them: it is one
-  pub is_some_lem : {a : Arguments} {least most : ℕ} → a ≡ arguments_of (builtin name) → a ≡ Takes least most → true ≡ is_builtin name
-  unfolding is_builtin
-  is_some_lem {least = least} {most = most} e q = a_builtin (builtin name) least most (sym q ∙ e)
+-- where the code knows its arguments, it is one
+pub is_some_lem : (name : List ℕ) {a : RustOption Arguments} {t : Arguments} → a ≡ arguments_of (builtin name) → a ≡ Some t → true ≡ is_builtin name
+is_some_lem name e q = sym (ap is_there q) ∙ knows name e
 
 -- ---- one array
 
-module _ {bytes ends b : List ℕ} {count i : ℕ} {s r : Counts} {d d' : List ℕ} {f : Found}
+module _ {bytes ends b : List ℕ} {count i : ℕ} {s r : Counts} {d d' : List ℕ} {f : RustOption ℕ}
     (told : (rows : List Row) → Keeps rows count b → row_in b f ≡ find (entry_key 135 (pay_of (head_at b i)) 0) rows) where
   -- a procedure has the name: 27
-  pub collides_proc : (j : ℕ) → f ≡ At j → Notes (pushing (array_and_proc (word_at b i 3) (pay_of (head_at b i)) (word_at b j 2) (word_at b j 3))) s r d d' → Collides bytes ends b count i s r d d'
+  pub collides_proc : (j : ℕ) → f ≡ Some j → Notes (pushing (array_and_proc (word_at b i 3) (pay_of (head_at b i)) (word_at b j 2) (word_at b j 3))) s r d d' → Collides bytes ends b count i s r d d'
   unfolding collides pushing
   collides_proc j e F = record {
     does = λ rows H erased.
@@ -77,7 +65,7 @@ module _ {bytes ends b : List ℕ} {count i : ℕ} {s r : Counts} {d d' : List �
   }
 
   -- none has: 28 where a builtin has
-  pub collides_none : f ≡ Nothing → {x : Bool} → x ≡ is_builtin (string_at bytes ends (pay_of (head_at b i))) → Notes (noting x (array_and_builtin (word_at b i 3) (pay_of (head_at b i)))) s r d d'
+  pub collides_none : f ≡ None → {x : Bool} → x ≡ is_builtin (string_at bytes ends (pay_of (head_at b i))) → Notes (noting x (array_and_builtin (word_at b i 3) (pay_of (head_at b i)))) s r d d'
       → Collides bytes ends b count i s r d d'
   unfolding collides noting
   collides_none e {x} q F = record {

@@ -1,6 +1,6 @@
 -- `check_name_collisions` as an entry over a lent string table and lent rows: the number and the place that stop it, or the diagnostics, and what is left
 -- in their buffer. Definitions only.
-use Rattle.std.specs.Prelude.{ℕ, ◌≡◌, true, List, [], eqb, length}
+use Rattle.std.specs.Prelude.{ℕ, ◌≡◌, true, List, [], eqb, length, Result, Err, Ok}
 use Rattle.std.proofs.Math.Option.{some}
 use Rattle.words.specs.Word.{pick}
 use Rattle.words.specs.Told.{Told, stops, gives, after}
@@ -12,8 +12,7 @@ use Rattle.lent.specs.Lent.{Lent, lent_rows}
 use Rattle.leaves.specs.Leaves.{sized}
 use Rattle.steps.specs.State.{State, running, stopped}
 use Rattle.collect.specs.Collect.{given, check_name_collisions}
-use Rattle.collisions.specs.declared.Collided.{Collided}
-use Rattle.collisions.specs.declared.Collided.TheVariants.{Refused, Noted}
+use Rattle.words.specs.declared.Refusal.{Refusal}
 
 -- the diagnostics of a run, or the number that stopped it
 unfoldable pub end_of : State → Told (List Row)
@@ -46,17 +45,17 @@ left_of d (gives notes) = image note_width (length d) notes
 left_of d (stops n p) = pick (eqb n 8) (zeros (length d)) d
 
 -- document 01's number and value for each case of the answer
-unfoldable pub told_as : Collided → Told ℕ
-told_as (Refused f) = refused f
-told_as (Noted n) = gives n
+unfoldable pub told_as : Result ℕ Refusal → Told ℕ
+told_as (Err f) = refused f
+told_as (Ok n) = gives n
 
 -- an answer, and the words d' that were d, tell t
-pub record Tells (d : List ℕ) (r : Collided) (d' : List ℕ) (t : Told (List Row)) : Type 0 where
+pub record Tells (d : List ℕ) (r : Result ℕ Refusal) (d' : List ℕ) (t : Told (List Row)) : Type 0 where
   pub told : told_as r ≡ counted t
   pub left : d' ≡ left_of d t
 
 -- the entry's promise: 5 and 1 before it
-pub record Entry (bytes ends buf d : List ℕ) (r : Collided) (d' : List ℕ) : Type 0 where
+pub record Entry (bytes ends buf d : List ℕ) (r : Result ℕ Refusal) (d' : List ℕ) : Type 0 where
   pub at : ℕ
   pub place : Place bytes ends at
   pub tells : Tells d r d' (entry_of (sized bytes ends) at bytes ends (checked_of bytes ends buf (length d)))

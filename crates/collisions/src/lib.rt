@@ -1,7 +1,7 @@
 // `check_name_collisions`: each array in row order that has a procedure's or a builtin's name.
 #![tactic(auto)]
 
-ghost use Rattle.std.specs.Prelude.{◌≡◌, true, List, ℕ, ◌+◌, ◌*◌, ◌≤◌, ◌<◌, length, get_or};
+ghost use Rattle.std.specs.Prelude.{◌≡◌, true, ◌*◌, ◌≤◌, length};
 ghost use Rattle.strings.specs.Table.{sound, string_at, names_of};
 ghost use Rattle.builtins.specs.Builtins.{is_builtin};
 ghost use Rattle.lent.specs.Rules.{is_marked};
@@ -11,11 +11,8 @@ ghost use Rattle.collect.specs.Code.{Named};
 ghost use Rattle.collisions.specs.Collisions.{NamedAt, Collides, Ready, Checks};
 ghost use Rattle.collisions.specs.Entry.{LentReady, Tells, over_of, checked_of, Entry};
 
-use builtins::Arguments;
-use leaves::Gate;
-use lent::Checked;
 use steps::Counts;
-use table::Found;
+use table::Rows;
 use words::Refusal;
 
 // Whether a name is a builtin function's.
@@ -23,34 +20,31 @@ fn is_builtin(bytes: &[u8], ends: &[u32], name: u32) -> bool
     requires { (sound bytes.now ends.now ≡ true) × (is_marked (names_of bytes.now ends.now) name ≡ true) }
     ensures { result ≡ is_builtin (string_at bytes.now ends.now name) }
 {
-    match leaves::spelled(bytes, ends, name) {
-        Arguments::Unknown => false,
-        Arguments::Takes { least: _, most: _ } => true,
-    }
+    leaves::spelled(bytes, ends, name).is_some()
 }
 
 // The array in row i, a procedure before a builtin.
 fn collision(
     bytes: &[u8],
     ends: &[u32],
-    b: &[u32],
-    count: usize,
+    rows: &Rows<'_>,
     d: &mut [u32],
     s: Counts,
     i: usize,
 ) -> Counts
-    requires { NamedAt bytes.now ends.now b.now count i × (s.notes * width ≤ length d.old) }
-    ensures { Collides bytes.now ends.now b.now count i s result d.old d.new }
+    requires { NamedAt bytes.now ends.now rows.now.words.now rows.now.count i × (s.notes * width ≤ length d.old) }
+    ensures { Collides bytes.now ends.now rows.now.words.now rows.now.count i s result d.old d.new }
 {
     let at = i * table::WIDTH;
+    let b = rows.words;
     let name = b[at] % 16777216;
     let line = b[at + 3];
-    match lookup::find_entry(b, count, 135, name, 0) {
-        Found::At(j) => {
+    match lookup::find_entry(rows, 135, name, 0) {
+        Some(j) => {
             let p = j * table::WIDTH;
             steps::push(d, s, 27, line, name + 1, 0, b[p + 2], b[p + 3])
         }
-        Found::Nothing => {
+        None => {
             let builtin = is_builtin(bytes, ends, name);
             steps::push_if(d, s, builtin, 28, line, name + 1, 0, 0, 0)
         }
@@ -65,26 +59,21 @@ pub fn collisions(bytes: &[u8], ends: &[u32], b: &[u32], d: &mut [u32], s: Count
     if s.stop != 0 {
         return s;
     }
-    let count = s.rows;
-    let mut i = table::lower_bound(b, count, entries::entry_key(133, 0, 0));
-    let end = table::lower_bound(b, count, entries::entry_key(134, 0, 0));
+    let rows = Rows {
+        words: b,
+        count: s.rows,
+    };
+    let from = rows.lower_bound(entries::entry_key(133, 0, 0));
+    let end = rows.lower_bound(entries::entry_key(134, 0, 0));
     let mut t = s;
-    while i < end {
-        t = collision(bytes, ends, b, count, d, t, i);
-        i += 1;
+    for i in from..end {
+        t = collision(bytes, ends, &rows, d, t, i);
     }
     t
 }
 
-// What the entry answers: why the call stopped, or how many diagnostics there are.
-#[derive(Clone, Copy)]
-pub enum Collided {
-    Refused(Refusal),
-    Noted(usize),
-}
-
 // Over the n rows of a lent table, into diagnostics of its own: number 8, which leaves zeros.
-fn over(bytes: &[u8], ends: &[u32], rows: &[u32], n: usize, d: &mut [u32]) -> Collided
+fn over(bytes: &[u8], ends: &[u32], rows: &[u32], n: usize, d: &mut [u32]) -> Result<usize, Refusal>
     requires { LentReady bytes.now ends.now rows.now n }
     ensures { Tells d.old result d.new (over_of bytes.now ends.now rows.now (length d.old) n) }
 {
@@ -97,32 +86,36 @@ fn over(bytes: &[u8], ends: &[u32], rows: &[u32], n: usize, d: &mut [u32]) -> Co
     let t = collisions(bytes, ends, rows, d, s);
     if t.stop != 0 {
         table::empty(d);
-        return Collided::Refused(Refusal::DiagnosticsFull);
+        return Err(Refusal::DiagnosticsFull);
     }
-    Collided::Noted(t.notes)
+    Ok(t.notes)
 }
 
 // Number 6 before it.
-fn under(bytes: &[u8], ends: &[u32], names: &[u8], rows: &[u32], d: &mut [u32]) -> Collided
+fn under(
+    bytes: &[u8],
+    ends: &[u32],
+    names: &[u8],
+    rows: &[u32],
+    d: &mut [u32],
+) -> Result<usize, Refusal>
     requires { Named bytes.now ends.now names.now }
     ensures { Tells d.old result d.new (checked_of bytes.now ends.now rows.now (length d.old)) }
 {
-    match lent::check_rows(rows, names) {
-        Checked::Bad => Collided::Refused(Refusal::Rows),
-        Checked::Rows(n) => over(bytes, ends, rows, n, d),
-    }
+    let n = lent::check_rows(rows, names).ok_or(Refusal::Rows)?;
+    over(bytes, ends, rows, n, d)
 }
 
 // The check over a lent string table and lent rows, which are only read: 5, 1, 6, 8 in this order.
-pub fn check_name_collisions(bytes: &[u8], ends: &[u32], rows: &[u32], d: &mut [u32]) -> Collided
+pub fn check_name_collisions(
+    bytes: &[u8],
+    ends: &[u32],
+    rows: &[u32],
+    d: &mut [u32],
+) -> Result<usize, Refusal>
     ensures { Entry bytes.now ends.now rows.now d.old result d.new }
 {
-    match leaves::passes(bytes, ends) {
-        Gate::Closed(f) => Collided::Refused(f),
-        Gate::Passed => {
-            let names = strings::names_of(bytes, ends);
-            let n = ends.len();
-            under(bytes, ends, &names[..n], rows, d)
-        }
-    }
+    leaves::passes(bytes, ends)?;
+    let names = strings::names_of(bytes, ends);
+    under(bytes, ends, &names[..ends.len()], rows, d)
 }

@@ -5,7 +5,6 @@ use mathlib.Core.Bool.{Bool, false}
 use mathlib.Core.List.{List}
 use native.Mathlib.Omega.{arith}
 use borrow.Author.Tests.{eq-eqb, ne_eqb}
-use lib.Dec.{eqb}
 use lib.ListN.{length, get_or}
 use Rattle.words.specs.Word.{kind_of, pay_of, pick}
 use Rattle.expr.specs.Expr.{Strings, Expr, Lit, Var, Elem, Unary, Binary, Call, Field, Paren, kind_e}
@@ -18,32 +17,24 @@ use Rattle.runs.specs.Runs.{Keeps}
 use Rattle.fold.specs.Fold.{GoodFold, negate_of, binary_of}
 use Rattle.fold.proofs.FoldLaws.{RowFold, row_good, negate_row, binary_row}
 use Rattle.fold.specs.ValueLaws.{value_words}
-use Rattle.fold.specs.Value.{value_of, literal_kind, low_of, high_of}
+use Rattle.fold.specs.Value.{literal_kind, low_of, high_of, Fold}
 use Rattle.fold.specs.declared.Value.{Value}
-use Rattle.fold.specs.declared.Fold.{Fold}
-use Rattle.fold.specs.declared.Fold.TheVariants.{Is, Overflow, NotConstant}
+use Rattle.std.proofs.lemmas.Bool.{false≢true}
 use Rattle.consteval.specs.ConstEval.{constant, const_eval}
-use Rattle.consteval.specs.Evaluates.{fold_of, RowSome, HoldsConsts, LiteralAt, Ready, Evaluates, EvaluatesAlone, Past, is_value}
+use Rattle.consteval.specs.Evaluates.{read_as, fold_of, RowSome, HoldsConsts, LiteralAt, Ready, Evaluates, EvaluatesAlone, Past, is_value}
 use Rattle.consteval.specs.EvalLaws.{Words32, const_row_lem}
 use Rattle.consteval.specs.declared.Folded.{Folded}
+use Rattle.std.specs.Prelude.{Result, Ok, Err, IsErr}
+use Rattle.fold.specs.declared.Unfolded.{Unfolded}
+use Rattle.fold.specs.declared.ConstWords.{ConstWords}
+use Rattle.fold.specs.declared.Unfolded.TheVariants.{NotConstant}
 
 -- ---- answers as words
 
--- the answer, by what the words say
-module _ (a : Folded) where
-  -- 0: a value, by its words
-  pub value_case : a.what ≡ 0 → fold_of a ≡ Is (value_of a.kind a.low a.high)
-  value_case e = ap (λ (w : ℕ). pick (eqb w 0) (Is (value_of a.kind a.low a.high)) (pick (eqb w 1) Overflow NotConstant)) e
-
-  -- 1: an overflow
-  pub over_case : a.what ≡ 1 → fold_of a ≡ Overflow
-  over_case e = ap (λ (w : ℕ). pick (eqb w 0) (Is (value_of a.kind a.low a.high)) (pick (eqb w 1) Overflow NotConstant)) e
-
-  -- any other number: not constant
-  pub not_case : (a.what ≡ 0 → ⊥) → (a.what ≡ 1 → ⊥) → fold_of a ≡ NotConstant
-  not_case z y =
-      ap (λ (b : Bool). pick b (Is (value_of a.kind a.low a.high)) (pick (eqb a.what 1) Overflow NotConstant)) (ne_eqb _ _ z)
-      ∙ ap (λ (b : Bool). pick b Overflow NotConstant) (ne_eqb _ _ y)
+-- words that are no value are the answer that they are
+pub no_value : (words : Result ConstWords Unfolded) → IsErr words → is_value (read_as words) ≡ false
+no_value (Ok w) h = absurd (false≢true h)
+no_value (Err e) h = refl
 
 -- a good answer, and its negation and what an operator makes of two, which a CONST row may hold
 pub some_good : {f : Fold} → RowSome f → GoodFold f
@@ -58,10 +49,10 @@ pub some_binary : (op : ℕ) (l r : Fold) {g : Fold} → g ≡ binary_of op l r 
 some_binary op l r {g} e = record { strings = 0; row = subst (RowFold 0) (sym e) (binary_row 0 op l r) }
 
 -- the words of a value are the answer that it is
-pub value_laid : {f : Fold} (v : Value) (next kind low high : ℕ) → f ≡ Is v → RowSome f → (kind ≡ literal_kind v) × (low ≡ low_of v) × (high ≡ high_of v) → fold_of (record { next = next; what = 0; kind = kind; low = low; high = high }) ≡ f
-value_laid {f} v next kind low high e S q =
+pub value_laid : {f : Fold} (v : Value) (w : ConstWords) → f ≡ Ok v → RowSome f → (w.kind ≡ literal_kind v) × (w.low ≡ low_of v) × (w.high ≡ high_of v) → read_as (Ok w) ≡ f
+value_laid {f} v w e S q =
     let R = subst (RowFold S.strings) e S.row in
-    ap Is (rw (q.0, q.1, q.2) (value_words S.strings v R)) ∙ sym e
+    ap Ok (rw (q.0, q.1, q.2) (value_words S.strings v R)) ∙ sym e
 
 -- ---- what stands inside a node
 
@@ -146,14 +137,14 @@ module _ {ws : List ℕ} {at : ℕ} {buf : List ℕ} {count : ℕ} where
     negated_is z {a} {r} E q n e end s rows h =
         let v = in_unary k s in
         let i = E n v.arg end v.inner rows h in
-        record { answer = q.0 ∙ ap negate_of i.answer ∙ sym (ap (const_eval rows) v.is ∙ ap (λ (b : Bool). pick b (negate_of (const_eval rows v.arg)) NotConstant) (eq-eqb _ _ z)); past = q.1 ∙ i.past }
+        record { answer = q.0 ∙ ap negate_of i.answer ∙ sym (ap (const_eval rows) v.is ∙ ap (λ (b : Bool). pick b (negate_of (const_eval rows v.arg)) (Err NotConstant)) (eq-eqb _ _ z)); past = q.1 ∙ i.past }
 
     -- NOT: not constant, and past it
-    pub not_is : (pay_of (get_or ws (at + 1) 0) ≡ 0 → ⊥) → {r : Folded} → (fold_of r ≡ NotConstant) × Past ws at r.next → Evaluates ws at buf count r
+    pub not_is : (pay_of (get_or ws (at + 1) 0) ≡ 0 → ⊥) → {r : Folded} → (fold_of r ≡ (Err NotConstant)) × Past ws at r.next → Evaluates ws at buf count r
     unfolding const_eval
     not_is z {r} q n e end s rows h =
         let v = in_unary k s in
-        record { answer = q.0 ∙ sym (ap (const_eval rows) v.is ∙ ap (λ (b : Bool). pick b (negate_of (const_eval rows v.arg)) NotConstant) (ne_eqb _ _ z)); past = q.1 n e end s }
+        record { answer = q.0 ∙ sym (ap (const_eval rows) v.is ∙ ap (λ (b : Bool). pick b (negate_of (const_eval rows v.arg)) (Err NotConstant)) (ne_eqb _ _ z)); past = q.1 n e end s }
 
   -- a binary operator
   module _ (k : kind_of (get_or ws at 0) ≡ 20) where
@@ -183,9 +174,8 @@ module _ {ws : List ℕ} {at : ℕ} {buf : List ℕ} {count : ℕ} where
           }
         where
           stops : (op : ℕ) (f g : Fold) → is_value f ≡ false → binary_of op f g ≡ f
-          stops op (Is v) g e = let z : ◌≡◌ {A = ℕ} 0 1 = cc in absurd (omega arith)
-          stops op Overflow g e = refl
-          stops op NotConstant g e = refl
+          stops op (Ok v) g e = let z : ◌≡◌ {A = ℕ} 0 1 = cc in absurd (omega arith)
+          stops op (Err x) g e = refl
 
       -- both folds, by the operator
       pub combined_is : {m r : Folded} → Evaluates ws l.next buf count m → (fold_of r ≡ binary_of (pay_of (get_or ws (at + 1) 0)) (fold_of l) (fold_of m)) × (r.next ≡ m.next) → Evaluates ws at buf count r
@@ -215,11 +205,11 @@ module _ {ws : List ℕ} {at : ℕ} {buf : List ℕ} {count : ℕ} where
 
   -- elements, calls and fields
   pub other_is : (kind_of (get_or ws at 0) ≡ 16 → ⊥) → (kind_of (get_or ws at 0) ≡ 17 → ⊥) → (kind_of (get_or ws at 0) ≡ 19 → ⊥) → (kind_of (get_or ws at 0) ≡ 20 → ⊥) → (kind_of (get_or ws at 0) ≡ 23 → ⊥)
-      → {r : Folded} → (fold_of r ≡ NotConstant) × Past ws at r.next → Evaluates ws at buf count r
+      → {r : Folded} → (fold_of r ≡ (Err NotConstant)) × Past ws at r.next → Evaluates ws at buf count r
   unfolding const_eval kind_e
   other_is a b c d f {r} q n e end s rows h = record { answer = q.0 ∙ go e (kind_of_lem s); past = q.1 n e end s }
     where
-      go : (e : Expr) → kind_of (get_or ws at 0) ≡ kind_e e → NotConstant ≡ const_eval rows e
+      go : (e : Expr) → kind_of (get_or ws at 0) ≡ kind_e e → (Err NotConstant) ≡ const_eval rows e
       go (Lit l) p = absurd (a p)
       go (Var x) p = absurd (b p)
       go (Elem x es) p = refl

@@ -1,12 +1,14 @@
 -- The literal that stands at a place, by the kind of its head: its words, its value, the place past it. No line here knows the code. Assumes nothing.
 use Prim.Native.Nat.{ℕ, ◌+◌, ◌-◌, ◌*◌, ◌<◌, ◌≤◌}
-use mathlib.Core.Path.{◌≡◌, refl, sym, ap, ap₂, ◌∙◌}
+use mathlib.Core.Path.{◌≡◌, refl, sym, ap, ap₂, ◌∙◌, subst}
 use mathlib.Core.Bool.{Bool}
 use mathlib.Core.List.{List, ◌∷◌}
 use native.Mathlib.Omega.{arith}
 use borrow.Author.Tests.{lt-ltb, le-ltb}
 use lib.IntN.{pos, negsuc}
 use lib.ListN.{length, get_or}
+use mathlib.Core.Logic.{◌⊎◌, inl, inr}
+use Rattle.table.specs.Laws.{order}
 use Rattle.words.specs.Word.{kind_of, pay_of, pick}
 use Rattle.expr.specs.Expr.{Literal, words_l, ValidL, kind_l}
 use Rattle.expr.specs.Expr as E
@@ -123,6 +125,32 @@ module _ {ws : List ℕ} {at : ℕ} (K : kind_of (get_or ws at 0) ≡ 16) where
       let l = float_is ws at v.lit v.wrote (sym v.kind ∙ k) in
       record { answer = rw (v.is, l.0) refl; past = l.1 }
 
+  -- 24 or 25: a whole number
+  pub eval_whole : 24 ≤ kind_of (get_or ws (at + 1) 0) → kind_of (get_or ws (at + 1) 0) < 26 → {h : ℕ} → whole_at (get_or ws (at + 2) 0) h ≡ signed32 (get_or ws (at + 2) 0)
+      → EvaluatesAlone ws at (laid_as (at + 3) (kind_of (get_or ws (at + 1) 0)) (get_or ws (at + 2) 0) h)
+  eval_whole a b {h} q = go (order (kind_of (get_or ws (at + 1) 0)) 25)
+    where
+      go : (kind_of (get_or ws (at + 1) 0) < 25) ⊎ (25 ≤ kind_of (get_or ws (at + 1) 0)) → EvaluatesAlone ws at (laid_as (at + 3) (kind_of (get_or ws (at + 1) 0)) (get_or ws (at + 2) 0) h)
+      go (inl l) =
+          let k : kind_of (get_or ws (at + 1) 0) ≡ 24 = omega arith in
+          subst (λ (j : ℕ). EvaluatesAlone ws at (laid_as (at + 3) j (get_or ws (at + 2) 0) h)) (sym k) (eval_24 k q)
+      go (inr l) =
+          let k : kind_of (get_or ws (at + 1) 0) ≡ 25 = omega arith in
+          subst (λ (j : ℕ). EvaluatesAlone ws at (laid_as (at + 3) j (get_or ws (at + 2) 0) h)) (sym k) (eval_25 k q)
+
+  -- 26 or 27: a float
+  pub eval_float : 26 ≤ kind_of (get_or ws (at + 1) 0) → kind_of (get_or ws (at + 1) 0) < 28
+      → EvaluatesAlone ws at (laid_as (at + 4) (kind_of (get_or ws (at + 1) 0)) (get_or ws (at + 2) 0) (get_or ws (at + 3) 0))
+  eval_float a b = go (order (kind_of (get_or ws (at + 1) 0)) 27)
+    where
+      go : (kind_of (get_or ws (at + 1) 0) < 27) ⊎ (27 ≤ kind_of (get_or ws (at + 1) 0)) → EvaluatesAlone ws at (laid_as (at + 4) (kind_of (get_or ws (at + 1) 0)) (get_or ws (at + 2) 0) (get_or ws (at + 3) 0))
+      go (inl l) =
+          let k : kind_of (get_or ws (at + 1) 0) ≡ 26 = omega arith in
+          subst (λ (j : ℕ). EvaluatesAlone ws at (laid_as (at + 4) j (get_or ws (at + 2) 0) (get_or ws (at + 3) 0))) (sym k) (eval_26 k)
+      go (inr l) =
+          let k : kind_of (get_or ws (at + 1) 0) ≡ 27 = omega arith in
+          subst (λ (j : ℕ). EvaluatesAlone ws at (laid_as (at + 4) j (get_or ws (at + 2) 0) (get_or ws (at + 3) 0))) (sym k) (eval_27 k)
+
   -- 28: a string's number
   pub eval_28 : (kind_of (get_or ws (at + 1) 0) ≡ 24 → ⊥) → (kind_of (get_or ws (at + 1) 0) ≡ 25 → ⊥) → (kind_of (get_or ws (at + 1) 0) ≡ 26 → ⊥) → (kind_of (get_or ws (at + 1) 0) ≡ 27 → ⊥)
       → EvaluatesAlone ws at (laid_as (at + 3) 28 (pay_of (get_or ws (at + 2) 0)) 0)
@@ -158,3 +186,11 @@ module _ {ws : List ℕ} {at : ℕ} (A : LiteralAt ws at) where
   float_there k =
       let v = in_lit A.kind A.some.stands in
       omega (arith, (float_is ws at v.lit v.wrote (sym v.kind ∙ k)).1, v.wrote.inside)
+
+-- a float's high word is within the words
+pub float_inside : {ws : List ℕ} {at : ℕ} → LiteralAt ws at → 26 ≤ kind_of (get_or ws (at + 1) 0) → kind_of (get_or ws (at + 1) 0) < 28 → at + 3 < length ws
+float_inside {ws} {at} L a b = go (order (kind_of (get_or ws (at + 1) 0)) 27)
+  where
+    go : (kind_of (get_or ws (at + 1) 0) < 27) ⊎ (27 ≤ kind_of (get_or ws (at + 1) 0)) → at + 3 < length ws
+    go (inl l) = single_there L (omega arith)
+    go (inr l) = float_there L (omega arith)

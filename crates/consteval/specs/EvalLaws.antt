@@ -1,6 +1,6 @@
 -- What `const_eval` gives from rows whose CONST rows meet their rule meets the rule of a CONST row again: the rules of `fold` keep it, node by node.
 -- And such rows stay such when a value is entered. Assumes nothing.
-use Rattle.std.specs.Prelude.{ℕ, ◌-◌, ◌<◌, ◌≡◌, refl, Bool, true, false, List, ◌∷◌, T, eqb, ltb, pos, negsuc, get_or}
+use Rattle.std.specs.Prelude.{ℕ, ◌-◌, ◌<◌, ◌≡◌, refl, Bool, true, false, List, ◌∷◌, T, eqb, ltb, pos, negsuc, get_or, Err}
 use Rattle.std.proofs.Common.{sym, subst, arith, ltb-true, ltb-false}
 use Rattle.std.proofs.Math.Option.{Option, none, some}
 use Rattle.std.specs.Float.Ieee.Scale.{finite as finite64}
@@ -15,14 +15,13 @@ use Rattle.table.specs.Rows.{Row, find}
 use Rattle.entries.specs.Entries.{entry_key}
 use Rattle.numbers.specs.Numbers.{of_words}
 use Rattle.numbers.specs.NumbersLaws.{words_finite}
-use Rattle.fold.specs.Value.{InRange}
+use Rattle.fold.specs.Value.{InRange, Fold}
 use Rattle.fold.specs.ValueLaws.{RowValue}
 use Rattle.fold.specs.Fold.{negate_of}
 use Rattle.fold.proofs.FoldLaws.{RowFold, negate_row, binary_row}
-use Rattle.fold.specs.declared.Fold.{Fold}
-use Rattle.fold.specs.declared.Fold.TheVariants.{NotConstant}
 use Rattle.consteval.specs.ConstEval.{signed32, literal, of_row, constant, const_eval}
 use Rattle.consteval.specs.Evaluates.{Consts}
+use Rattle.fold.specs.declared.Unfolded.TheVariants.{NotConstant}
 
 -- words of 32 bits
 abbrev pub Words32 : List ℕ → Type 0
@@ -66,10 +65,10 @@ module _ (ws : List ℕ) (W : Words32 ws) where
         go none e = tt
         go (some r) e = C.good name h r e
 
-    unary_row : (op : ℕ) (f : Fold) → RowFold n.count f → RowFold n.count (pick (eqb op 0) (negate_of f) NotConstant)
+    unary_row : (op : ℕ) (f : Fold) → RowFold n.count f → RowFold n.count (pick (eqb op 0) (negate_of f) (Err NotConstant))
     unary_row op f r = go (eqb op 0)
       where
-        go : (b : Bool) → RowFold n.count (pick b (negate_of f) NotConstant)
+        go : (b : Bool) → RowFold n.count (pick b (negate_of f) (Err NotConstant))
         go true = negate_row n.count f r
         go false = tt
 

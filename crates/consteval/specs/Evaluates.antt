@@ -1,20 +1,20 @@
 -- What `const_eval` asks of the words and the rows, and what it promises. Definitions only.
-use Rattle.std.specs.Prelude.{ℕ, ◌<◌, ◌≡◌, Bool, true, false, List, eqb, get_or}
+use Rattle.std.specs.Prelude.{ℕ, ◌<◌, ◌≡◌, Bool, true, false, List, get_or, Result, Ok, Err}
 use Rattle.std.proofs.Math.Option.{some}
-use Rattle.words.specs.Word.{kind_of, pick}
+use Rattle.words.specs.Word.{kind_of}
 use Rattle.expr.specs.Expr.{Strings, Expr}
 use Rattle.expr.specs.Stands.{Stands}
 use Rattle.skip.specs.Shape.{SomeExpr}
 use Rattle.table.specs.Rows.{Row, find}
 use Rattle.runs.specs.Runs.{Keeps}
 use Rattle.entries.specs.Entries.{entry_key}
-use Rattle.fold.specs.Value.{value_of}
+use Rattle.fold.specs.Value.{value_of, Fold}
 use Rattle.fold.specs.ValueLaws.{RowValue}
 use Rattle.fold.proofs.FoldLaws.{RowFold}
-use Rattle.fold.specs.declared.Fold.{Fold}
-use Rattle.fold.specs.declared.Fold.TheVariants.{Is, Overflow, NotConstant}
 use Rattle.consteval.specs.ConstEval.{row_value, const_eval}
 use Rattle.consteval.specs.declared.Folded.{Folded}
+use Rattle.fold.specs.declared.Unfolded.{Unfolded}
+use Rattle.fold.specs.declared.ConstWords.{ConstWords}
 
 -- ---- what is asked
 
@@ -48,11 +48,16 @@ pub record LiteralAt (ws : List ℕ) (at : ℕ) : Type 0 where
 
 -- the words of a value at the place
 abbrev pub laid_as : (next kind low high : ℕ) → Folded
-laid_as next kind low high = record { next = next; what = 0; kind = kind; low = low; high = high }
+laid_as next kind low high = record { next = next; value = Ok (record { kind = kind; low = low; high = high }) }
 
--- the answer that the words are
+-- the answer that words are
+abbrev pub read_as : Result ConstWords Unfolded → Fold
+read_as (Ok w) = Ok (value_of w.kind w.low w.high)
+read_as (Err e) = Err e
+
+-- the answer
 abbrev pub fold_of : Folded → Fold
-fold_of r = pick (eqb r.what 0) (Is (value_of r.kind r.low r.high)) (pick (eqb r.what 1) Overflow NotConstant)
+fold_of r = read_as r.value
 
 -- an answer whose value, if it is one, a CONST row may hold
 pub record RowSome (f : Fold) : Type 0 where
@@ -78,6 +83,5 @@ Past ws at r = (n : Strings) (e : Expr) (end : ℕ) → Stands ws n at e end →
 
 -- whether folding went well
 abbrev pub is_value : Fold → Bool
-is_value (Is v) = true
-is_value Overflow = false
-is_value NotConstant = false
+is_value (Ok v) = true
+is_value (Err e) = false

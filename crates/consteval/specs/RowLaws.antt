@@ -1,7 +1,7 @@
 -- The CONST rows of a lent table meet the rule that `const_eval` asks for, and what folding gives meets the rule of a lent table's CONST row: the rule
 -- of a lent table cites the rule of a folded value's words. Rows stay such when others, or a value, are entered. Assumes nothing.
 use Prim.Native.Nat.{ℕ, ◌+◌, ◌*◌, ◌<◌, ◌≤◌}
-use Rattle.std.specs.Prelude.{◌≡◌, refl, Bool, false, ◌⊎◌, eqb, drop}
+use Rattle.std.specs.Prelude.{◌≡◌, refl, Bool, false, ◌⊎◌, eqb, drop, Ok}
 use Rattle.std.proofs.Common.{sym, ◌∙◌, inl, inr, arith, eqb-true, length-drop, get_or-drop}
 use Rattle.std.proofs.Math.Path.{ap, subst}
 use Rattle.std.proofs.Math.Bool.{true}
@@ -23,7 +23,6 @@ use Rattle.fold.specs.Value.{const_rule, literal_kind, low_of, high_of}
 use Rattle.fold.specs.ValueLaws.{RowValue, rule_row, row_rule, value_words}
 use Rattle.fold.proofs.FoldLaws.{RowFold}
 use Rattle.fold.specs.declared.Value.{Value}
-use Rattle.fold.specs.declared.Fold.TheVariants.{Is}
 use Rattle.lent.specs.Rules.{rules, const_ok, word_ok, kind_ok, row_ok}
 use Rattle.lent.specs.RuleLaws.{words_ok_at}
 use Rattle.lent.specs.Valid.{const_ok_lem}
@@ -77,7 +76,7 @@ module _ {names : List ℕ} {rows : List Row} {count : ℕ} {buf : List ℕ} (L 
 
 -- THE LAW on rows: the row of a value that an expression gives is one that a lent table may hold
 pub const_again : {ws ns : List ℕ} {at : ℕ} {e : Expr} {end : ℕ} {rows : List Row} → Words32 ws → Consts (length ns) rows → Stands ws (strings ns) at e end
-    → {v : Value} → const_eval rows e ≡ Is v → (name : ℕ) → Named ns name → row_ok ns (const_row name (literal_kind v) (low_of v) (high_of v)) ≡ true
+    → {v : Value} → const_eval rows e ≡ Ok v → (name : ℕ) → Named ns name → row_ok ns (const_row name (literal_kind v) (low_of v) (high_of v)) ≡ true
 unfolding const_ok
 const_again {ws} {ns} {at} {e} {end} {rows} W C s {v} q name n =
     let r : RowValue (length ns) v = subst (RowFold (length ns)) q (const_row_lem {n = strings ns} W C s) in

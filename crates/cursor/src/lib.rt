@@ -4,55 +4,35 @@
 ghost use Rattle.reader.specs.Reading.{statement_of, expression_of};
 ghost use Rattle.cursor.specs.Lent.{Reads, Past};
 
-use reader::{Reader, Reading};
-
-// What a thin function stores and answers.
-#[derive(Clone, Copy)]
-pub struct Moved {
-    pub at: usize,
-    pub answer: Reading,
-}
-
-// A statement, on plain numbers.
-pub fn statement_from(at: usize, bytes: &[u8], ends: &[u32], words: &[u32]) -> Moved
-    ensures { Reads statement_of bytes.now ends.now words.now at result.answer result.at }
-{
-    let reader = Reader { at };
-    let m = reader.statement(bytes, ends, words);
-    let past = m.reader;
-    let at = past.at;
-    let answer = m.answer;
-    Moved { at, answer }
-}
-
-// An expression, on plain numbers.
-pub fn expression_from(at: usize, bytes: &[u8], ends: &[u32], words: &[u32]) -> Moved
-    ensures { Reads expression_of bytes.now ends.now words.now at result.answer result.at }
-{
-    let reader = Reader { at };
-    let m = reader.expression(bytes, ends, words);
-    let after = m.reader;
-    let at = after.at;
-    let answer = m.answer;
-    Moved { at, answer }
-}
+use reader::{Node, Reader};
+use words::Refusal;
 
 // Reads one statement where the cursor stands.
-pub fn next_statement(cursor: &mut Reader, bytes: &[u8], ends: &[u32], words: &[u32]) -> Reading
+pub fn next_statement(
+    cursor: &mut Reader,
+    bytes: &[u8],
+    ends: &[u32],
+    words: &[u32],
+) -> Result<Node, Refusal>
     ensures { Reads statement_of bytes.now ends.now words.now cursor.old.at result cursor.new.at }
 {
-    let m = statement_from(cursor.at, bytes, ends, words);
-    cursor.at = m.at;
-    m.answer
+    let past = cursor.statement(bytes, ends, words);
+    *cursor = past.reader;
+    past.answer
 }
 
 // Reads one expression where the cursor stands.
-pub fn next_expression(cursor: &mut Reader, bytes: &[u8], ends: &[u32], words: &[u32]) -> Reading
+pub fn next_expression(
+    cursor: &mut Reader,
+    bytes: &[u8],
+    ends: &[u32],
+    words: &[u32],
+) -> Result<Node, Refusal>
     ensures { Reads expression_of bytes.now ends.now words.now cursor.old.at result cursor.new.at }
 {
-    let m = expression_from(cursor.at, bytes, ends, words);
-    cursor.at = m.at;
-    m.answer
+    let after = cursor.expression(bytes, ends, words);
+    *cursor = after.reader;
+    after.answer
 }
 
 // The place past the statement at a place, or the same place where there is none: a cursor of its own is lent, so that a caller needs none.
@@ -60,7 +40,7 @@ pub fn past_statement(at: usize, bytes: &[u8], ends: &[u32], words: &[u32]) -> u
     ensures { Past statement_of bytes.now ends.now words.now at result }
 {
     let mut c = Reader { at };
-    next_statement(&mut c, bytes, ends, words);
+    let _ = next_statement(&mut c, bytes, ends, words);
     c.at
 }
 
@@ -69,6 +49,6 @@ pub fn past_expression(at: usize, bytes: &[u8], ends: &[u32], words: &[u32]) -> 
     ensures { Past expression_of bytes.now ends.now words.now at result }
 {
     let mut c = Reader { at };
-    next_expression(&mut c, bytes, ends, words);
+    let _ = next_expression(&mut c, bytes, ends, words);
     c.at
 }

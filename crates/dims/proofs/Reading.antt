@@ -1,5 +1,5 @@
 -- What the parts of a declarator are, by what its words say. No line here knows the code. Assumes nothing.
-use Prim.Native.Nat.{ℕ, ◌+◌, ◌-◌, ◌<◌, ◌≤◌}
+use Prim.Native.Nat.{ℕ, ◌+◌, ◌<◌, ◌≤◌}
 use native.Mathlib.Omega.{arith}
 use mathlib.Core.Path.{◌≡◌, refl, sym, ap, subst, ◌∙◌}
 use mathlib.Core.Bool.{Bool, true, false, ◌||◌, or-false}
@@ -17,16 +17,15 @@ use Rattle.tree.specs.Tree.{Tree, one, row, rows, word, value, list, part, this,
 use Rattle.tree.specs.Stands.{Stands, SomeTree}
 use Rattle.tree.proofs.Nodes.{cons_last, value_there}
 use Rattle.skip.specs.Shape.{SomeExpr}
-use Rattle.views.specs.View.{optional, items, expression, expressions, lower, declarator, as_type, head_of, arg_of}
+use Rattle.views.specs.View.{optional, items, expression, expressions, lower, declarator, as_type}
 use Rattle.collect.specs.Seen.{Seen, see}
 use Rattle.builtins.specs.Builtins.{is_some}
 use Rattle.collect.specs.Collect.{any_some}
-use Rattle.parts.specs.declared.TypeAt.{TypeAt}
-use Rattle.parts.specs.Parts.{AsTypeIs}
+use Rattle.lookup.specs.declared.Typed.{Typed}
+use Rattle.parts.specs.Parts.{AsTypeIs, written_if}
 use Rattle.parts.specs.Over.{rows_length, count_over, items_over, as_over}
 use Rattle.parts.specs.Turns.{SomeRows, Turn, turn_start, turn_next, turn_end, list_rows, list_all}
-use Rattle.dims.specs.declared.Bound.{Bound}
-use Rattle.dims.specs.declared.Ranked.{Ranked}
+use Rattle.std.specs.Prelude.{Option as RustOption, None, Some}
 use Rattle.dims.specs.declared.Decl.{Decl}
 use Rattle.dims.specs.Declarators.{rank_of, DimsIs, LowerIs, LowersIs, Is, DeclIs}
 
@@ -48,8 +47,8 @@ pub row_past : {ws : List ℕ} {at m : ℕ} → Skips ws at m → (ns : List ℕ
 row_past F ns n (cons (value e) done) end S = F (strings ns n) e end (value_there (cons_last S))
 
 -- rows that are only passed
-abbrev pub Passing : (ss : Sorts) (ws : List ℕ) (from total at left : ℕ) → Type 0
-Passing ss ws from total at left = Turn {A = Tree Expr (row ss)} {ss = ss} (λ r. r) (λ l. Unit {0}) ws from total at left
+abbrev pub Passing : (ss : Sorts) (ws : List ℕ) (from total at i : ℕ) → Type 0
+Passing ss ws from total at i = Turn {A = Tree Expr (row ss)} {ss = ss} (λ r. r) (λ l. Unit {0}) ws from total at i
 
 -- ---- the dimensions: the word 0, or the count of a list
 
@@ -64,13 +63,13 @@ module _ {ws : List ℕ} {at : ℕ} where
       go (that (part (cons (list rs) done))) T = (wrote_first T.wrote).inside
 
   -- it is 0: no array
-  pub dims_absent : get_or ws at 0 ≡ 0 → DimsIs ws at (record { array = false; rank = 0; next = at + 1 })
+  pub dims_absent : get_or ws at 0 ≡ 0 → DimsIs ws at None (at + 1)
   unfolding words_t Right optional over
   dims_absent z = record { is = go }
     where
       go : (ns : List ℕ) (n : ℕ) (v : Tree Expr (one (opt (exprs & nil)))) (end : ℕ) → Stands ws ns n at v end
-          → (is_some (optional expressions (over see v)) ≡ false) × (rank_of (optional expressions (over see v)) ≡ 0) × (at + 1 ≡ end)
-      go ns n (this done) end T = (refl, refl, omega (arith, T.wrote.span))
+          → (rank_of (optional expressions (over see v)) ≡ None) × (at + 1 ≡ end)
+      go ns n (this done) end T = (refl, omega (arith, T.wrote.span))
       go ns n (that (part (cons (list rs) done))) end T = absurd (omega (arith, (wrote_first T.wrote).is))
 
   -- it is a count: so many expressions follow
@@ -86,18 +85,18 @@ module _ {ws : List ℕ} {at : ℕ} where
   -- an array with so many dimensions, which ends after them
   pub dims_present : (get_or ws at 0 ≡ 0 → ⊥) → {m : ℕ}
       → ((ns : List ℕ) (n : ℕ) (rs : Tree Expr (rows (expr & nil))) (end : ℕ) → Stands ws ns n (at + 1) rs end → count rs ≡ pay_of (get_or ws at 0) → m ≡ end)
-      → DimsIs ws at (record { array = true; rank = pay_of (get_or ws at 0); next = m })
+      → DimsIs ws at (Some (pay_of (get_or ws at 0))) m
   unfolding words_t Right optional expressions items over
   dims_present z {m} F = record { is = go }
     where
       go : (ns : List ℕ) (n : ℕ) (v : Tree Expr (one (opt (exprs & nil)))) (end : ℕ) → Stands ws ns n at v end
-          → (is_some (optional expressions (over see v)) ≡ true) × (rank_of (optional expressions (over see v)) ≡ pay_of (get_or ws at 0)) × (m ≡ end)
+          → (rank_of (optional expressions (over see v)) ≡ Some (pay_of (get_or ws at 0))) × (m ≡ end)
       go ns n (this done) end T = absurd (z (wrote_first T.wrote).is)
       go ns n (that (part (cons (list rs) done))) end T =
           let f = wrote_first T.wrote in
           let r = f.rest in
           let k : count rs ≡ pay_of (get_or ws at 0) = sym (ap pay_of f.is ∙ pay_is 1 (count rs) T.valid.0.0) in
-          (refl, rows_length expression (over see rs) ∙ count_over see rs ∙ k, F ns n rs end (record { wrote = rw (append-nil (words_t rs)) at r; valid = T.valid.0.1 }) k)
+          (ap Some (rows_length expression (over see rs) ∙ count_over see rs ∙ k), F ns n rs end (record { wrote = rw (append-nil (words_t rs)) at r; valid = T.valid.0.1 }) k)
 
 -- ---- a lower bound: the word 0, or an expression
 
@@ -125,7 +124,7 @@ module _ {ws : List ℕ} {at : ℕ} where
           omega (arith, w.moves, w.inside)
 
   -- it is 0: no bound
-  pub lower_absent : get_or ws at 0 ≡ 0 → LowerIs ws at (record { there = false; next = at + 1 })
+  pub lower_absent : get_or ws at 0 ≡ 0 → LowerIs ws at false (at + 1)
   unfolding words_t Right optional lower over
   lower_absent z = record { is = go }
     where
@@ -146,7 +145,7 @@ module _ {ws : List ℕ} {at : ℕ} where
           record { strings = strings S.names S.strings; expr = e; end = S.end; stands = record { wrote = rw (append-nil (words e), append-nil (words e)) at T.wrote; valid = T.valid.0.0 } }
 
   -- a bound, which ends after it
-  pub lower_present : (get_or ws at 0 ≡ 0 → ⊥) → {m : ℕ} → Skips ws at m → LowerIs ws at (record { there = true; next = m })
+  pub lower_present : (get_or ws at 0 ≡ 0 → ⊥) → {m : ℕ} → Skips ws at m → LowerIs ws at true m
   unfolding words_t Right optional lower over
   lower_present z {m} F = record { is = go }
     where
@@ -170,26 +169,25 @@ any_snoc (y ∷ ys) x = go (is_some y) (any_snoc ys x)
     go true e = refl
     go false e = e
 
--- so many are left, and whether one of those before was written
-abbrev pub Lowering : (ws : List ℕ) (from total left : ℕ) → Bound → Type 0
-Lowering ws from total left any = Turn low (λ l. any_some l ≡ any.there) ws from total any.next left
+-- i were read, and whether one of them is written
+abbrev pub Lowering : (ws : List ℕ) (from total i : ℕ) → Bool → ℕ → Type 0
+Lowering ws from total i any m = Turn low (λ l. any_some l ≡ any) ws from total m i
 
--- none was read, all are left
-pub low_start : (ws : List ℕ) (from total : ℕ) → Lowering ws from total total (record { there = false; next = from })
+-- none was read
+pub low_start : (ws : List ℕ) (from total : ℕ) → Lowering ws from total 0 false from
 unfolding any_some
 low_start ws from total = turn_start (λ l. any_some l ≡ false) refl ws from total
 
 -- one more was read
-pub low_next : {ws : List ℕ} {from total left : ℕ} {any o : Bound} {t : Bool} → Lowering ws from total left any → 0 < left → LowerIs ws any.next o → t ≡ (any.there || o.there)
-    → Lowering ws from total (left - 1) (record { there = t; next = o.next })
-low_next {any = any} {o = o} {t = t} T h L e =
-    turn_next T h (λ l. any_some l ≡ t) o.next (λ ns n r end S. ((L.is ns n r end S).1, λ l p. any_snoc l (low r) ∙ ap (λ (x : Bool). x || is_some (low r)) p ∙ ap (λ (x : Bool). any.there || x) (L.is ns n r end S).0 ∙ sym e))
+pub low_next : {ws : List ℕ} {from total i m next : ℕ} {any there : Bool} → Lowering ws from total i any m → i < total → LowerIs ws m there next → Lowering ws from total (i + 1) (any || there) next
+low_next {next = next} {any = any} {there = there} T h L =
+    turn_next T h (λ l. any_some l ≡ (any || there)) next (λ ns n r end S. ((L.is ns n r end S).1, λ l many p. any_snoc l (low r) ∙ ap (λ (x : Bool). x || is_some (low r)) p ∙ ap (λ (x : Bool). any || x) (L.is ns n r end S).0))
 
--- none is left: all were read
-pub low_end : {ws : List ℕ} {at left : ℕ} {any : Bound} → Lowering ws (at + 1) (pay_of (get_or ws at 0)) left any → left ≤ 0 → LowersIs ws at any
-low_end {ws} {at} {left} {any} T z = record {
+-- all were read
+pub low_end : {ws : List ℕ} {at i m : ℕ} {any : Bool} → Lowering ws (at + 1) (pay_of (get_or ws at 0)) i any m → pay_of (get_or ws at 0) ≤ i → LowersIs ws at any m
+low_end {ws} {at} {i} {m} {any} T z = record {
   is = λ ns n v end S.
-      let p = list_all low (λ l m. (any_some l ≡ any.there) × (any.next ≡ m)) (λ ns n rs end S c. let q = turn_end T (omega arith) ns n rs end S c in (q.1, q.0)) ns n v end S in
+      let p = list_all low (λ l e. (any_some l ≡ any) × (m ≡ e)) (λ ns n rs end S c. let q = turn_end T z ns n rs end S c in (q.1, q.0)) ns n v end S in
       (ap any_some (items_over see lower low (λ r. refl) v) ∙ p.0, p.1);
 }
 
@@ -247,16 +245,16 @@ module _ {ws : List ℕ} {at : ℕ} (S : SomeTree (row DeclaratorRow) ws at) whe
   decl_dims = record { names = S.names; strings = S.strings; tree = here.dims; end = here.mid; stands = here.first }
 
   -- its lower bounds after them
-  pub decl_lows : {d : Ranked} → DimsIs ws (at + 1) d → SomeTree (one (many (opt (expr & nil) & nil))) ws d.next
-  decl_lows {d} D =
-      let e = (D.is S.names S.strings here.dims here.mid here.first).2 in
+  pub decl_lows : {rank : RustOption ℕ} {d : ℕ} → DimsIs ws (at + 1) rank d → SomeTree (one (many (opt (expr & nil) & nil))) ws d
+  decl_lows D =
+      let e = (D.is S.names S.strings here.dims here.mid here.first).1 in
       record { names = S.names; strings = S.strings; tree = here.lows; end = here.last; stands = subst (λ (m : ℕ). Stands ws S.names S.strings m here.lows here.last) (sym e) here.second }
 
   -- its type after these
-  pub decl_type : {d : Ranked} {l : Bound} → DimsIs ws (at + 1) d → LowersIs ws d.next l → SomeTree (one (opt (TypeSort & nil))) ws l.next
-  decl_type {d} {l} D L =
+  pub decl_type : {rank : RustOption ℕ} {low : Bool} {d l : ℕ} → DimsIs ws (at + 1) rank d → LowersIs ws d low l → SomeTree (one (opt (TypeSort & nil))) ws l
+  decl_type D L =
       let T = decl_lows D in
-      let e = (D.is S.names S.strings here.dims here.mid here.first).2 in
+      let e = (D.is S.names S.strings here.dims here.mid here.first).1 in
       let f = (L.is S.names S.strings here.lows here.last (subst (λ (m : ℕ). Stands ws S.names S.strings m here.lows here.last) (sym e) here.second)).1 in
       record { names = S.names; strings = S.strings; tree = here.type; end = S.end; stands = subst (λ (m : ℕ). Stands ws S.names S.strings m here.type S.end) (sym f) here.third }
 
@@ -266,21 +264,21 @@ unfolding declarator over
 declarator_is x ds ls t = refl
 
 -- the code's declarator, from its parts
-pub decl_is : {ws : List ℕ} {at : ℕ} {d : Ranked} {l : Bound} {t : TypeAt} → DimsIs ws (at + 1) d → LowersIs ws d.next l → AsTypeIs ws l.next t
-    → DeclIs ws at (record { name = pay_of (get_or ws at 0); array = d.array; rank = d.rank; lower = l.there; head = t.head; arg = t.arg; next = t.next })
-decl_is {ws} {at} {d} {l} {t} D L T = record { is = by; small = (omega arith, T.small) }
+pub decl_is : {ws : List ℕ} {at : ℕ} {rank : RustOption ℕ} {low : Bool} {ty : RustOption Typed} {d l next : ℕ} → DimsIs ws (at + 1) rank d → LowersIs ws d low l → AsTypeIs ws l ty next
+    → DeclIs ws at (record { name = pay_of (get_or ws at 0); rank = rank; lower = low; ty = ty; next = next })
+decl_is {ws} {at} {rank} {low} {ty} {d} {l} {next} D L T = record { is = by; small = (omega arith, T.small) }
   where
     by : (ns : List ℕ) (n : ℕ) (v : Tree Expr (row DeclaratorRow)) (end : ℕ) → Stands ws ns n at v end
-        → Is (record { name = pay_of (get_or ws at 0); array = d.array; rank = d.rank; lower = l.there; head = t.head; arg = t.arg; next = t.next }) (declarator (over see v)) × (t.next ≡ end) × (eqb (get_or ns (pay_of (get_or ws at 0)) 0) 1 ≡ true)
+        → Is (record { name = pay_of (get_or ws at 0); rank = rank; lower = low; ty = ty; next = next }) (declarator (over see v)) × (next ≡ end) × (eqb (get_or ns (pay_of (get_or ws at 0)) 0) 1 ≡ true)
     by ns n v end S =
         let p = in_decl v S in
         let a = D.is ns n p.dims p.mid p.first in
-        let b = L.is ns n p.lows p.last (subst (λ (m : ℕ). Stands ws ns n m p.lows p.last) (sym a.2) p.second) in
+        let b = L.is ns n p.lows p.last (subst (λ (m : ℕ). Stands ws ns n m p.lows p.last) (sym a.1) p.second) in
         let c = T.is ns n p.type end (subst (λ (m : ℕ). Stands ws ns n m p.type end) (sym b.1) p.third) in
         let i : declarator (over see v) ≡ record { name = p.name; dimensions = optional expressions (over see p.dims); lowers = items lower (over see p.lows); ty = optional as_type (over see p.type) } =
         ap (λ (y : Tree Expr (row DeclaratorRow)). declarator (over see y)) p.is ∙ declarator_is p.name p.dims p.lows p.type in
         let o = as_over see p.type in
-        (rw i (record { name = sym p.name_is; array = a.0; rank = a.1; lower = b.0; head = ap head_of o ∙ sym c.0; arg = ap arg_of o ∙ sym c.1 }), c.2, rw p.name_is p.named)
+        (rw i (record { name = sym p.name_is; rank = a.0; lower = b.0; ty = ap written_if o ∙ sym c.0 }), c.1, rw p.name_is p.named)
 
 -- ---- a list of declarators that is only passed
 

@@ -21,7 +21,8 @@ use Rattle.steps.proofs.Compose.{then}
 use Rattle.collect.specs.Seen.{Seen, see}
 use Rattle.collect.specs.Collect.{given, statement, dim, redim}
 use Rattle.collect.specs.Code.{Collects}
-use Rattle.dims.specs.Declarators.{Ready, ReadyStmt, DeclaresAll, Shares}
+use Rattle.dims.specs.Declarators.{Past, Flagged, Ready, ReadyStmt, DeclaresAll, Shares}
+use Rattle.dims.proofs.Doing.{ready_tree}
 
 -- its line, its list and the flag after it, where the words have them
 pub record Leads (ws ns : List ℕ) (n at line : ℕ) (l : Tree Expr (one (many DeclaratorRow))) (x : ℕ) : Type 0 where
@@ -55,10 +56,6 @@ module _ {ws ns : List ℕ} {n at line end : ℕ} where
   unfolding sorts number_of words_t Right over view is_set
   redim_seen (cons l (cons (word x) done)) S = record { list = l; flag = x; leads = leads 83 l x S.wrote S.valid.0 S.valid.1.0 S.valid.1.1.0.1; is = refl }
 
--- the place past the list, of whatever list stands there
-abbrev Past : (ws : List ℕ) (at p : ℕ) → Type 0
-Past ws at p = (ns : List ℕ) (n : ℕ) (v : Tree Expr (one (many DeclaratorRow))) (end : ℕ) → Stands ws ns n at v end → p ≡ end
-
 -- what is ready of a statement that is
 pub record Begun (bytes ends ws : List ℕ) (at : ℕ) : Type 0 where
   pub inside : at + 1 < length ws
@@ -82,6 +79,10 @@ module _ {bytes ends ws : List ℕ} {at : ℕ} where
   -- of a REDIM
   pub redim_begun : ReadyStmt redim_kind bytes ends ws at → Begun bytes ends ws at
   redim_begun R = begun R (redim_seen R.any.stmt.fields R.any.stmt.stands)
+
+-- its flag stands after its list
+pub begun_flag : {bytes ends ws : List ℕ} {at : ℕ} → Begun bytes ends ws at → Flagged ws (at + 1)
+begun_flag B = record { list = ready_tree B.list; inside = λ p P. B.flag_inside P }
 
 -- SHARED leaves counts that fit
 pub shares_fit : {bytes ends ws : List ℕ} {scope line : ℕ} {shared : Bool} {at : ℕ} {s r : Counts} {b d b' d' : List ℕ} → Ready bytes ends ws at → Shares ws scope line shared at s r b d b' d' → Fit r (length b') (length d')

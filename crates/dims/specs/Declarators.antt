@@ -1,68 +1,77 @@
 -- What the code of DIM and REDIM reads of a declarator, and what each of its parts does. Definitions only.
-use Rattle.std.specs.Prelude.{ℕ, ◌<◌, ◌≡◌, Bool, true, not, ◌&&◌, List, eqb, length, get_or}
+use Rattle.std.specs.Prelude.{ℕ, ◌+◌, ◌<◌, ◌≡◌, Bool, true, false, not, ◌&&◌, List, [], ◌∷◌, eqb, length, get_or, Option as RustOption, None, Some}
 use Rattle.std.proofs.Math.Option.{Option, none, some}
-use Rattle.words.specs.Word.{pick}
+use Rattle.words.specs.Word.{pick, pay_of}
 use Rattle.strings.specs.Table.{string_at}
 use Rattle.expr.specs.Expr.{Expr}
 use Rattle.tree.specs.Sorts.{Kind, expr, exprs, many, opt, nil, ◌&◌, Declarator as DeclaratorRow}
 use Rattle.tree.specs.Tree.{Tree, one, row, over}
-use Rattle.tree.specs.Stands.{Stands}
+use Rattle.tree.specs.Stands.{Stands, SomeTree}
 use Rattle.table.specs.Rows.{Row}
-use Rattle.entries.specs.Entries.{has_row, row_word, dim_shared_row}
-use Rattle.views.specs.View.{TypeRef, head, head_of, arg_of, Declarator, optional, items, expressions, lower, declarator}
+use Rattle.entries.specs.Entries.{dim_shared_row}
+use Rattle.views.specs.View.{TypeRef, head, Declarator, optional, items, expressions, lower, declarator}
 use Rattle.steps.specs.State.{each, when, enter}
 use Rattle.steps.specs.declared.Counts.{Counts}
-use Rattle.steps.specs.Held.{Fit, Sized, Does, Rows}
+use Rattle.steps.specs.Held.{Fit, Sized, Does, Rows, noting, pushing}
 use Rattle.collect.specs.Seen.{Seen, see}
 use Rattle.builtins.specs.Builtins.{is_some}
 use Rattle.collect.specs.Collect.{given, last_of, disagrees, is_record, any_some, member, declared_as, declared_array, declared, dim_shared}
 use Rattle.collect.specs.Code.{SomeStmt, Named}
-use Rattle.dims.specs.declared.Bound.{Bound}
-use Rattle.dims.specs.declared.Ranked.{Ranked}
+use Rattle.parts.specs.Parts.{written_if, arg_word}
 use Rattle.dims.specs.declared.Decl.{Decl}
 use Rattle.dims.specs.declared.Old.{Old}
 use Rattle.dims.specs.declared.Clash.{Clash}
 
 -- ---- a declarator
 
--- how many dimensions, 0 where there is no list of them
-abbrev pub rank_of : Option (List Seen) → ℕ
-rank_of none = 0
-rank_of (some dims) = length dims
+-- how many dimensions, where there is a list of them
+abbrev pub rank_of : Option (List Seen) → RustOption ℕ
+rank_of none = None
+rank_of (some dims) = Some (length dims)
 
 -- what the code reads of the dimensions is so of whatever option stands there
-pub record DimsIs (ws : List ℕ) (at : ℕ) (r : Ranked) : Type 0 where
-  pub is : (ns : List ℕ) (n : ℕ) (v : Tree Expr (one (opt (exprs & nil)))) (end : ℕ) → Stands ws ns n at v end
-      → (is_some (optional expressions (over see v)) ≡ r.array) × (rank_of (optional expressions (over see v)) ≡ r.rank) × (r.next ≡ end)
+pub record DimsIs (ws : List ℕ) (at : ℕ) (rank : RustOption ℕ) (next : ℕ) : Type 0 where
+  pub is : (ns : List ℕ) (n : ℕ) (v : Tree Expr (one (opt (exprs & nil)))) (end : ℕ) → Stands ws ns n at v end → (rank_of (optional expressions (over see v)) ≡ rank) × (next ≡ end)
 
 -- the same of a lower bound
-pub record LowerIs (ws : List ℕ) (at : ℕ) (r : Bound) : Type 0 where
-  pub is : (ns : List ℕ) (n : ℕ) (v : Tree Expr (row (opt (expr & nil) & nil))) (end : ℕ) → Stands ws ns n at v end
-      → (is_some (lower (over see v)) ≡ r.there) × (r.next ≡ end)
+pub record LowerIs (ws : List ℕ) (at : ℕ) (there : Bool) (next : ℕ) : Type 0 where
+  pub is : (ns : List ℕ) (n : ℕ) (v : Tree Expr (row (opt (expr & nil) & nil))) (end : ℕ) → Stands ws ns n at v end → (is_some (lower (over see v)) ≡ there) × (next ≡ end)
 
 -- and of the list of them: whether one is there
-pub record LowersIs (ws : List ℕ) (at : ℕ) (r : Bound) : Type 0 where
-  pub is : (ns : List ℕ) (n : ℕ) (v : Tree Expr (one (many (opt (expr & nil) & nil)))) (end : ℕ) → Stands ws ns n at v end
-      → (any_some (items lower (over see v)) ≡ r.there) × (r.next ≡ end)
+pub record LowersIs (ws : List ℕ) (at : ℕ) (there : Bool) (next : ℕ) : Type 0 where
+  pub is : (ns : List ℕ) (n : ℕ) (v : Tree Expr (one (many (opt (expr & nil) & nil)))) (end : ℕ) → Stands ws ns n at v end → (any_some (items lower (over see v)) ≡ there) × (next ≡ end)
 
 -- the code's declarator is this one
 pub record Is (v : Decl) (x : Declarator Seen) : Type 0 where
   pub name : x.name ≡ v.name
-  pub array : is_some x.dimensions ≡ v.array
   pub rank : rank_of x.dimensions ≡ v.rank
   pub lower : any_some x.lowers ≡ v.lower
-  pub head : head_of x.ty ≡ v.head
-  pub arg : arg_of x.ty ≡ v.arg
+  pub ty : written_if x.ty ≡ v.ty
 
 -- its name and its type's argument are payloads
 abbrev pub Small : Decl → Type 0
-Small v = (v.name < 16777216) × (v.arg < 16777216)
+Small v = (v.name < 16777216) × (arg_word v.ty < 16777216)
 
 -- what the code reads of a declarator is so of whatever stands there, its name is a name's, and its numbers are payloads
 pub record DeclIs (ws : List ℕ) (at : ℕ) (r : Decl) : Type 0 where
   pub is : (ns : List ℕ) (n : ℕ) (v : Tree Expr (row DeclaratorRow)) (end : ℕ) → Stands ws ns n at v end
       → Is r (declarator (over see v)) × (r.next ≡ end) × (eqb (get_or ns r.name 0) 1 ≡ true)
   pub small : Small r
+
+-- the place past the list, of whatever list stands there
+abbrev pub Past : (ws : List ℕ) (at p : ℕ) → Type 0
+Past ws at p = (ns : List ℕ) (n : ℕ) (v : Tree Expr (one (many DeclaratorRow))) (end : ℕ) → Stands ws ns n at v end → p ≡ end
+
+-- a list stands there, and a word after it
+pub record Flagged (ws : List ℕ) (at : ℕ) : Type 0 where
+  pub list : SomeTree (one (many DeclaratorRow)) ws at
+  pub inside : (p : ℕ) → Past ws at p → p < length ws
+
+-- whether that word is a flag that says yes
+pub record FlagIs (ws : List ℕ) (at : ℕ) (flag : Bool) : Type 0 where
+  pub place : ℕ
+  pub past : Past ws at place
+  pub is : flag ≡ eqb (pay_of (get_or ws place 0)) 1
 
 -- a list of declarators stands there, with names of these strings
 pub record Ready (bytes ends ws : List ℕ) (at : ℕ) : Type 0 where
@@ -85,19 +94,27 @@ abbrev pub Contradicts : (bytes ends : List ℕ) (name head : ℕ) → Bool → 
 Contradicts bytes ends name h r = (ty : TypeRef) → h ≡ head ty → r ≡ (not (is_record ty) && disagrees (last_of (string_at bytes ends name)) ty)
 
 -- the array that was there, if any
-pub record OldIs (o : Option Row) (r : Old) : Type 0 where
-  pub there : r.there ≡ has_row o
-  pub rank : r.rank ≡ row_word 2 o
-  pub lower : r.lower ≡ row_word 4 o
+abbrev pub old_of : Option Row → RustOption Old
+old_of none = None
+old_of (some r) = Some (record { rank = get_or r 2 0; lower = get_or r 4 0 })
+
+-- whether it had a lower bound that was written
+abbrev pub old_lower : RustOption Old → Bool
+old_lower None = false
+old_lower (Some old) = eqb old.lower 1
 
 -- what is said where it is declared again
-unfoldable pub clash_of : (erased : List ℕ) (is_redim preserve : Bool) (name rank : ℕ) → Old → Clash
-clash_of erased is_redim preserve name rank old =
-    pick old.there
-    (pick (not is_redim && not (member name erased)) (record { code = 19; number = 0 }) (
-    pick (eqb old.rank rank) (record { code = 0; number = 0 }) (
-    pick preserve (record { code = 20; number = old.rank }) (record { code = 21; number = old.rank }))))
-    (record { code = 0; number = 0 })
+unfoldable pub clash_of : (erased : List ℕ) (is_redim preserve : Bool) (name rank : ℕ) → RustOption Old → RustOption Clash
+clash_of erased is_redim preserve name rank None = None
+clash_of erased is_redim preserve name rank (Some old) =
+    pick (not is_redim && not (member name erased)) (Some (record { code = 19; number = 0 })) (
+    pick (eqb old.rank rank) None (
+    Some (record { code = pick preserve 20 21; number = old.rank })))
+
+-- its diagnostic, if any
+abbrev pub clashes : (line name : ℕ) → RustOption Clash → Sized
+clashes line name None = noting false []
+clashes line name (Some c) = pushing (c.code ∷ line ∷ (name + 1) ∷ 0 ∷ c.number ∷ 0 ∷ [])
 
 -- ---- what is done, whatever declarator the code's is
 

@@ -6,46 +6,30 @@ ghost use Rattle.expr.specs.Expr.{Expr};
 ghost use Rattle.tree.specs.Sorts.{expr as expr_sort, exprs as exprs_sort, many, opt, nil, ◌&◌, Declarator as DeclaratorRow, dim as dim_kind, redim as redim_kind};
 ghost use Rattle.tree.specs.Tree.{Tree, one, row, rows, count};
 ghost use Rattle.tree.specs.Stands.{Stands, SomeTree};
-ghost use Rattle.table.specs.Rows.{Row, width, find};
-ghost use Rattle.runs.specs.Runs.{Keeps};
+ghost use Rattle.table.specs.Rows.{Row, width, note_width, find};
+ghost use Rattle.runs.specs.Runs.{KeptIn};
 ghost use Rattle.entries.specs.Entries.{entry_key, has as has_entry};
-ghost use Rattle.steps.specs.Held.{Fit};
+ghost use Rattle.steps.specs.Held.{Fit, Notes};
 ghost use Rattle.collect.specs.Collect.{member};
 ghost use Rattle.parts.specs.Parts.{NameAt};
 ghost use Rattle.parts.specs.Turns.{SomeRows};
-ghost use Rattle.dims.specs.Declarators.{LowerIs, LowersIs, DimsIs, DeclIs, Small, OldIs, clash_of, Declares, DeclaresType, DeclaresArray, DeclaresAll, Shares, SharesAll, Ready, ReadyStmt, Contradicts};
+ghost use Rattle.dims.specs.Declarators.{LowerIs, LowersIs, DimsIs, DeclIs, Small, old_of, old_lower, clash_of, clashes, Declares, DeclaresType, DeclaresArray, DeclaresAll, Shares, SharesAll, Past, Flagged, FlagIs, Ready, ReadyStmt, Contradicts};
 ghost use Rattle.collect.specs.Code.{Collects};
 
 use entries::bit;
+use lookup::Typed;
 use steps::Counts;
-use table::Found;
+use table::Rows;
 
 // ---- a declarator, read
 
-// An optional expression, or a list of them: whether one is there, and the place past it.
-#[derive(Clone, Copy)]
-pub struct Bound {
-    there: bool,
-    next: usize,
-}
-
-// The dimensions: whether there is a list of them, how many, and the place past it.
-#[derive(Clone, Copy)]
-pub struct Ranked {
-    array: bool,
-    rank: u32,
-    next: usize,
-}
-
-// A declarator: its name, its dimensions, whether a lower bound is written, its type (head 0: none), and the place past it.
+// A declarator: its name, how many dimensions it has if it is an array, whether a lower bound is written, its type, and the place past it.
 #[derive(Clone, Copy)]
 pub struct Decl {
     name: u32,
-    array: bool,
-    rank: u32,
+    rank: Option<u32>,
     lower: bool,
-    head: u32,
-    arg: u32,
+    ty: Option<Typed>,
     next: usize,
 }
 
@@ -55,78 +39,49 @@ fn exprs(words: &[u32], from: usize, n: u32) -> usize
     ensures { (ns : List ℕ) (k : ℕ) (rs : Tree Expr (rows (expr_sort & nil))) (end : ℕ) → Stands words.now ns k from rs end → count rs ≡ n → result ≡ end }
 {
     let mut at = from;
-    let mut left = n;
-    while 0 < left {
+    for _ in 0..n {
         at = skip::expr(words, at);
-        left -= 1;
     }
     at
 }
 
-fn dimensions(words: &[u32], at: usize) -> Ranked
+// How many dimensions, where there is a list of them, and the place past it.
+fn dimensions(words: &[u32], at: usize) -> (Option<u32>, usize)
     requires { SomeTree (one (opt (exprs_sort & nil))) words.now at }
-    ensures { DimsIs words.now at result }
+    ensures { DimsIs words.now at result.0 result.1 }
 {
     let w = words[at];
     if w == 0 {
-        return Ranked {
-            array: false,
-            rank: 0,
-            next: at + 1,
-        };
+        return (None, at + 1);
     }
     let n = w % 16777216;
-    let next = exprs(words, at + 1, n);
-    Ranked {
-        array: true,
-        rank: n,
-        next: next,
-    }
+    (Some(n), exprs(words, at + 1, n))
 }
 
-// One lower bound.
-fn lower(words: &[u32], at: usize) -> Bound
+// Whether a lower bound is written there, and the place past it.
+fn lower(words: &[u32], at: usize) -> (bool, usize)
     requires { SomeTree (row (opt (expr_sort & nil) & nil)) words.now at }
-    ensures { LowerIs words.now at result }
+    ensures { LowerIs words.now at result.0 result.1 }
 {
     if words[at] == 0 {
-        return Bound {
-            there: false,
-            next: at + 1,
-        };
+        return (false, at + 1);
     }
-    let next = skip::expr(words, at);
-    Bound {
-        there: true,
-        next: next,
-    }
+    (true, skip::expr(words, at))
 }
 
-fn either(p: bool, q: bool) -> bool
-    ensures { result ≡ (p || q) }
-{
-    if p { true } else { q }
-}
-
-// The list of lower bounds: whether any is written.
-fn lowers(words: &[u32], at: usize) -> Bound
+// The list of lower bounds: whether any is written, and the place past it.
+fn lowers(words: &[u32], at: usize) -> (bool, usize)
     requires { SomeTree (one (many (opt (expr_sort & nil) & nil))) words.now at }
-    ensures { LowersIs words.now at result }
+    ensures { LowersIs words.now at result.0 result.1 }
 {
-    let mut left = words[at] % 16777216;
-    let mut any = Bound {
-        there: false,
-        next: at + 1,
-    };
-    while 0 < left {
-        let o = lower(words, any.next);
-        any = Bound {
-            there: either(any.there, o.there),
-            next: o.next,
-        };
-        left -= 1;
+    let mut any = false;
+    let mut m = at + 1;
+    for _ in 0..words[at] % 16777216 {
+        let (there, next) = lower(words, m);
+        any |= there;
+        m = next;
     }
-    any
+    (any, m)
 }
 
 fn declarator(words: &[u32], at: usize) -> Decl
@@ -134,33 +89,36 @@ fn declarator(words: &[u32], at: usize) -> Decl
     ensures { DeclIs words.now at result }
 {
     let name = words[at] % 16777216;
-    let d = dimensions(words, at + 1);
-    let l = lowers(words, d.next);
-    let t = parts::as_type(words, l.next);
+    let (rank, past_dimensions) = dimensions(words, at + 1);
+    let (lower, past_lowers) = lowers(words, past_dimensions);
+    let (ty, next) = parts::as_type(words, past_lowers);
     Decl {
-        name: name,
-        array: d.array,
-        rank: d.rank,
-        lower: l.there,
-        head: t.head,
-        arg: t.arg,
-        next: t.next,
+        name,
+        rank,
+        lower,
+        ty,
+        next,
     }
 }
 
 // Past the list of declarators there.
 fn past(words: &[u32], at: usize) -> usize
     requires { SomeTree (one (many DeclaratorRow)) words.now at }
-    ensures { (ns : List ℕ) (n : ℕ) (v : Tree Expr (one (many DeclaratorRow))) (end : ℕ) → Stands words.now ns n at v end → result ≡ end }
+    ensures { Past words.now at result }
 {
-    let mut left = words[at] % 16777216;
     let mut m = at + 1;
-    while 0 < left {
-        let v = declarator(words, m);
-        m = v.next;
-        left -= 1;
+    for _ in 0..words[at] % 16777216 {
+        m = declarator(words, m).next;
     }
     m
+}
+
+// Whether the flag after the list of declarators there says yes.
+fn flag_after(words: &[u32], at: usize) -> bool
+    requires { Flagged words.now at }
+    ensures { FlagIs words.now at result }
+{
+    words[past(words, at)] % 16777216 == 1
 }
 
 // ---- its type
@@ -170,35 +128,26 @@ fn contradicts(bytes: &[u8], ends: &[u32], name: u32, head: u32) -> bool
     requires { NameAt bytes.now ends.now name }
     ensures { Contradicts bytes.now ends.now name head result }
 {
-    if head == 45 {
-        return false;
-    }
-    parts::differs(bytes, ends, name, head)
+    head != 45 && parts::differs(bytes, ends, name, head)
 }
 
 // Whether the type is a record of no TYPE.
-fn undefined(b: &[u32], count: usize, head: u32, arg: u32) -> bool
-    requires { (count * width ≤ length b.now) × (arg < 16777216) }
-    ensures { (rows : List Row) → Keeps rows count b.now → result ≡ (eqb head 45 && not (has_entry rows 130 arg 0)) }
+fn undefined(rows: &Rows<'_>, ty: Typed) -> bool
+    requires { ty.arg < 16777216 }
+    ensures { (rs : List Row) → KeptIn rs rows.now → result ≡ (eqb ty.head 45 && not (has_entry rs 130 ty.arg 0)) }
 {
-    if head != 45 {
-        return false;
-    }
-    !lookup::has(b, count, 130, arg, 0)
+    ty.head == 45 && !lookup::has(rows, 130, ty.arg, 0)
 }
 
 // Whether a typed variable is there already, which REDIM allows.
-fn again(b: &[u32], count: usize, redim: bool, scope: u32, name: u32) -> bool
-    requires { (count * width ≤ length b.now) × (name < 16777216) }
-    ensures { (rows : List Row) → Keeps rows count b.now → result ≡ (has_entry rows 134 name scope && not redim) }
+fn again(rows: &Rows<'_>, redim: bool, scope: u32, name: u32) -> bool
+    requires { name < 16777216 }
+    ensures { (rs : List Row) → KeptIn rs rows.now → result ≡ (has_entry rs 134 name scope && not redim) }
 {
-    if redim {
-        return false;
-    }
-    lookup::has(b, count, 134, name, scope)
+    !redim && lookup::has(rows, 134, name, scope)
 }
 
-// `if let Some(ty) = &decl.ty`
+// What is done for its type, where it has one.
 fn declared_type(
     bytes: &[u8],
     ends: &[u32],
@@ -213,51 +162,54 @@ fn declared_type(
     requires { Fit s (length b.old) (length d.old) × Small v × NameAt bytes.now ends.now v.name }
     ensures { DeclaresType bytes.now ends.now scope line redim v s result b.old d.old b.new d.new }
 {
-    let head = v.head;
-    if head == 0 {
+    let Some(ty) = v.ty else {
         return s;
-    }
+    };
     let name = v.name;
-    let arg = v.arg;
-    let differs = contradicts(bytes, ends, name, head);
+    let differs = contradicts(bytes, ends, name, ty.head);
     let s1 = steps::push_if(d, s, differs, 15, line, name + 1, 0, 0, 0);
-    let unknown = undefined(b, s1.rows, head, arg);
-    let s2 = steps::push_if(d, s1, unknown, 16, line, arg + 1, 0, 0, 0);
-    let twice = again(b, s2.rows, redim, scope, name);
+    let rows = Rows {
+        words: b,
+        count: s1.rows,
+    };
+    let unknown = undefined(&rows, ty);
+    let s2 = steps::push_if(d, s1, unknown, 16, line, ty.arg + 1, 0, 0, 0);
+    let rows = Rows {
+        words: b,
+        count: s2.rows,
+    };
+    let twice = again(&rows, redim, scope, name);
     let s3 = steps::push_if(d, s2, twice, 17, line, name + 1, 0, 0, 0);
-    steps::enter(b, s3, 134, name, scope, head, arg, 0, 0)
+    steps::enter(b, s3, 134, name, scope, ty.head, ty.arg, 0, 0)
 }
 
 // ---- its array
 
-// The array of that name and scope that was there: its rank, and whether a lower bound was written.
+// An array that was there: its rank, and whether a lower bound was written, both as the words of its row say it.
 #[derive(Clone, Copy)]
 pub struct Old {
-    there: bool,
     rank: u32,
     lower: u32,
 }
 
-fn old_array(b: &[u32], count: usize, scope: u32, name: u32) -> Old
-    requires { (count * width ≤ length b.now) × (name < 16777216) }
-    ensures { (rows : List Row) → Keeps rows count b.now → OldIs (find (entry_key 133 name scope) rows) result }
+// The array of that name and scope, if one was there.
+fn old_array(rows: &Rows<'_>, scope: u32, name: u32) -> Option<Old>
+    requires { name < 16777216 }
+    ensures { (rs : List Row) → KeptIn rs rows.now → result ≡ old_of (find (entry_key 133 name scope) rs) }
 {
-    let found = lookup::find_entry(b, count, 133, name, scope);
-    match found {
-        Found::At(i) => {
-            let at = i * table::WIDTH;
-            Old {
-                there: true,
-                rank: b[at + 2],
-                lower: b[at + 4],
-            }
-        }
-        Found::Nothing => Old {
-            there: false,
-            rank: 0,
-            lower: 0,
-        },
-    }
+    let i = lookup::find_entry(rows, 133, name, scope)?;
+    let at = i * table::WIDTH;
+    Some(Old {
+        rank: rows.words[at + 2],
+        lower: rows.words[at + 4],
+    })
+}
+
+// Whether a lower bound is written, or was in the array that was there.
+fn any_lower(written: bool, old: Option<Old>) -> bool
+    ensures { result ≡ (written || old_lower old) }
+{
+    written || old.is_some_and(|o| o.lower == 1)
 }
 
 // Whether the name is one that some ERASE names. All are looked at: so the compiler can compare several at a time.
@@ -265,10 +217,8 @@ fn is_erased(erased: &[u32], name: u32) -> bool
     ensures { result ≡ member name erased.now }
 {
     let mut hit = false;
-    let mut i = 0;
-    while i < erased.len() {
-        hit = either(hit, erased[i] == name);
-        i += 1;
+    for &other in erased {
+        hit |= other == name;
     }
     hit
 }
@@ -277,47 +227,54 @@ fn is_erased(erased: &[u32], name: u32) -> bool
 fn kept(erased: &[u32], redim: bool, name: u32) -> bool
     ensures { result ≡ (not redim && not (member name erased.now)) }
 {
-    if redim {
-        return false;
-    }
-    !is_erased(erased, name)
+    !redim && !is_erased(erased, name)
 }
 
-// What is said of an array that is declared again: a diagnostic's code, 0 for none, and its number.
+// What is said of an array that is declared again: a diagnostic's code and its number. The code is one of document 01's numbers, as in the definition `clash_of`.
 #[derive(Clone, Copy)]
 pub struct Clash {
     code: u32,
     number: u32,
 }
 
-fn clashing(erased: &[u32], redim: bool, preserve: bool, name: u32, rank: u32, old: Old) -> Clash
+fn clashing(
+    erased: &[u32],
+    redim: bool,
+    preserve: bool,
+    name: u32,
+    rank: u32,
+    old: Option<Old>,
+) -> Option<Clash>
     ensures { result ≡ clash_of erased.now redim preserve name rank old }
 {
-    if !old.there {
-        return Clash { code: 0, number: 0 };
-    }
+    let old = old?;
     if kept(erased, redim, name) {
-        return Clash {
+        return Some(Clash {
             code: 19,
             number: 0,
-        };
+        });
     }
     if old.rank == rank {
-        return Clash { code: 0, number: 0 };
+        return None;
     }
-    if preserve {
-        return Clash {
-            code: 20,
-            number: old.rank,
-        };
-    }
-    Clash {
-        code: 21,
+    Some(Clash {
+        code: if preserve { 20 } else { 21 },
         number: old.rank,
+    })
+}
+
+// The diagnostic of a clash.
+fn say(d: &mut [u32], s: Counts, line: u32, name: u32, clash: Option<Clash>) -> Counts
+    requires { (s.notes * note_width ≤ length d.old) × (name < 16777216) }
+    ensures { Notes (clashes line name clash) s result d.old d.new }
+{
+    match clash {
+        Some(c) => steps::push(d, s, c.code, line, name + 1, 0, c.number, 0),
+        None => s,
     }
 }
 
-// `let Some(dims) = &decl.dimensions`
+// What is done for its dimensions, where it has them.
 fn declared_array(
     erased: &[u32],
     b: &mut [u32],
@@ -332,16 +289,19 @@ fn declared_array(
     requires { Fit s (length b.old) (length d.old) × Small v }
     ensures { DeclaresArray erased.now scope line redim preserve v s result b.old d.old b.new d.new }
 {
-    if !v.array {
+    let Some(rank) = v.rank else {
         return s;
-    }
+    };
     let name = v.name;
-    let rank = v.rank;
     let s1 = steps::push_if(d, s, rank == 0, 18, line, name + 1, 0, 0, 0);
-    let old = old_array(b, s1.rows, scope, name);
-    let c = clashing(erased, redim, preserve, name, rank, old);
-    let s2 = steps::push_if(d, s1, c.code != 0, c.code, line, name + 1, 0, c.number, 0);
-    let low = bit(either(v.lower, old.lower == 1));
+    let rows = Rows {
+        words: b,
+        count: s1.rows,
+    };
+    let old = old_array(&rows, scope, name);
+    let clash = clashing(erased, redim, preserve, name, rank, old);
+    let s2 = say(d, s1, line, name, clash);
+    let low = bit(any_lower(v.lower, old));
     steps::enter(b, s2, 133, name, scope, rank, line, low, 0)
 }
 
@@ -386,16 +346,14 @@ fn declare_all(
     requires { Fit s (length b.old) (length d.old) × Ready bytes.now ends.now words.now at }
     ensures { DeclaresAll words.now bytes.now ends.now erased.now scope line redim preserve at s result b.old d.old b.new d.new }
 {
-    let mut left = words[at] % 16777216;
     let mut m = at + 1;
     let mut c = s;
-    while 0 < left {
+    for _ in 0..words[at] % 16777216 {
         let v = declarator(words, m);
         m = v.next;
         c = declared(
             bytes, ends, erased, b, d, c, scope, line, redim, preserve, v,
         );
-        left -= 1;
     }
     c
 }
@@ -405,14 +363,12 @@ fn share_all(words: &[u32], b: &mut [u32], s: Counts, at: usize) -> Counts
     requires { (s.rows * width ≤ length b.old) × SomeTree (one (many DeclaratorRow)) words.now at }
     ensures { SharesAll words.now at s result b.old b.new }
 {
-    let mut left = words[at] % 16777216;
     let mut m = at + 1;
     let mut c = s;
-    while 0 < left {
+    for _ in 0..words[at] % 16777216 {
         let v = declarator(words, m);
         m = v.next;
-        c = steps::enter(b, c, 137, v.name, bit(v.array), 0, 0, 0, 0);
-        left -= 1;
+        c = steps::enter(b, c, 137, v.name, bit(v.rank.is_some()), 0, 0, 0, 0);
     }
     c
 }
@@ -456,8 +412,7 @@ pub fn dim(
     ensures { (ns : List ℕ) (n : ℕ) → Collects ns n dim_kind words.now bytes.now ends.now erased.now scope at s result b.old d.old b.new d.new }
 {
     let line = words[at] % 16777216;
-    let flag = past(words, at + 1);
-    let shared = words[flag] % 16777216 == 1;
+    let shared = flag_after(words, at + 1);
     let t = share(words, b, d, s, scope, line, shared, at + 1);
     declare_all(
         words,
@@ -475,7 +430,7 @@ pub fn dim(
     )
 }
 
-// REDIM. PRESERVE comes after the declarators in the words.
+// REDIM. PRESERVE comes after the declarators in the words. It differs from `dim` in what the flag does: SHARED is done before the declarators, PRESERVE goes with them.
 pub fn redim(
     words: &[u32],
     bytes: &[u8],
@@ -491,8 +446,7 @@ pub fn redim(
     ensures { (ns : List ℕ) (n : ℕ) → Collects ns n redim_kind words.now bytes.now ends.now erased.now scope at s result b.old d.old b.new d.new }
 {
     let line = words[at] % 16777216;
-    let flag = past(words, at + 1);
-    let preserve = words[flag] % 16777216 == 1;
+    let preserve = flag_after(words, at + 1);
     declare_all(
         words,
         bytes,

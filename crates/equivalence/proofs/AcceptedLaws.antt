@@ -2,7 +2,7 @@
 -- and whatever their lengths are only 7 and 8, which longer ones may avoid but never change anything else. Assumes nothing.
 use Rattle.std.specs.Prelude.{ℕ, ◌≤◌, ◌≡◌, ◌⊎◌, Bool, true, false, List, eqb, length}
 use Rattle.std.proofs.Math.Path.{refl, ap}
-use Rattle.std.proofs.Common.{sym, ◌∙◌, inl, inr, arith}
+use Rattle.std.proofs.Common.{◌∙◌, inl, inr, arith}
 use Rattle.std.proofs.Math.Option.{none, some}
 use Rattle.tree.specs.Tree.{Program}
 use Rattle.words.specs.Word.{pick}
@@ -13,7 +13,7 @@ use Rattle.expr.specs.Got.{Got, got, wrong, deep}
 use Rattle.tree.specs.Reader.{program_at}
 use Rattle.reader.specs.Sized.{sized_program}
 use Rattle.reader.specs.Program.{whole_of, erased_from, program_of, accepted_of}
-use Rattle.steps.specs.State.{State, running, stopped}
+use Rattle.steps.specs.State.{State}
 use Rattle.collect.specs.Collect.{given, analysed}
 use Rattle.equivalence.specs.Rooms.{Free, runs, nine, Full, seven, eight, Meets, full, longer}
 use Rattle.equivalence.specs.CollectRooms.{analysed_meets}

@@ -1,19 +1,19 @@
 -- Demand 3 is not empty: pairs of accepted programs that a list of steps links, and pairs that none links, each with its resolved words. Assumes nothing.
-use Prim.Native.Nat.{ℕ, zero, suc, ◌+◌}
+use Prim.Native.Nat.{ℕ}
 use mathlib.Core.Path.{◌≡◌, refl, sym, ap, ◌∙◌}
-use mathlib.Core.Bool.{Bool, true, false, false≢true}
+use mathlib.Core.Bool.{true, false, false≢true}
 use borrow.Author.Tests.{eq-eqb}
 use mathlib.Core.List.{List, [], ◌∷◌, ◌++◌}
-use mathlib.Core.Option.{Option, none as absent, some}
+use mathlib.Core.Option.{none as absent, some}
 use lib.Dec.{eqb}
-use lib.ListN.{length, get_or}
-use Rattle.words.specs.Told.{Told, stops, gives, after, unless}
+use lib.ListN.{get_or}
+use Rattle.words.specs.Told.{Told, after, unless}
 use Rattle.strings.specs.Name.{between, inner, suffix, rest, is_name}
 use Rattle.strings.specs.Order.{order}
 use Rattle.strings.specs.Table.{start_of, string_at, all_printable, end_right, rises, last_right, right_at, all_below, sound, marks_below, names_of}
 use Rattle.strings.specs.Open.{entry_of}
-use Rattle.expr.specs.Expr.{Expr, Lit, Integer, Var, Elem, Call, Binary, Paren, Exprs, none as e0, more as e1, many as count, words_l, words, words_all}
-use Rattle.expr.specs.Got.{Got, got, wrong, deep, bind}
+use Rattle.expr.specs.Expr.{Expr, Lit, Integer, Var, Elem, Call, Binary, Paren, none as e0, more as e1, many as count, words_l, words, words_all}
+use Rattle.expr.specs.Got.{bind}
 use Rattle.expr.specs.Reader.{raw_at, test_at, leaf_at, name_at, head_at, float_at, literal_body, literal_at, exprs_at, list_at, body_at, expr_at}
 use Rattle.tree.specs.Sorts.{sorts, kind_at, kinds, number_of, call, function}
 use Rattle.tree.specs.Tree as Trees
@@ -21,16 +21,16 @@ use Rattle.tree.specs.Tree.{Tree, one, row, word, value, Stmt, list, done, cons,
 use Rattle.tree.specs.Reader.{word_at, never_at, is_at, stmt_head, rows_at, field_at, row_at, rest_at, stmt_at, program_at}
 use Rattle.reader.specs.Sized.{sized_strings, sized_tree, sized_program}
 use Rattle.reader.specs.Program.{whole_of, erased_from, program_of, accepted_of}
-use Rattle.views.specs.Build.{Statement, rows_in, stmt_rows, program, subscripts, declarator, param, item, typeless, let_s, dim_s, shared_s, sub_s, function_s}
-use Rattle.table.specs.Rows.{Row, key, find}
+use Rattle.views.specs.Build.{rows_in, program, declarator, param, item, typeless, let_s, dim_s, shared_s, sub_s, function_s}
+use Rattle.table.specs.Rows.{Row}
 use Rattle.lookup.specs.Lookup.{shares, visible, lookup_array}
 use Rattle.collect.specs.Examples.{opened_both}
 use Rattle.collect.specs.Collect.{collected, analysed}
 use Rattle.resolve.specs.Tables.{nowhere, places, after as past, element}
 use Rattle.resolve.specs.FromRows.{tables_of}
 use Rattle.resolve.specs.Resolve.{passed, called, resolve_expr, resolve_args, first, inside, argued, resolve_tree, resolve_array_accesses}
-use Rattle.equivalence.specs.Chain.{Chain, empty, more as step_on, single}
-use Rattle.equivalence.specs.Step.{StepE, put, take, to_element, to_call, in_elem, in_left, in_right, in_call, in_paren, here, there, StepP, Steps, in_value, in_statement, in_list, in_head, in_tail, in_row, past_row}
+use Rattle.equivalence.specs.Chain.{more as step_on, single}
+use Rattle.equivalence.specs.Step.{StepE, put, to_call, in_left, in_right, in_call, in_paren, here, there, StepP, Steps, in_value, in_statement, in_list, in_head, in_tail, in_row, past_row}
 use Rattle.equivalence.specs.Analysis.{Analysis, result_of, analysis, Accepted}
 use Rattle.equivalence.proofs.Demand3.{demand_3}
 

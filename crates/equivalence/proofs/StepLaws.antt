@@ -5,8 +5,8 @@ use Rattle.std.proofs.Common.{sym, ap, ap₂, subst, ◌∙◌}
 use Rattle.std.proofs.Math.Path.{fun_ext}
 use Rattle.std.proofs.lemmas.Bool.{false≢true}
 use Rattle.expr.specs.Expr.{Expr, Lit, Var, Elem, Unary, Binary, Call, Field, Paren, Exprs, none, more}
-use Rattle.tree.specs.Sorts.{Sort, stmt, Sorts, Kind, sorts}
-use Rattle.tree.specs.Tree.{Shape, one, row, rows, Tree, word, value, Stmt, list, part, this, that, done, cons, none as nothing, more as add, over}
+use Rattle.tree.specs.Sorts.{stmt, Kind, sorts}
+use Rattle.tree.specs.Tree.{Shape, one, row, Tree, word, value, Stmt, list, part, this, that, done, cons, none as nothing, more as add, over}
 use Rattle.views.specs.Strip.{strip_e, strip_l, strip}
 use Rattle.resolve.specs.Tables.{Tables, Places, nowhere, places, after, element}
 use Rattle.resolve.specs.Resolve.{called, first, inside, argued}

@@ -17,7 +17,7 @@ use Rattle.tree.specs.Tree.{words_t}
 use Rattle.tree.specs.Reader.{word_at, never_at, is_at, stmt_head, rows_at, field_at, row_at, rest_at, stmt_at, program_at}
 use Rattle.reader.specs.Sized.{sized_strings, sized_tree, sized_program}
 use Rattle.reader.specs.Program.{whole_of, erased_from, program_of, accepted_of}
-use Rattle.table.specs.Rows.{Row, key, find}
+use Rattle.table.specs.Rows.{Row}
 use Rattle.lookup.specs.Lookup.{shares, visible, lookup_array}
 use Rattle.collect.specs.Examples.{opened_both}
 use Rattle.collect.specs.Collect.{collected, analysed}

@@ -1,5 +1,5 @@
 -- Each definition of `collect` and `check_name_collisions`, in their order, keeps what Rooms says of the lent buffers' lengths. Assumes nothing.
-use Rattle.std.specs.Prelude.{ℕ, ◌+◌, Bool, ◌&&◌, ◌||◌, eqb, leb, length, get_or}
+use Rattle.std.specs.Prelude.{ℕ, ◌+◌, Bool, ◌&&◌, eqb, leb, length, get_or, Ok, Err}
 use Rattle.std.proofs.Math.Bool.{true, false, not}
 use mathlib.Core.List.{List, [], ◌∷◌}
 use Rattle.std.proofs.Math.Option.{Option, none, some}
@@ -8,17 +8,17 @@ use Rattle.expr.specs.Expr.{Expr}
 use Rattle.tree.specs.Sorts.{body}
 use Rattle.tree.specs.Tree.{Shape, one, Tree, word, value, Stmt, list, part, this, that, done, cons, none as nothing, more, over}
 use Rattle.views.specs.View.{TypeRef, Integer, Long, Single, Double, FixedString, Record, Declarator, Param, ScopeItem, FieldDecl, View, Label, LabelName, OptionBase, TypeDef, Const, Shared, Static, Dim, Redim, Sub, Function, Other, view, inner, walk}
-use Rattle.fold.specs.declared.Fold.{Fold}
-use Rattle.fold.specs.declared.Fold.TheVariants.{Is, Overflow, NotConstant}
 use Rattle.table.specs.Rows.{Row, find}
 use Rattle.entries.specs.Entries.{entry_key, has}
 use Rattle.builtins.specs.Builtins.{is_builtin}
 use Rattle.subscripts.specs.Subscripts.{subscript_count}
-use Rattle.steps.specs.State.{State, running, Step, enter}
+use Rattle.steps.specs.State.{running, Step, enter}
 use Rattle.collect.specs.Seen.{Seen, see}
 use Rattle.collect.specs.Collect as C
 use Rattle.collect.specs.Collect.{Given, Proc, RecordInfo, with_field, rejected}
 use Rattle.equivalence.specs.Rooms.{Meets, Keeps, constant, push_k, change_k, nothing_k, stop_k, then_k, pick_k, when_k, asking_k, each_k}
+use Rattle.fold.specs.Value.{Fold}
+use Rattle.fold.specs.declared.Unfolded.TheVariants.{Overflow, NotConstant}
 
 module _ (string : ℕ → List ℕ) (erased : List ℕ) where
   -- buffers of r and d words; no limits
@@ -72,9 +72,9 @@ module _ (string : ℕ → List ℕ) (erased : List ℕ) where
 
   folded_k : (line name : ℕ) (f : Fold) → Keeps (λ r d. C.folded (G r d) line name f) (C.folded G₀ line name f)
   unfolding C.folded
-  folded_k line name (Is v) = enter_k _
-  folded_k line name Overflow = push_k _
-  folded_k line name NotConstant = push_k _
+  folded_k line name (Ok v) = enter_k _
+  folded_k line name (Err Overflow) = push_k _
+  folded_k line name (Err NotConstant) = push_k _
 
   const_k : (line name : ℕ) (e : Seen) → Keeps (λ r d. C.const (G r d) line name e) (C.const G₀ line name e)
   unfolding C.const

@@ -2,12 +2,12 @@
 -- they do what they do without limits; and with buffers of any length they do that, and all longer ones too, or they stop with 7 or 8. Assumes nothing.
 --
 -- The proof goes through the definition of `collect` once: each of its steps, under all rooms at once, keeps these three facts.
-use Rattle.std.specs.Prelude.{ℕ, zero, suc, ◌+◌, ◌*◌, ◌≤◌, max, ◌≡◌, refl, ◌⊎◌, Bool, true, false, ◌&&◌, ◌||◌, not, List, [], ◌∷◌, ◌++◌, eqb, leb, length, get_or}
-use Rattle.std.proofs.Common.{sym, ap, subst, ◌∙◌, inl, inr, arith, le-leb, leb-true}
-use Rattle.std.proofs.Math.Option.{Option, none, some}
+use Rattle.std.specs.Prelude.{ℕ, ◌*◌, ◌≤◌, max, ◌≡◌, refl, ◌⊎◌, Bool, true, false, List, [], ◌∷◌, ◌++◌, leb, length}
+use Rattle.std.proofs.Common.{sym, ◌∙◌, inl, inr, arith, le-leb, leb-true}
+use Rattle.std.proofs.Math.Option.{none, some}
 use Rattle.words.specs.Word.{pick}
 use Rattle.table.specs.Rows.{Row, width, note_width}
-use Rattle.steps.specs.State.{State, running, stopped, Step, when, asking, each, stop, fits, change, enter, push}
+use Rattle.steps.specs.State.{State, running, stopped, Step, when, asking, each, stop, fits, change, push}
 
 -- what a run without limits can end in
 pub data Free : State → Type 0 where

@@ -4,7 +4,7 @@
 -- array nor record of a known procedure (`places`), which names are visible arrays and no procedures (`element`), in which scope a statement's
 -- inside stands (`inside`), and that the list of a CALL statement holds arguments (`argued`). No step mentions a resolved tree.
 use Rattle.std.specs.Prelude.{ℕ, ◌≡◌, Bool, true, false, List}
-use Rattle.expr.specs.Expr.{Expr, Lit, Var, Elem, Unary, Binary, Call, Field, Paren, Exprs, none, more}
+use Rattle.expr.specs.Expr.{Expr, Elem, Unary, Binary, Call, Field, Paren, Exprs, more}
 use Rattle.tree.specs.Sorts.{Sort, expr, stmt, many, group, either, Sorts, nil, ◌&◌, Kind, sorts}
 use Rattle.tree.specs.Tree.{Shape, one, row, rows, Tree, value, Stmt, list, part, this, that, cons, more as add, Program}
 use Rattle.table.specs.Rows.{Row}

@@ -1,40 +1,40 @@
 -- What the entry's answers tell, by the way that they took. No line here knows the code. Assumes nothing.
-use Prim.Native.Nat.{ℕ}
+use Prim.Native.Nat.{ℕ, ◌*◌, ◌≤◌}
 use mathlib.Core.Path.{◌≡◌, refl, sym, ap, ◌∙◌, subst}
 use mathlib.Core.List.{List}
 use Rattle.words.specs.Sizes.{max_depth}
 use Rattle.words.specs.Told.{Told, gives, after}
 use Rattle.words.specs.Refusals.{refused}
 use Rattle.words.specs.declared.Refusal.{Refusal}
-use Rattle.words.specs.declared.Refusal.TheVariants.{Word, Depth, Rows as RowsRefused}
+use Rattle.words.specs.declared.Refusal.TheVariants.{Rows as RowsRefused}
 use Rattle.expr.specs.Reader.{expr_at}
-use Rattle.expr.specs.Answer.{step_of}
+use Rattle.expr.specs.Answer.{step_of, refusal_of, Step}
+use Rattle.expr.specs.declared.Misread.{Misread}
 use Rattle.expr.specs.declared.Cursor.{Cursor}
-use Rattle.expr.specs.declared.Step.{Step}
-use Rattle.expr.specs.declared.Step.TheVariants.{Read, Wrong, Deep}
 use Rattle.expr.proofs.Complete.{stands}
 use Rattle.reader.specs.Answered.{answer_read, answer_wrong, answer_deep}
-use Rattle.table.specs.Rows.{Row, rows_of}
+use lib.ListN.{length}
+use Rattle.table.specs.Rows.{Row, width, rows_of}
+use Rattle.table.specs.Images.{holds_fits}
 use Rattle.runs.specs.Laws.{holds_keeps}
 use Rattle.lent.specs.Lent.{checked, told as told_rows, lent_rows, Lent}
 use Rattle.lent.specs.LentLaws.{checked_sound}
-use Rattle.lent.specs.declared.Checked.{Checked}
-use Rattle.lent.specs.declared.Checked.TheVariants.{Bad, Rows}
 use Rattle.consteval.specs.ConstEval.{const_eval}
 use Rattle.consteval.specs.Evaluates.{fold_of, Ready, Evaluates as Folds}
 use Rattle.consteval.specs.EvalLaws.{Words32}
 use Rattle.consteval.specs.RowLaws.{strings, lent_consts}
-use Rattle.fold.specs.declared.Fold.{Fold}
 use Rattle.consteval.specs.declared.Folded.{Folded as Answered}
 use Rattle.evaluate.specs.Outcome.{outcome_of}
 use Rattle.evaluate.specs.Evaluate.{Past, under_of, read_under, eval_of, told_as, moved_of, Tells, WasRead}
-use Rattle.evaluate.specs.declared.Answer.TheVariants.{Folded, Refused}
 use Rattle.evaluate.specs.declared.Evaluation.{Evaluation}
+use Rattle.std.specs.Prelude.{Ok, Err, Option, None, Some}
+use Rattle.expr.specs.declared.Misread.TheVariants.{Wrong, Deep}
+use Rattle.fold.specs.Value.{Fold}
 
 -- ---- a refusal leaves the place
 
 -- so it is told
-pub refused_tells : (at : ℕ) (r : Refusal) → Tells at (record { answer = Refused r; at = at }) (refused r)
+pub refused_tells : (at : ℕ) (r : Refusal) → Tells at (record { answer = Err r; at = at }) (refused r)
 unfolding told_as moved_of refused
 refused_tells at r = record { told = refl; moved = refl }
 
@@ -54,39 +54,39 @@ module _ (ns ws : List ℕ) (at : ℕ) (buf : List ℕ) where
   read_is R = ap (read_under ns buf) R.reads
 
   -- an expression was read
-  pub was_read : {s : Step} {c : Cursor} → s ≡ step_of (expr_at ws (strings ns) max_depth at) → s ≡ Read c → WasRead ns ws at
+  pub was_read : {s : Step} {c : Cursor} → s ≡ step_of (expr_at ws (strings ns) max_depth at) → s ≡ Ok c → WasRead ns ws at
   was_read {c = c} e q = let r = answer_read (expr_at ws (strings ns) max_depth at) e q in record { expr = r.tree; end = c.at; reads = r.is }
 
-  -- a wrong word: 2
-  pub wrong_is : {s : Step} {p : ℕ} → s ≡ step_of (expr_at ws (strings ns) max_depth at) → s ≡ Wrong p → refused (Word p) ≡ eval_of ns ws at buf
+  -- a wrong word: 2; one too deep: 3
+  pub misread_is : {s : Step} (m : Misread) → s ≡ step_of (expr_at ws (strings ns) max_depth at) → s ≡ Err m → refused (refusal_of m) ≡ eval_of ns ws at buf
   unfolding eval_of read_under refused
-  wrong_is e q = rw (answer_wrong (expr_at ws (strings ns) max_depth at) e q) refl
-
-  -- one too deep: 3
-  pub deep_is : {s : Step} {p : ℕ} → s ≡ step_of (expr_at ws (strings ns) max_depth at) → s ≡ Deep p → refused (Depth p) ≡ eval_of ns ws at buf
-  unfolding eval_of read_under refused
-  deep_is e q = rw (answer_deep (expr_at ws (strings ns) max_depth at) e q) refl
+  misread_is (Wrong p) e q = rw (answer_wrong (expr_at ws (strings ns) max_depth at) e q) refl
+  misread_is (Deep p) e q = rw (answer_deep (expr_at ws (strings ns) max_depth at) e q) refl
 
   -- ---- under the rows
 
   -- rows that are no lent table: 6
-  pub rows_bad : WasRead ns ws at → {k : Checked} → k ≡ checked ns buf → k ≡ Bad → refused RowsRefused ≡ eval_of ns ws at buf
+  pub rows_bad : WasRead ns ws at → {k : Option ℕ} → k ≡ checked ns buf → k ≡ None → refused RowsRefused ≡ eval_of ns ws at buf
   unfolding under_of lent_rows after refused
-  rows_bad R e q = sym (read_is R ∙ ap (λ (c : Checked). after (told_rows buf c) (λ (rows : List Row). gives (record { outcome = outcome_of (const_eval rows R.expr); end = R.end }))) (sym e ∙ q))
+  rows_bad R e q = sym (read_is R ∙ ap (λ (c : Option ℕ). after (told_rows buf c) (λ (rows : List Row). gives (record { outcome = outcome_of (const_eval rows R.expr); end = R.end }))) (sym e ∙ q))
 
-  module _ (R : WasRead ns ws at) {k : Checked} {n : ℕ} (e : k ≡ checked ns buf) (q : k ≡ Rows n) where
+  module _ (R : WasRead ns ws at) {k : Option ℕ} {n : ℕ} (e : k ≡ checked ns buf) (q : k ≡ Some n) where
     lent : Lent ns (rows_of n buf) n buf
     lent = checked_sound ns n buf (sym e ∙ q)
+
+    -- a lent table's rows fit
+    pub rows_fit : n * width ≤ length buf
+    rows_fit = holds_fits lent.holds.filled
 
     -- a lent table: the expression may be folded
     pub rows_ready : Words32 buf → Ready ws at buf n
     rows_ready W = record { strings = strings ns; expr = R.expr; end = R.end; stands = stands max_depth R.reads; rows = rows_of n buf; holds = holds_keeps lent.holds; consts = lent_consts lent W }
 
     -- then what it folds to is told, with the place past it
-    pub rows_fine : {f : Answered} {g : Fold} → g ≡ fold_of f → Folds ws at buf n f → Tells at (record { answer = Folded g; at = f.next }) (eval_of ns ws at buf)
+    pub rows_fine : {f : Answered} {g : Fold} → g ≡ fold_of f → Folds ws at buf n f → Tells at (record { answer = Ok g; at = f.next }) (eval_of ns ws at buf)
     unfolding told_as moved_of under_of lent_rows after
     rows_fine {f} {g} p E =
         let i = E (strings ns) R.expr R.end (stands max_depth R.reads) (rows_of n buf) (holds_keeps lent.holds) in
         let d : eval_of ns ws at buf ≡ gives (record { outcome = outcome_of (const_eval (rows_of n buf) R.expr); end = R.end }) =
-        read_is R ∙ ap (λ (c : Checked). after (told_rows buf c) (λ (rows : List Row). gives (record { outcome = outcome_of (const_eval rows R.expr); end = R.end }))) (sym e ∙ q) in
+        read_is R ∙ ap (λ (c : Option ℕ). after (told_rows buf c) (λ (rows : List Row). gives (record { outcome = outcome_of (const_eval rows R.expr); end = R.end }))) (sym e ∙ q) in
         tells_as (record { told = rw (p, i.answer, i.past) refl; moved = i.past }) (sym d)

@@ -1,6 +1,6 @@
 -- `const_eval` as an entry: an expression at a place, under lent rows. The number and the place that stop the call, or the outcome and the place past
 -- the expression. Definitions only.
-use Rattle.std.specs.Prelude.{ℕ, ◌≡◌, List, length}
+use Rattle.std.specs.Prelude.{ℕ, ◌≡◌, List, length, Result, Ok, Err}
 use Rattle.words.specs.Sizes.{max_depth}
 use Rattle.words.specs.Told.{Told, stops, gives, after}
 use Rattle.words.specs.Refusals.{refused}
@@ -15,9 +15,9 @@ use Rattle.lent.specs.Lent.{lent_rows}
 use Rattle.consteval.specs.ConstEval.{const_eval}
 use Rattle.tree.specs.Tree.{strings}
 use Rattle.evaluate.specs.Outcome.{Outcome, outcome_of}
-use Rattle.evaluate.specs.declared.Answer.{Answer}
-use Rattle.evaluate.specs.declared.Answer.TheVariants.{Folded, Refused}
 use Rattle.evaluate.specs.declared.Evaluation.{Evaluation}
+use Rattle.words.specs.declared.Refusal.{Refusal}
+use Rattle.fold.specs.Value.{Fold}
 
 -- an outcome, and the place past the expression
 pub record Past : Type 0 where
@@ -41,9 +41,9 @@ unfolding read_under
 eval_of ns ws at buf = read_under ns buf (expr_at ws (strings ns (length ns)) max_depth at)
 
 -- document 01's number and values for each case of the answer, with the place that comes back
-unfoldable pub told_as : ℕ → Answer → Told Past
-told_as at (Folded f) = gives (record { outcome = outcome_of f; end = at })
-told_as at (Refused r) = refused r
+unfoldable pub told_as : ℕ → Result Fold Refusal → Told Past
+told_as at (Ok f) = gives (record { outcome = outcome_of f; end = at })
+told_as at (Err r) = refused r
 
 -- the place afterwards: past the expression, or as it came
 unfoldable pub moved_of : ℕ → Told Past → ℕ

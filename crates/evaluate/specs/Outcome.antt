@@ -1,8 +1,7 @@
 -- Document 01's words for what folding answers: a constant's literal kind and its 64 bits, or the code of the diagnostic. Definitions only.
-use Rattle.std.specs.Prelude.{ℕ}
-use Rattle.fold.specs.Value.{literal_kind, low_of, high_of}
-use Rattle.fold.specs.declared.Fold.{Fold}
-use Rattle.fold.specs.declared.Fold.TheVariants.{Is, Overflow, NotConstant}
+use Rattle.std.specs.Prelude.{ℕ, Ok, Err}
+use Rattle.fold.specs.Value.{literal_kind, low_of, high_of, Fold}
+use Rattle.fold.specs.declared.Unfolded.TheVariants.{Overflow, NotConstant}
 
 -- a constant, or a code
 pub data Outcome : Type 0 where
@@ -13,6 +12,6 @@ pub data Outcome : Type 0 where
 
 -- the words of what folding answers
 unfoldable pub outcome_of : Fold → Outcome
-outcome_of (Is v) = constant (literal_kind v) (low_of v) (high_of v)
-outcome_of Overflow = code 11
-outcome_of NotConstant = code 12
+outcome_of (Ok v) = constant (literal_kind v) (low_of v) (high_of v)
+outcome_of (Err Overflow) = code 11
+outcome_of (Err NotConstant) = code 12

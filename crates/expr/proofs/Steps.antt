@@ -1,24 +1,24 @@
 -- Between what the definition gives and the answer of the code, which leaves the tree out. Assumes nothing.
 use Prim.Native.Nat.{ℕ, zero, suc, ◌+◌, ◌<◌, ◌≤◌, ◌-◌}
-use mathlib.Core.Path.{◌≡◌, refl, sym, ap, subst, ◌∙◌}
-use mathlib.Core.List.{List, [], ◌∷◌}
+use mathlib.Core.Path.{◌≡◌, refl, sym, ap, ◌∙◌}
+use mathlib.Core.List.{List}
 use mathlib.Core.Logic.{◌⊎◌, inl, inr, ⊎_elim}
 use native.Mathlib.Omega.{arith}
 use native.Mathlib.Numerals.{sub-one}
 use native.Mathlib.Decide.{ℕ_discrete}
 use lib.ListN.{get_or}
-use types.Run.{OneOf}
-use denote.Enum.Declared.{tag_of}
 use Rattle.expr.specs.Got.{Got, got, wrong, deep, bind}
 use Rattle.words.specs.Word.{kind_of, pay_of}
 use Rattle.expr.specs.Expr.{Strings, finite, Literal, Single, Expr}
 use Rattle.expr.specs.Reader.{raw_at, test_at, leaf_at, name_at, head_at, float_at, literal_body, literal_at, exprs_at, list_at, body_at, expr_at}
 use Rattle.expr.proofs.Laws.{IsHead, head_got, IsLeaf, leaf_got}
-use Rattle.expr.specs.Answer.{step_of, then}
+use Rattle.expr.specs.Answer.{step_of, then, Step}
 use Rattle.expr.specs.declared.Cursor.{Cursor}
-use Rattle.expr.specs.declared.Step.{Step}
-use Rattle.expr.specs.declared.Step.TheVariants.{Read, Wrong, Deep}
-use Rattle.expr.specs.contracts.Step.{the_type}
+use Rattle.std.specs.Prelude.{Ok, Err}
+use Rattle.std.specs.Result.{IsErrAnd}
+use Rattle.std.proofs.lemmas.Result.{err_from_is_err_and}
+use Rattle.expr.specs.declared.Misread.{Misread}
+use Rattle.expr.specs.declared.Misread.TheVariants.{Wrong, Deep}
 
 -- what the last reading is made into does not show in the answer
 pub step_map : {A B : Type 0} (f : A → B) (p : Got A) → step_of (bind p (λ a m. got (f a) m)) ≡ step_of p
@@ -28,21 +28,25 @@ step_map f (wrong p) = refl
 step_map f (deep p) = refl
 
 -- an answer `Read` comes from a value
-pub read : {A : Type 0} (p : Got A) {s : Step} {c : Cursor} → s ≡ step_of p → s ≡ Read c → (a : A) × (p ≡ got a c.at)
+pub read : {A : Type 0} (p : Got A) {s : Step} {c : Cursor} → s ≡ step_of p → s ≡ Ok c → (a : A) × (p ≡ got a c.at)
 unfolding step_of
 read (got a m) {s} {c} e r = (a, ap (got a) (cc))
-read (wrong p) {s} {c} e r = let z : ◌≡◌ {A = ℕ} 0 1 = cc in absurd (omega arith)
-read (deep p) {s} {c} e r = let z : ◌≡◌ {A = ℕ} 0 1 = cc in absurd (omega arith)
+read (wrong p) e r = cc
+read (deep p) e r = cc
+
+-- a `?` hands an `Err` on as it is
+pub hands_on : {r : Step} {m : Misread} → IsErrAnd r (λ x. x ≡ m) → r ≡ Err m
+hands_on {r} h = let p = err_from_is_err_and r h in p.1 ∙ ap Err p.2
 
 -- any other answer is the whole's
-pub stop : {A B : Type 0} (p : Got A) (k : A → ℕ → Got B) {s : Step} → s ≡ step_of p → OneOf (1 ∷ 2 ∷ []) (tag_of the_type s) → s ≡ step_of (bind p k)
+pub stop : {A B : Type 0} (p : Got A) (k : A → ℕ → Got B) {s r : Step} {m : Misread} → s ≡ step_of p → s ≡ Err m → IsErrAnd r (λ x. x ≡ m) → r ≡ step_of (bind p k)
 unfolding bind step_of
-stop (got a m) k {s} e t = ⊎_elim (λ (z : ◌≡◌ {A = ℕ} 0 1). absurd (omega arith)) (λ (z : ◌≡◌ {A = ℕ} 0 2). absurd (omega arith)) (subst (λ (x : Step). OneOf (1 ∷ 2 ∷ []) (tag_of the_type x)) e t)
-stop (wrong p) k e t = e
-stop (deep p) k e t = e
+stop (got a at) k e t h = cc
+stop (wrong p) k e t h = hands_on h ∙ sym t ∙ e
+stop (deep p) k e t h = hands_on h ∙ sym t ∙ e
 
 -- after an answer `Read` the next reading decides
-pub next : {A B : Type 0} (p : Got A) (k : A → ℕ → Got B) {s r : Step} {c : Cursor} → s ≡ step_of p → s ≡ Read c → ((a : A) → p ≡ got a c.at → r ≡ step_of (k a c.at)) → r ≡ step_of (bind p k)
+pub next : {A B : Type 0} (p : Got A) (k : A → ℕ → Got B) {s r : Step} {c : Cursor} → s ≡ step_of p → s ≡ Ok c → ((a : A) → p ≡ got a c.at → r ≡ step_of (k a c.at)) → r ≡ step_of (bind p k)
 unfolding bind
 next p k {s} {r} {c} e q f =
     let v : (a : _) × (p ≡ got a c.at) = read p e q in
@@ -53,25 +57,25 @@ pub last : {A B : Type 0} (f : A → B) (p : Got A) {r : Step} → r ≡ step_of
 last f p e = e ∙ sym (step_map f p)
 
 -- what an answer `Read` says of a head, and of a leaf
-pub head_read : {ws : List ℕ} {a b at : ℕ} {s : Step} {c : Cursor} → s ≡ step_of (head_at ws a b at) → s ≡ Read c → IsHead ws a b at (kind_of (get_or ws at 0)) c.at
+pub head_read : {ws : List ℕ} {a b at : ℕ} {s : Step} {c : Cursor} → s ≡ step_of (head_at ws a b at) → s ≡ Ok c → IsHead ws a b at (kind_of (get_or ws at 0)) c.at
 head_read {ws} {a} {b} {at} {s} {c} e q =
     let v = read (head_at ws a b at) e q in
     let h : IsHead ws a b at v.0 c.at = head_got v.1 in
     rw h.is at h
 
 -- of a leaf: it is a word of that kind, and its payload is below the bound
-pub leaf_read : {ws : List ℕ} {k n at : ℕ} {s : Step} {c : Cursor} → s ≡ step_of (leaf_at ws k n at) → s ≡ Read c → IsLeaf ws k n at (pay_of (get_or ws at 0)) c.at
+pub leaf_read : {ws : List ℕ} {k n at : ℕ} {s : Step} {c : Cursor} → s ≡ step_of (leaf_at ws k n at) → s ≡ Ok c → IsLeaf ws k n at (pay_of (get_or ws at 0)) c.at
 leaf_read {ws} {k} {n} {at} {s} {c} e q =
     let v = read (leaf_at ws k n at) e q in
     let h : IsLeaf ws k n at v.0 c.at = leaf_got v.1 in
     rw h.is at h
 
 -- after a head, or a leaf, the word's own kind, or payload, is what was read
-pub next_head : {B : Type 0} (ws : List ℕ) (a b at : ℕ) (k : ℕ → ℕ → Got B) {s r : Step} {c : Cursor} → s ≡ step_of (head_at ws a b at) → s ≡ Read c → r ≡ step_of (k (kind_of (get_or ws at 0)) c.at) → r ≡ step_of (bind (head_at ws a b at) k)
+pub next_head : {B : Type 0} (ws : List ℕ) (a b at : ℕ) (k : ℕ → ℕ → Got B) {s r : Step} {c : Cursor} → s ≡ step_of (head_at ws a b at) → s ≡ Ok c → r ≡ step_of (k (kind_of (get_or ws at 0)) c.at) → r ≡ step_of (bind (head_at ws a b at) k)
 next_head ws a b at k {s} {r} {c} e q h = next (head_at ws a b at) k e q (λ x p. rw (head_got p).is h)
 
 -- after a leaf
-pub next_leaf : {B : Type 0} (ws : List ℕ) (i n at : ℕ) (k : ℕ → ℕ → Got B) {s r : Step} {c : Cursor} → s ≡ step_of (leaf_at ws i n at) → s ≡ Read c → r ≡ step_of (k (pay_of (get_or ws at 0)) c.at) → r ≡ step_of (bind (leaf_at ws i n at) k)
+pub next_leaf : {B : Type 0} (ws : List ℕ) (i n at : ℕ) (k : ℕ → ℕ → Got B) {s r : Step} {c : Cursor} → s ≡ step_of (leaf_at ws i n at) → s ≡ Ok c → r ≡ step_of (k (pay_of (get_or ws at 0)) c.at) → r ≡ step_of (bind (leaf_at ws i n at) k)
 next_leaf ws i n at k {s} {r} {c} e q h = next (leaf_at ws i n at) k e q (λ x p. rw (leaf_got p).is h)
 
 -- one of two numbers
@@ -116,35 +120,31 @@ step_bind (wrong p) k f h = refl
 step_bind (deep p) k f h = refl
 
 -- the first answer is Read: the second decides
-pub on : {S : Step} (f : ℕ → Step) {s r : Step} {c : Cursor} → s ≡ S → s ≡ Read c → r ≡ f c.at → r ≡ then S f
+pub on : {S : Step} (f : ℕ → Step) {s r : Step} {c : Cursor} → s ≡ S → s ≡ Ok c → r ≡ f c.at → r ≡ then S f
 unfolding then
 on {S} f {s} {r} {c} e q h = h ∙ ap (λ x. then x f) (sym q ∙ e)
 
-stays : (f : ℕ → Step) (x : Step) → OneOf (1 ∷ 2 ∷ []) (tag_of the_type x) → x ≡ then x f
-unfolding then
-stays f (Read c) t = ⊎_elim (λ (z : ◌≡◌ {A = ℕ} 0 1). absurd (omega arith)) (λ (z : ◌≡◌ {A = ℕ} 0 2). absurd (omega arith)) t
-stays f (Wrong p) t = refl
-stays f (Deep p) t = refl
-
 -- it is any other: that is the answer
-pub halt : {S : Step} (f : ℕ → Step) {s : Step} → s ≡ S → OneOf (1 ∷ 2 ∷ []) (tag_of the_type s) → s ≡ then S f
-halt {S} f {s} e t = stays f s t ∙ ap (λ x. then x f) e
+pub halt : {S : Step} (f : ℕ → Step) {s r : Step} {m : Misread} → s ≡ S → s ≡ Err m → IsErrAnd r (λ x. x ≡ m) → r ≡ then S f
+unfolding then
+halt f {m = Wrong p} e t h = hands_on h ∙ ap (λ x. then x f) (sym t ∙ e)
+halt f {m = Deep p} e t h = hands_on h ∙ ap (λ x. then x f) (sym t ∙ e)
 
 -- an expression: its head, then by its kind
-pub expr_stop : (ws : List ℕ) (n : Strings) (left at : ℕ) {s : Step} → s ≡ step_of (head_at ws 16 23 at) → OneOf (1 ∷ 2 ∷ []) (tag_of the_type s) → s ≡ step_of (expr_at ws n left at)
+pub expr_stop : (ws : List ℕ) (n : Strings) (left at : ℕ) {s r : Step} {m : Misread} → s ≡ step_of (head_at ws 16 23 at) → s ≡ Err m → IsErrAnd r (λ x. x ≡ m) → r ≡ step_of (expr_at ws n left at)
 unfolding expr_at
-expr_stop ws n zero at e t = stop _ _ e t
-expr_stop ws n (suc d) at e t = stop _ _ e t
+expr_stop ws n zero at e t h = stop _ _ e t h
+expr_stop ws n (suc d) at e t h = stop _ _ e t h
 
 -- behind the head, with one level less
-pub expr_body : (ws : List ℕ) (n : Strings) (left at : ℕ) {s : Step} {c : Cursor} {r : Step} → (left ≡ 0 → ⊥) → s ≡ step_of (head_at ws 16 23 at) → s ≡ Read c → r ≡ step_of (body_at ws n (expr_at ws n (left - 1)) (kind_of (get_or ws at 0)) c.at) → r ≡ step_of (expr_at ws n left at)
+pub expr_body : (ws : List ℕ) (n : Strings) (left at : ℕ) {s : Step} {c : Cursor} {r : Step} → (left ≡ 0 → ⊥) → s ≡ step_of (head_at ws 16 23 at) → s ≡ Ok c → r ≡ step_of (body_at ws n (expr_at ws n (left - 1)) (kind_of (get_or ws at 0)) c.at) → r ≡ step_of (expr_at ws n left at)
 unfolding expr_at
 expr_body ws n zero at z e q h = absurd (z refl)
 expr_body ws n (suc d) at z e q h = next_head ws 16 23 at _ e q (rw sub-one at h)
 
 module _ (ws : List ℕ) (n : Strings) (left at : ℕ) {s : Step} where
   -- a head where no level is left is too deep
-  pub expr_deep : {c : Cursor} → left ≡ 0 → s ≡ step_of (head_at ws 16 23 at) → s ≡ Read c → Deep at ≡ step_of (expr_at ws n left at)
+  pub expr_deep : {c : Cursor} → left ≡ 0 → s ≡ step_of (head_at ws 16 23 at) → s ≡ Ok c → Err (Deep at) ≡ step_of (expr_at ws n left at)
   unfolding expr_at step_of
   expr_deep z e q = rw z (next_head ws 16 23 at _ e q refl)
 
@@ -186,7 +186,7 @@ module _ (ws : List ℕ) (n : Strings) (sub : ℕ → Got Expr) (k m : ℕ) {r :
   body_23 e h = rw e (last _ _ h)
 
 -- so many expressions
-pub exprs_none : (ws : List ℕ) (n : Strings) (sub : ℕ → Got Expr) (count : ℕ) (c : Cursor) → count ≤ 0 → step_of (exprs_at ws n sub count c.at) ≡ Read c
+pub exprs_none : (ws : List ℕ) (n : Strings) (sub : ℕ → Got Expr) (count : ℕ) (c : Cursor) → count ≤ 0 → step_of (exprs_at ws n sub count c.at) ≡ Ok c
 unfolding exprs_at step_of
 exprs_none ws n sub zero c z = refl
 exprs_none ws n sub (suc k) c z = absurd (omega arith)
@@ -196,3 +196,9 @@ pub exprs_more : (ws : List ℕ) (n : Strings) (sub : ℕ → Got Expr) (count m
 unfolding exprs_at
 exprs_more ws n sub zero m z = absurd (omega arith)
 exprs_more ws n sub (suc k) m z = rw sub-one (step_bind _ _ _ (λ x m'. step_map _ _))
+
+-- the same where i of them are read already
+pub exprs_next : (ws : List ℕ) (n : Strings) (sub : ℕ → Got Expr) (count i m : ℕ) → i < count → step_of (exprs_at ws n sub (count - i) m) ≡ then (step_of (sub m)) (λ m'. step_of (exprs_at ws n sub (count - (i + 1)) m'))
+exprs_next ws n sub count i m h =
+    let e : count - (i + 1) ≡ count - i - 1 = omega arith in
+    rw e (exprs_more ws n sub (count - i) m (omega arith))

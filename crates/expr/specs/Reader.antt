@@ -20,7 +20,7 @@ module _ (ws : List ℕ) where
       (pick (eqb (kind_of (get_or ws at 0)) k) (pick (ltb (pay_of (get_or ws at 0)) n) (got (pay_of (get_or ws at 0)) (at + 1)) (wrong at)) (wrong at))
       (wrong (length ws))
 
-  -- the number of a name (`name_at` of builtins/specs/Builtins.antt is a builtin's name)
+  -- the number of a name
   unfoldable pub name_at : List ℕ → ℕ → Got ℕ
   name_at ns at =
       pick (ltb at (length ws))

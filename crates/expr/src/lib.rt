@@ -1,128 +1,120 @@
-// Reads a flat tree of words: a cursor by value, an enum for the answer.
+// Reads a flat tree of words: a cursor by value, and a `Result` for the answer.
 #![tactic(auto)]
 
-ghost use Rattle.std.specs.Prelude.{◌≡◌};
+ghost use Rattle.std.specs.Prelude.{◌≡◌, ◌+◌, ◌<◌, ◌≤◌, ◌^◌, length, get_or, IfOk, IfErr, cond, Ok, Err};
 ghost use Rattle.expr.specs.Reader.{raw_at, test_at, leaf_at, name_at, head_at, float_at, literal_at, list_at, expr_at};
 ghost use Rattle.expr.specs.Expr.{finite, Literal, Single, Strings};
 ghost use Rattle.expr.specs.Answer.{step_of, then};
+ghost use Rattle.expr.specs.declared.Misread.TheVariants.{Wrong};
+
+use words::Refusal;
 
 #[derive(Clone, Copy)]
 pub struct Cursor {
     pub at: usize,
 }
 
-#[derive(Clone, Copy)]
-pub enum Step {
-    // past one node
-    Read(Cursor),
+// Why no node could be read.
+#[derive(Clone, Copy, Debug, PartialEq, Eq)]
+pub enum Misread {
     // the first wrong word
     Wrong(usize),
     // a right head that stands too deep
     Deep(usize),
 }
 
+impl From<Misread> for Refusal {
+    ghost use Rattle.expr.specs.Answer.{refusal_of};
+
+    ghost from_gives = { λ m r. r ≡ refusal_of m };
+
+    fn from(m: Misread) -> Refusal {
+        match m {
+            Misread::Wrong(p) => Refusal::Word(p),
+            Misread::Deep(p) => Refusal::Depth(p),
+        }
+    }
+}
+
+// The place past one node.
+pub type Step = Result<Cursor, Misread>;
+
 impl Cursor {
+    // the word here; where the words have ended, their end is wrong
+    pub fn word(self, words: &[u32]) -> Result<u32, Misread>
+        ensures here { IfOk result (λ w. (self.at < length words.now) × (w ≡ get_or words.now self.at 0)) }
+        ensures ended { IfErr result (λ e. (length words.now ≤ self.at) × (e ≡ Wrong (length words.now))) }
+    {
+        words
+            .get(self.at)
+            .copied()
+            .ok_or(Misread::Wrong(words.len()))
+    }
+
+    // the place past the word here, if it is right
+    pub fn past(self, right: bool) -> Step
+        requires { self.at + 1 < 2 ^ 64 }
+        ensures { result ≡ cond right (Ok (record { at = self.at + 1 })) (Err (Wrong self.at)) }
+    {
+        if right {
+            Ok(Cursor { at: self.at + 1 })
+        } else {
+            Err(Misread::Wrong(self.at))
+        }
+    }
+
     // any word
+    #[tactic(auto, unfolding(crate::specs::Answer::step_of, crate::specs::Reader::raw_at))]
     fn raw(self, words: &[u32]) -> Step
         ensures { result ≡ step_of (raw_at words.now self.at) }
     {
-        let at = self.at;
-        if at < words.len() {
-            Step::Read(Cursor { at: at + 1 })
-        } else {
-            Step::Wrong(words.len())
-        }
+        self.word(words)?;
+        self.past(true)
     }
 
-    // the high word of a finite float
+    // the high word of a finite float (its exponent's bits: the float itself is made only where it is known to be finite)
+    #[tactic(auto, unfolding(crate::specs::Answer::step_of, crate::specs::Reader::test_at))]
     fn high(self, words: &[u32]) -> Step
         ensures { result ≡ step_of (test_at words.now finite self.at) }
     {
-        let at = self.at;
-        if words.len() <= at {
-            return Step::Wrong(words.len());
-        }
-        let w = words[at];
-        if (w / 1048576) % 2048 == 2047 {
-            return Step::Wrong(at);
-        }
-        Step::Read(Cursor { at: at + 1 })
+        let w = self.word(words)?;
+        self.past((w / 1048576) % 2048 != 2047)
     }
 
     // a word of a kind, its payload below a bound
+    #[tactic(auto, unfolding(crate::specs::Answer::step_of, crate::specs::Reader::leaf_at))]
     pub fn leaf(self, words: &[u32], kind: u32, below: u32) -> Step
         ensures { result ≡ step_of (leaf_at words.now kind below self.at) }
     {
-        let at = self.at;
-        if words.len() <= at {
-            return Step::Wrong(words.len());
-        }
-        let w = words[at];
-        let k = w / 16777216;
-        if k != kind {
-            return Step::Wrong(at);
-        }
-        let p = w % 16777216;
-        if p < below {
-            return Step::Read(Cursor { at: at + 1 });
-        }
-        Step::Wrong(at)
+        let w = self.word(words)?;
+        self.past(w / 16777216 == kind && w % 16777216 < below)
     }
 
     // the number of a string that is a name
+    #[tactic(auto, unfolding(crate::specs::Answer::step_of, crate::specs::Reader::name_at))]
     pub fn name(self, words: &[u32], names: &[u8]) -> Step
         ensures { result ≡ step_of (name_at words.now names.now self.at) }
     {
-        let at = self.at;
-        if words.len() <= at {
-            return Step::Wrong(words.len());
-        }
-        let w = words[at];
-        let k = w / 16777216;
-        if k != 2 {
-            return Step::Wrong(at);
-        }
+        let w = self.word(words)?;
         let p = (w % 16777216) as usize;
-        if names.len() <= p {
-            return Step::Wrong(at);
-        }
-        if names[p] == 1 {
-            return Step::Read(Cursor { at: at + 1 });
-        }
-        Step::Wrong(at)
+        self.past(w / 16777216 == 2 && names.get(p) == Some(&1))
     }
 
     // a head of a kind from a to b, its payload 0
+    #[tactic(auto, unfolding(crate::specs::Answer::step_of, crate::specs::Reader::head_at))]
     pub fn head(self, words: &[u32], a: u32, b: u32) -> Step
         ensures { result ≡ step_of (head_at words.now a b self.at) }
     {
-        let at = self.at;
-        if words.len() <= at {
-            return Step::Wrong(words.len());
-        }
-        let w = words[at];
+        let w = self.word(words)?;
         let k = w / 16777216;
-        if k < a {
-            return Step::Wrong(at);
-        }
-        if b < k {
-            return Step::Wrong(at);
-        }
-        let p = w % 16777216;
-        if p == 0 {
-            return Step::Read(Cursor { at: at + 1 });
-        }
-        Step::Wrong(at)
+        self.past(a <= k && k <= b && w % 16777216 == 0)
     }
 
     // the two words of a finite float
     fn float(self, words: &[u32]) -> Step
         ensures { result ≡ step_of (float_at words.now Single self.at) }
     {
-        let s = self.raw(words);
-        let Step::Read(c) = s else {
-            return s;
-        };
+        let c = self.raw(words)?;
         c.high(words)
     }
 
@@ -130,12 +122,8 @@ impl Cursor {
     pub fn literal(self, words: &[u32], n: u32) -> Step
         ensures { result ≡ step_of (literal_at words.now n self.at) }
     {
-        let at = self.at;
-        let s = self.head(words, 24, 28);
-        let Step::Read(c) = s else {
-            return s;
-        };
-        let k = words[at] / 16777216;
+        let c = self.head(words, 24, 28)?;
+        let k = words[self.at] / 16777216;
         match k {
             24 | 25 => c.raw(words),
             26..=27 => c.float(words),
@@ -143,27 +131,17 @@ impl Cursor {
         }
     }
 
-    // a list of expressions, each with `left` levels left
+    // A list of expressions, each with `left` levels left. (By recursion, as the definition goes: `tree` reads the same by the stack that statements need.)
     #[cycle(binary_expr_field_list)]
     pub fn list(self, words: &[u32], names: &[u8], n: u32, left: usize) -> Step
         ensures { result ≡ step_of (list_at words.now (record { count = n; names = names.now }) (expr_at words.now (record { count = n; names = names.now }) left) self.at) }
     {
-        let at = self.at;
-        let s = self.leaf(words, 1, 16777216);
-        let Step::Read(first) = s else {
-            return s;
-        };
-        let mut c = first;
-        let mut count = words[at] % 16777216;
-        while 0 < count {
-            let s = c.expr(words, names, n, left);
-            let Step::Read(d) = s else {
-                return s;
-            };
-            c = d;
-            count -= 1;
+        let mut c = self.leaf(words, 1, 16777216)?;
+        let count = words[self.at] % 16777216;
+        for _ in 0..count {
+            c = c.expr(words, names, n, left)?;
         }
-        Step::Read(c)
+        Ok(c)
     }
 
     // an expression with `left` levels left; strings are numbered below n
@@ -171,30 +149,20 @@ impl Cursor {
     pub fn expr(self, words: &[u32], names: &[u8], n: u32, left: usize) -> Step
         ensures { result ≡ step_of (expr_at words.now (record { count = n; names = names.now }) left self.at) }
     {
-        let at = self.at;
-        let s = self.head(words, 16, 23);
-        let Step::Read(c) = s else {
-            return s;
-        };
+        let c = self.head(words, 16, 23)?;
         if left == 0 {
-            return Step::Deep(at);
+            return Err(Misread::Deep(self.at));
         }
-        let k = words[at] / 16777216;
+        let k = words[self.at] / 16777216;
         match k {
             16 => c.literal(words, n),
             17 => c.name(words, names),
             18 | 21 => {
-                let t = c.name(words, names);
-                let Step::Read(d) = t else {
-                    return t;
-                };
+                let d = c.name(words, names)?;
                 d.list(words, names, n, left - 1)
             }
             19 => {
-                let t = c.leaf(words, 9, 2);
-                let Step::Read(d) = t else {
-                    return t;
-                };
+                let d = c.leaf(words, 9, 2)?;
                 d.expr(words, names, n, left - 1)
             }
             20 => c.binary(words, names, n, left - 1),
@@ -208,14 +176,8 @@ impl Cursor {
     fn binary(self, words: &[u32], names: &[u8], n: u32, left: usize) -> Step
         ensures { result ≡ then (step_of (leaf_at words.now 9 18 self.at)) (λ m. then (step_of (expr_at words.now (record { count = n; names = names.now }) left m)) (λ m'. step_of (expr_at words.now (record { count = n; names = names.now }) left m'))) }
     {
-        let t = self.leaf(words, 9, 18);
-        let Step::Read(c) = t else {
-            return t;
-        };
-        let u = c.expr(words, names, n, left);
-        let Step::Read(d) = u else {
-            return u;
-        };
+        let c = self.leaf(words, 9, 18)?;
+        let d = c.expr(words, names, n, left)?;
         d.expr(words, names, n, left)
     }
 
@@ -224,10 +186,7 @@ impl Cursor {
     fn field(self, words: &[u32], names: &[u8], n: u32, left: usize) -> Step
         ensures { result ≡ then (step_of (expr_at words.now (record { count = n; names = names.now }) left self.at)) (λ m. step_of (name_at words.now names.now m)) }
     {
-        let t = self.expr(words, names, n, left);
-        let Step::Read(c) = t else {
-            return t;
-        };
+        let c = self.expr(words, names, n, left)?;
         c.name(words, names)
     }
 }

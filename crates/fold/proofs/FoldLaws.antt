@@ -1,5 +1,5 @@
 -- What folding gives, a CONST row may hold: every rule keeps `RowValue`. And what the program may count on in a good value.
-use Rattle.std.specs.Prelude.{Bool, true, false, ◌||◌, ℕ, zero, suc, ◌≤◌, ◌<◌, ◌^◌, max, T, eqb, ℤ, pos, negsuc, neg_ℤ, nat_abs}
+use Rattle.std.specs.Prelude.{Bool, true, false, ◌||◌, ℕ, zero, suc, ◌≤◌, ◌<◌, ◌^◌, max, T, eqb, ℤ, pos, negsuc, neg_ℤ, nat_abs, Option, Some, None, Ok, Err}
 use Rattle.std.proofs.Common.{zero-le, le_trans, le_of_eq, arith, ltb→lt}
 use Rattle.std.specs.Float.Ieee as Ieee
 use Rattle.std.specs.Float.Ieee.{nan, binary32, binary64, neg, fits}
@@ -10,31 +10,26 @@ use Rattle.words.specs.Word.{pick}
 use Rattle.numbers.specs.Numbers.{narrowed, finite_to}
 use Rattle.numbers.specs.NumbersLaws.{within_abs, double_finite}
 use Rattle.numbers.specs.SignedLaws.{abs_neg}
-use Rattle.numbers.specs.declared.Whole.{Whole}
-use Rattle.numbers.specs.declared.Whole.TheVariants.{At, Out}
 use Rattle.fold.specs.declared.Value.{Value}
 use Rattle.fold.specs.declared.Value.TheVariants.{Integer, Long, Single, Float, Text}
 use Rattle.fold.specs.declared.Arith.{Arith}
 use Rattle.fold.specs.declared.Arith.TheVariants.{Add, Sub, Mul}
 use Rattle.fold.specs.declared.Part.{Part}
 use Rattle.fold.specs.declared.Part.TheVariants.{Quotient, Remainder}
-use Rattle.fold.specs.declared.Fold.{Fold}
-use Rattle.fold.specs.declared.Fold.TheVariants.{Is, Overflow, NotConstant}
-use Rattle.fold.specs.Value.{InRange, Good}
+use Rattle.fold.specs.Value.{InRange, Good, Fold}
 use Rattle.fold.specs.ValueLaws.{RowValue}
 use Rattle.fold.specs.Fold.{GoodFold, in_integer, in_long, least_long, negated, negate_of, is_text, rank_of, as_f64, int_of, integer_fold, long_fold, single_fold, of_narrow, float_fold, zero_f64, div_of, rounded, part_of, is_zero, of_wholes, whole_div_of, int_op, float_op, at_rank, arith_of, op_of, binary_of}
+use Rattle.fold.specs.declared.Unfolded.TheVariants.{Overflow, NotConstant}
 
 -- an answer's value, where it has one, may stand in a row
 abbrev pub RowFold : (strings : ℕ) → Fold → Type 0
-RowFold n (Is v) = RowValue n v
-RowFold n Overflow = Unit {0}
-RowFold n NotConstant = Unit {0}
+RowFold n (Ok v) = RowValue n v
+RowFold n (Err e) = Unit {0}
 
 -- a value that may stand in a row is good
 pub row_good : (n : ℕ) (f : Fold) → RowFold n f → GoodFold f
-row_good n (Is v) r = r.good
-row_good n Overflow r = tt
-row_good n NotConstant r = tt
+row_good n (Ok v) r = r.good
+row_good n (Err e) r = tt
 
 module _ (n : ℕ) where
   pick_row : (b : Bool) (f g : Fold) → (T b → RowFold n f) → RowFold n g → RowFold n (pick b f g)
@@ -47,10 +42,10 @@ module _ (n : ℕ) where
   small (negsuc m) t = let h = ltb→lt m 32768 t in omega arith
 
   integer_row : (z : ℤ) → RowFold n (integer_fold z)
-  integer_row z = pick_row (in_integer z) (Is (Integer z)) Overflow (λ t. record { good = small z t; known = tt; fit = tt }) tt
+  integer_row z = pick_row (in_integer z) (Ok (Integer z)) (Err Overflow) (λ t. record { good = small z t; known = tt; fit = tt }) tt
 
   long_row : (z : ℤ) → RowFold n (long_fold z)
-  long_row z = pick_row (in_long z) (Is (Long z)) Overflow (λ t. record { good = within_abs z t; known = tt; fit = tt }) tt
+  long_row z = pick_row (in_long z) (Ok (Long z)) (Err Overflow) (λ t. record { good = within_abs z t; known = tt; fit = tt }) tt
 
   narrowed_fits : (x : Ieee.Float) → T (fits binary64 (narrowed x))
   unfolding narrowed
@@ -67,7 +62,7 @@ module _ (n : ℕ) where
   single_row x = finite_row (narrowed x) (narrowed_fits x)
 
   float_row : (x : Ieee.Float) → T (fits binary64 x) → RowFold n (float_fold x)
-  float_row x f = pick_row (finite x) (Is (Float x)) Overflow (λ t. record { good = t; known = tt; fit = f }) tt
+  float_row x f = pick_row (finite x) (Ok (Float x)) (Err Overflow) (λ t. record { good = t; known = tt; fit = f }) tt
 
   -- ---- the operators, in their order
   neg_finite : (x : Ieee.Float) → T (finite x) → T (finite (neg x))
@@ -81,7 +76,7 @@ module _ (n : ℕ) where
 
   negated_row : (v : Value) → RowValue n v → RowFold n (negated v)
   negated_row (Integer z) r = record { good = neg_range z r.good; known = tt; fit = tt }
-  negated_row (Long z) r = pick_row (least_long z) Overflow (Is (Long (neg_ℤ z))) (λ t. tt) (record { good = neg_range z r.good; known = tt; fit = tt })
+  negated_row (Long z) r = pick_row (least_long z) (Err Overflow) (Ok (Long (neg_ℤ z))) (λ t. tt) (record { good = neg_range z r.good; known = tt; fit = tt })
   negated_row (Single x) r = record { good = neg_finite x r.good; known = tt; fit = neg-fits binary64 x r.fit }
   negated_row (Float x) r = record { good = neg_finite x r.good; known = tt; fit = neg-fits binary64 x r.fit }
   negated_row (Text t) r = tt
@@ -89,21 +84,20 @@ module _ (n : ℕ) where
   -- what negating gives may stand in a row, if its operand may
   pub negate_row : (f : Fold) → RowFold n f → RowFold n (negate_of f)
   unfolding negate_of
-  negate_row (Is v) r = negated_row v r
-  negate_row Overflow r = tt
-  negate_row NotConstant r = tt
+  negate_row (Ok v) r = negated_row v r
+  negate_row (Err e) r = tt
 
   div_row : (l r : Value) → RowFold n (div_of l r)
   unfolding div_of
   div_row l r =
       let q = Ieee.div binary64 (as_f64 l) (as_f64 r) in
-      pick_row (zero_f64 (as_f64 r)) NotConstant (float_fold q) (λ t. tt) (float_row q (div-fits binary64 (as_f64 l) (as_f64 r)))
+      pick_row (zero_f64 (as_f64 r)) (Err NotConstant) (float_fold q) (λ t. tt) (float_row q (div-fits binary64 (as_f64 l) (as_f64 r)))
 
-  wholes_row : (p : Part) (a b : Whole) → RowFold n (of_wholes p a b)
-  wholes_row p (At x) (At y) = pick_row (is_zero y) NotConstant (long_fold (part_of p x y)) (λ t. tt) (long_row (part_of p x y))
-  wholes_row p (At x) Out = tt
-  wholes_row p Out (At y) = tt
-  wholes_row p Out Out = tt
+  wholes_row : (p : Part) (a b : (Option ℤ)) → RowFold n (of_wholes p a b)
+  wholes_row p (Some x) (Some y) = pick_row (is_zero y) (Err NotConstant) (long_fold (part_of p x y)) (λ t. tt) (long_row (part_of p x y))
+  wholes_row p (Some x) None = tt
+  wholes_row p None (Some y) = tt
+  wholes_row p None None = tt
 
   whole_row : (p : Part) (l r : Value) → RowFold n (whole_div_of p l r)
   unfolding whole_div_of
@@ -132,16 +126,14 @@ module _ (n : ℕ) where
       (pick_row (eqb op 2) (arith_of Mul l r) _ (λ t. arith_row Mul l r)
       (pick_row (eqb op 3) (div_of l r) _ (λ t. div_row l r)
       (pick_row (eqb op 4) (whole_div_of Quotient l r) _ (λ t. whole_row Quotient l r)
-      (pick_row (eqb op 5) (whole_div_of Remainder l r) NotConstant (λ t. whole_row Remainder l r) tt)))))
+      (pick_row (eqb op 5) (whole_div_of Remainder l r) (Err NotConstant) (λ t. whole_row Remainder l r) tt)))))
 
   -- what a binary operator gives may stand in a row, whatever its operands fold to
   pub binary_row : (op : ℕ) (l r : Fold) → RowFold n (binary_of op l r)
   unfolding binary_of
-  binary_row op (Is l) (Is r) = pick_row (is_text l || is_text r) NotConstant (op_of op l r) (λ t. tt) (op_row op l r)
-  binary_row op (Is l) Overflow = tt
-  binary_row op (Is l) NotConstant = tt
-  binary_row op Overflow r = tt
-  binary_row op NotConstant r = tt
+  binary_row op (Ok l) (Ok r) = pick_row (is_text l || is_text r) (Err NotConstant) (op_of op l r) (λ t. tt) (op_row op l r)
+  binary_row op (Ok l) (Err e) = tt
+  binary_row op (Err e) r = tt
 
 -- ---- a good value's numbers
 -- its whole number is in range

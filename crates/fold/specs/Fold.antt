@@ -2,39 +2,32 @@
 -- Nothing is asked of a caller: every value here is in the range that `Good` (Value.antt) states, since a literal's float is finite
 -- (`float_at`, expr/specs/Reader.antt) and its whole number has 32 bits, a folded one is tested here or only changes its sign, and lent CONST rows
 -- are tested by number 6. What the definitions say of other values is never asked.
-use Rattle.std.specs.Prelude.{Bool, true, false, cond, ◌||◌, ℕ, zero, suc, max, ℤ, pos, negsuc, neg_ℤ, ◌+ℤ◌, ◌-ℤ◌, ◌*ℤ◌, eqb}
+use Rattle.std.specs.Prelude.{Bool, true, false, cond, ◌||◌, ℕ, zero, suc, max, ℤ, pos, negsuc, neg_ℤ, ◌+ℤ◌, ◌-ℤ◌, ◌*ℤ◌, eqb, Option, Some, None, Ok, Err}
 use Rattle.std.specs.Int.Signed.{quot_z, rem_z}
 use Rattle.std.specs.Float.Ieee as Ieee
 use Rattle.std.specs.Float.{fin, binary64}
 use Rattle.std.specs.Float.Ieee.Scale.{finite}
 use Rattle.numbers.specs.Numbers.{within, narrow_of, long_of, double_of}
 use Rattle.numbers.specs.declared.Halves.TheVariants.{Even}
-use Rattle.numbers.specs.declared.Narrow.{Narrow}
-use Rattle.numbers.specs.declared.Narrow.TheVariants.{To, Over}
-use Rattle.numbers.specs.declared.Whole.{Whole}
-use Rattle.numbers.specs.declared.Whole.TheVariants.{At, Out}
 use Rattle.words.specs.Word.{pick}
-use Rattle.fold.specs.Value.{Good}
+use Rattle.fold.specs.Value.{Good, Fold}
 use Rattle.fold.specs.declared.Value.{Value}
 use Rattle.fold.specs.declared.Value.TheVariants.{Integer, Long, Single, Float, Text}
-use Rattle.fold.specs.declared.Fold.{Fold}
-use Rattle.fold.specs.declared.Fold.TheVariants.{Is, Overflow, NotConstant}
 use Rattle.fold.specs.declared.Part.{Part}
 use Rattle.fold.specs.declared.Part.TheVariants.{Quotient, Remainder}
 use Rattle.fold.specs.declared.Arith.{Arith}
 use Rattle.fold.specs.declared.Arith.TheVariants.{Add, Sub, Mul}
+use Rattle.fold.specs.declared.Unfolded.TheVariants.{Overflow, NotConstant}
 
 -- an answer's value, or its failure: the Rust's `?`
 abbrev pub and_then : Fold → (Value → Fold) → Fold
-and_then (Is v) k = k v
-and_then Overflow k = Overflow
-and_then NotConstant k = NotConstant
+and_then (Ok v) k = k v
+and_then (Err e) k = Err e
 
 -- for contracts inside and proofs: an answer's value, where it has one, is good
 abbrev pub GoodFold : Fold → Type 0
-GoodFold (Is v) = Good v
-GoodFold Overflow = Unit {0}
-GoodFold NotConstant = Unit {0}
+GoodFold (Ok v) = Good v
+GoodFold (Err e) = Unit {0}
 
 -- ---- the ranges of INTEGER and LONG
 
@@ -55,19 +48,19 @@ least_long (negsuc n) = eqb n 2147483647
 
 -- an Integer, with no test
 abbrev pub negated_integer : ℤ → Fold
-negated_integer n = Is (Integer (neg_ℤ n))
+negated_integer n = Ok (Integer (neg_ℤ n))
 
 -- a LONG: its least value overflows
 abbrev pub negated_long : ℤ → Fold
-negated_long n = pick (least_long n) Overflow (Is (Long (neg_ℤ n)))
+negated_long n = pick (least_long n) (Err Overflow) (Ok (Long (neg_ℤ n)))
 
 -- a value: a float changes its sign, a string is not constant
 abbrev pub negated : Value → Fold
 negated (Integer n) = negated_integer n
 negated (Long n) = negated_long n
-negated (Single x) = Is (Single (Ieee.neg x))
-negated (Float x) = Is (Float (Ieee.neg x))
-negated (Text t) = NotConstant
+negated (Single x) = Ok (Single (Ieee.neg x))
+negated (Float x) = Ok (Float (Ieee.neg x))
+negated (Text t) = Err NotConstant
 
 -- what an operand folds to, negated
 unfoldable pub negate_of : Fold → Fold
@@ -112,16 +105,16 @@ int_of (Text t) = pos 0
 
 -- INTEGER: 16 bits, or overflow
 abbrev pub integer_fold : ℤ → Fold
-integer_fold z = pick (in_integer z) (Is (Integer z)) Overflow
+integer_fold z = pick (in_integer z) (Ok (Integer z)) (Err Overflow)
 
 -- LONG: 32 bits, or overflow
 abbrev pub long_fold : ℤ → Fold
-long_fold z = pick (in_long z) (Is (Long z)) Overflow
+long_fold z = pick (in_long z) (Ok (Long z)) (Err Overflow)
 
 -- SINGLE, from what narrowing gave
-abbrev pub of_narrow : Narrow → Fold
-of_narrow (To x) = Is (Single x)
-of_narrow Over = Overflow
+abbrev pub of_narrow : Option Ieee.Float → Fold
+of_narrow (Some x) = Ok (Single x)
+of_narrow None = Err Overflow
 
 -- narrowed once, then tested: what isn't finite before stays so
 abbrev pub single_fold : Ieee.Float → Fold
@@ -129,7 +122,7 @@ single_fold x = of_narrow (narrow_of x)
 
 -- DOUBLE: finite, or overflow
 abbrev pub float_fold : Ieee.Float → Fold
-float_fold x = pick (finite x) (Is (Float x)) Overflow
+float_fold x = pick (finite x) (Ok (Float x)) (Err Overflow)
 
 -- ---- BinaryOp::Div: always Float; a zero divisor, of either sign, is not constant
 
@@ -139,12 +132,12 @@ zero_f64 x = Ieee.eq x (fin false 0 (pos 0))
 
 -- the quotient at 64 bits
 unfoldable pub div_of : Value → Value → Fold
-div_of l r = pick (zero_f64 (as_f64 r)) NotConstant (float_fold (Ieee.div binary64 (as_f64 l) (as_f64 r)))
+div_of l r = pick (zero_f64 (as_f64 r)) (Err NotConstant) (float_fold (Ieee.div binary64 (as_f64 l) (as_f64 r)))
 
 -- ---- BinaryOp::IntDiv and BinaryOp::Mod: both operands rounded half to even and tested for 32 bits; then the divisor for zero; then the result for 32 bits
 
 -- an operand rounded to 32 bits
-abbrev pub rounded : Value → Whole
+abbrev pub rounded : Value → Option ℤ
 rounded v = long_of Even (as_f64 v)
 
 -- toward zero; the remainder has the sign of the left operand
@@ -158,11 +151,11 @@ is_zero (pos n) = eqb n 0
 is_zero (negsuc n) = false
 
 -- of two rounded operands: overflow where one is out, not constant where the divisor is 0
-abbrev pub of_wholes : Part → Whole → Whole → Fold
-of_wholes p (At x) (At y) = pick (is_zero y) NotConstant (long_fold (part_of p x y))
-of_wholes p (At x) Out = Overflow
-of_wholes p Out (At y) = Overflow
-of_wholes p Out Out = Overflow
+abbrev pub of_wholes : Part → Option ℤ → Option ℤ → Fold
+of_wholes p (Some x) (Some y) = pick (is_zero y) (Err NotConstant) (long_fold (part_of p x y))
+of_wholes p (Some x) None = Err Overflow
+of_wholes p None (Some y) = Err Overflow
+of_wholes p None None = Err Overflow
 
 -- a whole quotient or remainder of two values
 unfoldable pub whole_div_of : Part → Value → Value → Fold
@@ -202,11 +195,11 @@ op_of op l r =
     (pick (eqb op 3) (div_of l r)
     (pick (eqb op 4) (whole_div_of Quotient l r)
     (pick (eqb op 5) (whole_div_of Remainder l r)
-    NotConstant)))))
+    (Err NotConstant))))))
 
 -- a string fails only here, when both sides have folded
 abbrev pub on_numbers : ℕ → Value → Value → Fold
-on_numbers op l r = pick (is_text l || is_text r) NotConstant (op_of op l r)
+on_numbers op l r = pick (is_text l || is_text r) (Err NotConstant) (op_of op l r)
 
 -- left before right; the first failure decides
 unfoldable pub binary_of : ℕ → Fold → Fold → Fold

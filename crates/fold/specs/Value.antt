@@ -1,12 +1,17 @@
 -- A folded value and the words of its CONST row (document 01, row 132). Definitions only.
-use Rattle.std.specs.Prelude.{Bool, not, ◌&&◌, ◌||◌, ℕ, ◌/◌, ◌%◌, ◌≤◌, ◌<◌, ℤ, nat_abs, T, eqb, ltb, leb}
+use Rattle.std.specs.Prelude.{Result, Bool, not, ◌&&◌, ◌||◌, ℕ, ◌/◌, ◌%◌, ◌≤◌, ◌<◌, ℤ, nat_abs, T, eqb, ltb, leb}
 use Rattle.std.specs.Float.{binary64}
 use Rattle.std.specs.Float.Ieee.{to_bits}
 use Rattle.std.specs.Float.Ieee.Scale.{finite}
 use Rattle.words.specs.Word.{pick}
 use Rattle.numbers.specs.Numbers.{of_words, bits_of, whole_at}
 use Rattle.fold.specs.declared.Value.{Value}
+use Rattle.fold.specs.declared.Unfolded.{Unfolded}
 use Rattle.fold.specs.declared.Value.TheVariants.{Integer, Long, Single, Float, Text}
+
+-- a folded value, or why there is none
+abbrev pub Fold : Type 0
+Fold = Result Value Unfolded
 
 -- ---- for contracts inside and proofs. The range of the numbers: Integer and Long from -2147483648 to 2147483648, floats finite (`finite` of the
 -- library, of a float; that of expr/specs/Expr.antt is of its high word)

@@ -1,14 +1,14 @@
 // Constant folding: values, their words in a CONST row, and the rules of `const_eval` in the order of its match.
 #![tactic(auto)]
 
-ghost use Rattle.std.specs.Prelude.{◌≡◌, false, ℕ, ◌≤◌, ◌<◌, ◌/◌, ◌%◌, max, T, nat_abs};
+ghost use Rattle.std.specs.Prelude.{◌≡◌, false, ℕ, ◌≤◌, ◌<◌, ◌/◌, ◌%◌, T, nat_abs};
 ghost use Rattle.std.specs.Float.Ieee.Scale.{finite};
 ghost use Rattle.numbers.specs.Numbers.{of_words};
 ghost use Rattle.numbers.specs.NumbersLaws.{Small};
 ghost use Rattle.fold.specs.Value.{Good, InRange, literal_kind, low_of, high_of, value_of};
 ghost use Rattle.fold.specs.Fold.{GoodFold, in_integer, in_long, negated_integer, negated_long, negated, negate_of, is_text, rank_of, as_f64, int_of, integer_fold, long_fold, single_fold, float_fold, div_of, rounded, part_of, is_zero, of_wholes, whole_div_of, int_op, float_op, arith_of, op_of, binary_of};
 
-use numbers::{Halves, Narrow, TwoWords, Whole};
+use numbers::{Halves, TwoWords};
 
 // A folded constant; a string is its number.
 #[derive(Clone, Copy)]
@@ -20,13 +20,15 @@ pub enum Value {
     Text(u32),
 }
 
-// What folding answers.
-#[derive(Clone, Copy)]
-pub enum Fold {
-    Is(Value),
+// Why an expression is no constant.
+#[derive(Clone, Copy, Debug, PartialEq, Eq)]
+pub enum Unfolded {
     Overflow,
     NotConstant,
 }
+
+// What folding answers.
+pub type Fold = Result<Value, Unfolded>;
 
 // ---- the words of a CONST row
 
@@ -43,10 +45,10 @@ fn value_words(v: Value) -> TwoWords
     ensures { (result.low ≡ low_of v) × (result.high ≡ high_of v) }
 {
     match v {
+        // Two arms: the prover refuses an or-pattern that binds a whole number here.
         Value::Integer(z) => numbers::whole_words(z),
         Value::Long(z) => numbers::whole_words(z),
-        Value::Single(x) => numbers::words_of(x),
-        Value::Float(x) => numbers::words_of(x),
+        Value::Single(x) | Value::Float(x) => numbers::words_of(x),
         Value::Text(t) => TwoWords { low: t, high: 0 },
     }
 }
@@ -77,6 +79,7 @@ pub fn const_words(v: Value) -> ConstWords
 }
 
 // The value of a CONST row with these words.
+#[tactic(auto, unfolding(crate::specs::Value::value_of))]
 pub fn value_of(kind: u32, low: u32, high: u32) -> Value
     requires { Good (value_of kind low high) }
     ensures { result ≡ value_of kind low high }
@@ -95,19 +98,13 @@ pub fn value_of(kind: u32, low: u32, high: u32) -> Value
 fn in_integer(z: i64) -> bool
     ensures { result ≡ in_integer z }
 {
-    if z < -32768 {
-        return false;
-    }
-    z <= 32767
+    (-32768..=32767).contains(&z)
 }
 
 fn in_long(z: i64) -> bool
     ensures { result ≡ in_long z }
 {
-    if z < -2147483648 {
-        return false;
-    }
-    z <= 2147483647
+    (-2147483648..=2147483647).contains(&z)
 }
 
 // ---- negation
@@ -116,7 +113,7 @@ fn negate_integer(z: i64) -> Fold
     requires { InRange z }
     ensures { result ≡ negated_integer z }
 {
-    Fold::Is(Value::Integer(-z))
+    Ok(Value::Integer(-z))
 }
 
 fn negate_long(z: i64) -> Fold
@@ -124,9 +121,9 @@ fn negate_long(z: i64) -> Fold
     ensures { result ≡ negated_long z }
 {
     if z == -2147483648 {
-        return Fold::Overflow;
+        return Err(Unfolded::Overflow);
     }
-    Fold::Is(Value::Long(-z))
+    Ok(Value::Long(-z))
 }
 
 fn negate_value(v: Value) -> Fold
@@ -136,20 +133,18 @@ fn negate_value(v: Value) -> Fold
     match v {
         Value::Integer(z) => negate_integer(z),
         Value::Long(z) => negate_long(z),
-        Value::Single(x) => Fold::Is(Value::Single(-x)),
-        Value::Float(x) => Fold::Is(Value::Float(-x)),
-        Value::Text(_) => Fold::NotConstant,
+        Value::Single(x) => Ok(Value::Single(-x)),
+        Value::Float(x) => Ok(Value::Float(-x)),
+        Value::Text(_) => Err(Unfolded::NotConstant),
     }
 }
 
+#[tactic(auto, unfolding(crate::specs::Fold::negate_of))]
 pub fn negate(f: Fold) -> Fold
     requires { GoodFold f }
     ensures { result ≡ negate_of f }
 {
-    let Fold::Is(v) = f else {
-        return f;
-    };
-    negate_value(v)
+    negate_value(f?)
 }
 
 // ---- what a binary operator asks of its operands
@@ -157,24 +152,18 @@ pub fn negate(f: Fold) -> Fold
 fn is_text(v: Value) -> bool
     ensures { result ≡ is_text v }
 {
-    match v {
-        Value::Integer(_) => false,
-        Value::Long(_) => false,
-        Value::Single(_) => false,
-        Value::Float(_) => false,
-        Value::Text(_) => true,
-    }
+    matches!(v, Value::Text(_))
 }
 
+// A number and no enum: of two ranks the definition takes the larger.
 fn rank(v: Value) -> u64
     ensures { result ≡ rank_of v }
 {
     match v {
-        Value::Integer(z) => { if in_integer(z) { 0 } else { 1 } }
-        Value::Long(_) => 1,
+        Value::Integer(z) if in_integer(z) => 0,
+        Value::Integer(_) | Value::Long(_) => 1,
         Value::Single(_) => 2,
-        Value::Float(_) => 3,
-        Value::Text(_) => 3,
+        Value::Float(_) | Value::Text(_) => 3,
     }
 }
 
@@ -182,10 +171,10 @@ fn as_f64(v: Value) -> f64
     ensures { result ≡ as_f64 v }
 {
     match v {
+        // Two arms: the prover refuses an or-pattern that binds a whole number here.
         Value::Integer(z) => numbers::to_double(z),
         Value::Long(z) => numbers::to_double(z),
-        Value::Single(x) => x,
-        Value::Float(x) => x,
+        Value::Single(x) | Value::Float(x) => x,
         Value::Text(_) => 0.0,
     }
 }
@@ -194,11 +183,8 @@ fn int_of(v: Value) -> i64
     ensures { result ≡ int_of v }
 {
     match v {
-        Value::Integer(z) => z,
-        Value::Long(z) => z,
-        Value::Single(_) => 0,
-        Value::Float(_) => 0,
-        Value::Text(_) => 0,
+        Value::Integer(z) | Value::Long(z) => z,
+        Value::Single(_) | Value::Float(_) | Value::Text(_) => 0,
     }
 }
 
@@ -208,62 +194,67 @@ fn integer_fold(z: i64) -> Fold
     ensures { result ≡ integer_fold z }
 {
     if in_integer(z) {
-        return Fold::Is(Value::Integer(z));
+        Ok(Value::Integer(z))
+    } else {
+        Err(Unfolded::Overflow)
     }
-    Fold::Overflow
 }
 
 fn long_fold(z: i64) -> Fold
     ensures { result ≡ long_fold z }
 {
     if in_long(z) {
-        return Fold::Is(Value::Long(z));
+        Ok(Value::Long(z))
+    } else {
+        Err(Unfolded::Overflow)
     }
-    Fold::Overflow
 }
 
+#[tactic(auto, using(crate::proofs::Cases::not_finite))]
 fn single_fold(x: f64) -> Fold
     ensures { result ≡ single_fold x }
 {
-    if numbers::is_finite(x) {
-        return match numbers::to_single(x) {
-            Narrow::To(y) => Fold::Is(Value::Single(y)),
-            Narrow::Over => Fold::Overflow,
-        };
+    if !numbers::is_finite(x) {
+        return Err(Unfolded::Overflow);
     }
-    Fold::Overflow
+    let single = numbers::to_single(x).ok_or(Unfolded::Overflow)?;
+    Ok(Value::Single(single))
 }
 
 fn float_fold(x: f64) -> Fold
     ensures { result ≡ float_fold x }
 {
     if numbers::is_finite(x) {
-        return Fold::Is(Value::Float(x));
+        Ok(Value::Float(x))
+    } else {
+        Err(Unfolded::Overflow)
     }
-    Fold::Overflow
 }
 
 // ---- /
 
+#[tactic(auto, unfolding(crate::specs::Fold::div_of))]
 fn divide(l: Value, r: Value) -> Fold
     ensures { result ≡ div_of l r }
 {
     let b = as_f64(r);
     if b == 0.0 {
-        return Fold::NotConstant;
+        return Err(Unfolded::NotConstant);
     }
     float_fold(as_f64(l) / b)
 }
 
 // ---- \ and MOD
 
+// An enum and no closure: the contracts say what each operator means by it.
 #[derive(Clone, Copy)]
 pub enum Part {
     Quotient,
     Remainder,
 }
 
-fn round(v: Value) -> Whole
+#[tactic(auto, using(crate::proofs::FoldLaws::good_float))]
+fn round(v: Value) -> Option<i64>
     requires { Good v }
     ensures { result ≡ rounded v }
 {
@@ -281,22 +272,19 @@ fn part_of(p: Part, x: i64, y: i64) -> i64
     }
 }
 
-fn of_wholes(p: Part, a: Whole, b: Whole) -> Fold
+fn of_wholes(p: Part, a: Option<i64>, b: Option<i64>) -> Fold
     requires { Small a }
     ensures { result ≡ of_wholes p a b }
 {
-    let Whole::At(x) = a else {
-        return Fold::Overflow;
-    };
-    let Whole::At(y) = b else {
-        return Fold::Overflow;
-    };
+    let x = a.ok_or(Unfolded::Overflow)?;
+    let y = b.ok_or(Unfolded::Overflow)?;
     if y == 0 {
-        return Fold::NotConstant;
+        return Err(Unfolded::NotConstant);
     }
     long_fold(part_of(p, x, y))
 }
 
+#[tactic(auto, unfolding(crate::specs::Fold::whole_div_of))]
 fn divide_whole(p: Part, l: Value, r: Value) -> Fold
     requires good { Good l }
     requires good_2 { Good r }
@@ -307,6 +295,7 @@ fn divide_whole(p: Part, l: Value, r: Value) -> Fold
 
 // ---- + - *
 
+// An enum and no closure: the contracts say what each operator means by it.
 #[derive(Clone, Copy)]
 pub enum Arith {
     Add,
@@ -352,18 +341,13 @@ fn float_result(op: Arith, l: Value, r: Value) -> f64
     float_op(op, as_f64(l), as_f64(r))
 }
 
-fn higher(a: u64, b: u64) -> u64
-    ensures { result ≡ max a b }
-{
-    if a < b { b } else { a }
-}
-
+#[tactic(auto, unfolding(crate::specs::Fold::arith_of))]
 fn work_out(op: Arith, l: Value, r: Value) -> Fold
     requires good { Good l }
     requires good_2 { Good r }
     ensures { result ≡ arith_of op l r }
 {
-    match higher(rank(l), rank(r)) {
+    match rank(l).max(rank(r)) {
         0 => integer_fold(whole_result(op, l, r)),
         1 => long_fold(whole_result(op, l, r)),
         2 => single_fold(float_result(op, l, r)),
@@ -374,6 +358,7 @@ fn work_out(op: Arith, l: Value, r: Value) -> Fold
 // ---- binary operators
 
 // By its position in `BinaryOp`, on two numbers.
+#[tactic(auto, unfolding(crate::specs::Fold::op_of))]
 fn operate(op: u32, l: Value, r: Value) -> Fold
     requires good { Good l }
     requires good_2 { Good r }
@@ -386,27 +371,21 @@ fn operate(op: u32, l: Value, r: Value) -> Fold
         3 => divide(l, r),
         4 => divide_whole(Part::Quotient, l, r),
         5 => divide_whole(Part::Remainder, l, r),
-        _ => Fold::NotConstant,
+        _ => Err(Unfolded::NotConstant),
     }
 }
 
 // The left side's failure decides, then the right side's; a string fails after both.
+#[tactic(auto, unfolding(crate::specs::Fold::binary_of))]
 pub fn binary(op: u32, l: Fold, r: Fold) -> Fold
     requires good_fold { GoodFold l }
     requires good_fold_2 { GoodFold r }
     ensures { result ≡ binary_of op l r }
 {
-    let Fold::Is(x) = l else {
-        return l;
-    };
-    let Fold::Is(y) = r else {
-        return r;
-    };
-    if is_text(x) {
-        return Fold::NotConstant;
-    }
-    if is_text(y) {
-        return Fold::NotConstant;
+    let x = l?;
+    let y = r?;
+    if is_text(x) || is_text(y) {
+        return Err(Unfolded::NotConstant);
     }
     operate(op, x, y)
 }

@@ -4,15 +4,17 @@ use Prim.Native.Nat.{ℕ, zero, suc, ◌+◌, ◌*◌, ◌/◌, ◌≤◌, ◌<�
 use native.Mathlib.Numerals.{add-one}
 use native.Mathlib.Omega.{arith}
 use mathlib.Core.Path.{◌≡◌, refl, sym, ap, ◌∙◌}
-use mathlib.Core.Bool.{Bool, true, false}
+use mathlib.Core.Bool.{Bool, true, false, ◌&&◌}
 use mathlib.Core.List.{List, [], ◌∷◌, ◌++◌}
-use borrow.Author.Tests.{eq-eqb, ne_eqb}
-use lib.ListN.{length, drop, get_or, set, drop_of_length-le}
+use Rattle.std.specs.List.{list_all}
+use Rattle.std.proofs.Common.{eqb}
+use lib.ListN.{length, drop, get_or, set}
 use lib.Seq.{drop-cons, append_snoc, set_at}
 use Rattle.words.specs.Word.{pick}
 use Rattle.image.specs.Image.{word_at, words_at, strings, tree_words, erased_names, tree_from, erased_from, bytes_from, last_end, byte_count, zeros, well, opened}
-use Rattle.image.specs.declared.Opened.TheVariants.{Malformed, Whole}
 use Rattle.image.specs.Laws.{length_words, Facts, facts, is_well}
+use Rattle.image.specs.declared.Shape.{Shape}
+use Rattle.std.specs.Prelude.{Option, None, Some}
 
 -- ---- words read
 
@@ -56,34 +58,25 @@ last_read l (suc s) n =
 
 -- ---- zeros
 
--- a byte at i that is not zero: not all are
-pub zeros_no : (l : List ℕ) (i : ℕ) → i < length l → (get_or l i 0 ≡ 0 → ⊥) → zeros (drop i l) ≡ false
+-- all are zero by the library's test
+pub zeros_are : (l : List ℕ) → list_all (λ x. eqb x 0) l ≡ zeros l
 unfolding zeros
-zeros_no l i h n = rw (drop-cons l i 0 h, ne_eqb (get_or l i 0) 0 n)
-
--- a zero at i: those after it decide
-pub zeros_more : (l : List ℕ) (i : ℕ) → i < length l → get_or l i 0 ≡ 0 → zeros (drop i l) ≡ zeros (drop (i + 1) l)
-unfolding zeros
-zeros_more l i h z = rw (add-one i, drop-cons l i 0 h, eq-eqb (get_or l i 0) 0 z)
-
--- past the last byte all are
-pub zeros_end : (l : List ℕ) (i : ℕ) → length l ≤ i → zeros (drop i l) ≡ true
-unfolding zeros
-zeros_end l i h = rw (drop_of_length-le l {i = i} h)
+zeros_are [] = refl
+zeros_are (x ∷ xs) = ap (λ (t : Bool). eqb x 0 && t) (zeros_are xs)
 
 -- ---- the image's test
 
 -- not an image, since a fact fails
-pub no : (l : List ℕ) → (Facts l → ⊥) → Malformed ≡ opened l
+pub no : (l : List ℕ) → (Facts l → ⊥) → None ≡ opened l
 unfolding opened
 no l h = go (well l) refl
   where
-    go : (t : Bool) → well l ≡ t → Malformed ≡ pick t (Whole (record { strings = strings l; words = tree_words l; erased = erased_names l; bytes = byte_count l })) Malformed
+    go : (t : Bool) → well l ≡ t → ◌≡◌ {A = Option Shape} None (pick t (Some (record { strings = strings l; words = tree_words l; erased = erased_names l; bytes = byte_count l })) None)
     go true q = absurd (h (facts l q))
     go false q = refl
 
 -- an image, since they hold
-pub yes : (l : List ℕ) → Facts l → Whole (record { strings = strings l; words = tree_words l; erased = erased_names l; bytes = byte_count l }) ≡ opened l
+pub yes : (l : List ℕ) → Facts l → Some (record { strings = strings l; words = tree_words l; erased = erased_names l; bytes = byte_count l }) ≡ opened l
 unfolding opened
 yes l f = rw (is_well l f)
 
@@ -98,14 +91,12 @@ module _ (l : List ℕ) (s w x b : ℕ) (p : s ≡ word_at l 0) (q : w ≡ word_
   unfolding bytes_from erased_from tree_from strings tree_words erased_names
   from = omega (arith, is_count)
 
-  -- padding that isn't zero: no image
-  pub unfilled : (z : Bool) → z ≡ zeros (drop (12 + 4 * s + 4 * w + 4 * x + b) l) → z ≡ false → Malformed ≡ opened l
-  unfilled z e n = no l (λ f.
-      let k : zeros (drop (12 + 4 * s + 4 * w + 4 * x + b) l) ≡ true = rw from f.filled in
-      let o : ◌≡◌ {A = ℕ} 0 1 = cc in omega arith)
+  -- of an image the padding is zero, from where the code read it
+  pub filled : Facts l → zeros (drop (12 + 4 * s + 4 * w + 4 * x + b) l) ≡ true
+  filled f = rw from f.filled
 
   -- within the sizes, of the right length and with zero padding: an image with these counts
-  pub whole : (z : Bool) → s ≤ 1024 → w ≤ 8192 → x ≤ 1024 → b ≤ 16384 → length l ≡ 12 + 4 * s + 4 * w + 4 * x + (b + 3) / 4 * 4 → z ≡ zeros (drop (12 + 4 * s + 4 * w + 4 * x + b) l) → z ≡ true → Whole (record { strings = s; words = w; erased = x; bytes = b }) ≡ opened l
+  pub whole : (z : Bool) → s ≤ 1024 → w ≤ 8192 → x ≤ 1024 → b ≤ 16384 → length l ≡ 12 + 4 * s + 4 * w + 4 * x + (b + 3) / 4 * 4 → z ≡ zeros (drop (12 + 4 * s + 4 * w + 4 * x + b) l) → z ≡ true → Some (record { strings = s; words = w; erased = x; bytes = b }) ≡ opened l
   unfolding strings tree_words erased_names
   whole z h₁ h₂ h₃ h₄ h₅ e y =
       let f : Facts l = record {
@@ -116,5 +107,4 @@ module _ (l : List ℕ) (s w x b : ℕ) (p : s ≡ word_at l 0) (q : w ≡ word_
         exact = omega (arith, is_count);
         filled = (let k : zeros (drop (12 + 4 * s + 4 * w + 4 * x + b) l) ≡ true = sym e ∙ y in rw from at k);
       } in
-      let n : Whole (record { strings = s; words = w; erased = x; bytes = b }) ≡ Whole (record { strings = strings l; words = tree_words l; erased = erased_names l; bytes = byte_count l }) = rw (p, q, r, is_count) in
-      n ∙ yes l f
+      rw (p, q, r, is_count) (yes l f)

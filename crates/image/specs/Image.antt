@@ -1,11 +1,10 @@
 -- A program's image (document 01, "The listing program and the compiler's entry"): the words string count, tree words, erased count, ends,
 -- tree, erased numbers, and then the string bytes, zeros to a whole word. These are definitions.
-use Rattle.std.specs.Prelude.{ℕ, zero, suc, ◌+◌, ◌*◌, ◌/◌, Bool, true, ◌&&◌, List, [], ◌∷◌, eqb, leb, length, take, drop, get_or}
+use Rattle.std.specs.Prelude.{ℕ, zero, suc, ◌+◌, ◌*◌, ◌/◌, Bool, true, ◌&&◌, List, [], ◌∷◌, eqb, leb, length, take, drop, get_or, Option as RustOption, None, Some}
 use Rattle.std.proofs.Math.Option.{Option, none, some}
 use Rattle.words.specs.Word.{pick}
 use Rattle.words.specs.Sizes.{max_words, max_strings, max_bytes, max_erased}
-use Rattle.image.specs.declared.Opened.{Opened}
-use Rattle.image.specs.declared.Opened.TheVariants.{Malformed, Whole}
+use Rattle.image.specs.declared.Shape.{Shape}
 
 -- what an image holds
 pub record Image : Type 0 where
@@ -86,5 +85,5 @@ unfoldable pub decode : List ℕ → Option Image
 decode l = pick (well l) (some (parts l)) none
 
 -- for contracts inside: the same as the code answers it, the counts
-unfoldable pub opened : List ℕ → Opened
-opened l = pick (well l) (Whole (record { strings = strings l; words = tree_words l; erased = erased_names l; bytes = byte_count l })) Malformed
+unfoldable pub opened : List ℕ → RustOption Shape
+opened l = pick (well l) (Some (record { strings = strings l; words = tree_words l; erased = erased_names l; bytes = byte_count l })) None

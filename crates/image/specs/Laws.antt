@@ -1,12 +1,11 @@
 -- What an image's test says, and what a caller that has taken an image apart may conclude.
-use Rattle.std.specs.Prelude.{ℕ, zero, suc, ◌+◌, ◌*◌, ◌/◌, ◌≤◌, ◌<◌, ◌≡◌, refl, Bool, true, false, List, ◌++◌, length, take, drop}
+use Rattle.std.specs.Prelude.{ℕ, zero, suc, ◌+◌, ◌*◌, ◌/◌, ◌≤◌, ◌<◌, ◌≡◌, refl, Bool, true, false, List, ◌++◌, length, take, drop, Option as RustOption, None, Some}
 use Rattle.std.proofs.Common.{arith, sym, ap, leb-true, eqb-true, le-leb, eq-eqb, take_at}
 use Rattle.std.proofs.Math.Bool.{and-eq-true_iff}
 use Rattle.std.proofs.Math.Option.{none, some}
 use Rattle.words.specs.Word.{pick}
 use Rattle.image.specs.Image.{words_at, strings, tree_words, erased_names, tree_from, erased_from, bytes_from, byte_count, parts, zeros, padded, well, decode, opened}
 use Rattle.image.specs.declared.Shape.{Shape}
-use Rattle.image.specs.declared.Opened.TheVariants.{Malformed, Whole}
 
 -- n words are read as n words
 pub length_words : (l : List ℕ) (i n : ℕ) → length (words_at l i n) ≡ n
@@ -72,11 +71,11 @@ pub record Shaped (l : List ℕ) (s w x k : ℕ) : Type 0 where
   pub within : 12 + 4 * s + 4 * w + 4 * x + k ≤ length l
 
 -- the counts of a file that the code calls whole
-pub shaped : (l : List ℕ) (s : Shape) → Whole s ≡ opened l → Shaped l s.strings s.words s.erased s.bytes
+pub shaped : (l : List ℕ) (s : Shape) → Some s ≡ opened l → Shaped l s.strings s.words s.erased s.bytes
 unfolding opened decode
 shaped l s e = go (well l) refl e
   where
-    go : (t : Bool) → well l ≡ t → Whole s ≡ pick t (Whole (record { strings = strings l; words = tree_words l; erased = erased_names l; bytes = byte_count l })) Malformed → Shaped l s.strings s.words s.erased s.bytes
+    go : (t : Bool) → well l ≡ t → Some s ≡ pick t (Some (record { strings = strings l; words = tree_words l; erased = erased_names l; bytes = byte_count l })) None → Shaped l s.strings s.words s.erased s.bytes
     go false q e = absurd (let z : ◌≡◌ {A = ℕ} 0 1 = cc in omega arith)
     go true q e =
         let f = facts l q in
@@ -99,11 +98,11 @@ shaped l s e = go (well l) refl e
         }
 
 -- a file that the code calls malformed is no image
-pub not_image : (l : List ℕ) → Malformed ≡ opened l → decode l ≡ none
+pub not_image : (l : List ℕ) → None ≡ opened l → decode l ≡ none
 unfolding opened decode
 not_image l e = go (well l) refl e
   where
-    go : (t : Bool) → well l ≡ t → Malformed ≡ pick t (Whole (record { strings = strings l; words = tree_words l; erased = erased_names l; bytes = byte_count l })) Malformed → pick (well l) (some (parts l)) none ≡ none
+    go : (t : Bool) → well l ≡ t → ◌≡◌ {A = RustOption Shape} None (pick t (Some (record { strings = strings l; words = tree_words l; erased = erased_names l; bytes = byte_count l })) None) → pick (well l) (some (parts l)) none ≡ none
     go true q e = absurd (let z : ◌≡◌ {A = ℕ} 0 1 = cc in omega arith)
     go false q e = rw q
 

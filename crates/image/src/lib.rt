@@ -1,7 +1,7 @@
 // A program's image taken apart.
 #![tactic(auto)]
 
-ghost use Rattle.std.specs.Prelude.{◌≡◌, ◌++◌, ◌+◌, ◌*◌, ◌≤◌, ◌<◌, length, drop};
+ghost use Rattle.std.specs.Prelude.{◌≡◌, ◌++◌, ◌+◌, ◌*◌, ◌≤◌, ◌<◌, length, drop, MatchOption};
 ghost use Rattle.image.specs.Image.{word_at, words_at, last_end, zeros, opened};
 
 use words::{MAX_BYTES, MAX_ERASED, MAX_STRINGS, MAX_WORDS};
@@ -15,35 +15,22 @@ pub struct Shape {
     pub bytes: usize,
 }
 
-#[derive(Clone, Copy)]
-pub enum Opened {
-    // no image, or one over a size
-    Malformed,
-    Whole(Shape),
-}
-
-fn wide(b: u8) -> u32
-    ensures { (result ≡ b) × (result < 256) }
-{
-    b as u32
-}
-
 // The little-endian word at a byte.
+#[tactic(auto, unfolding(crate::specs::Image::word_at))]
 pub fn word(image: &[u8], at: usize) -> u32
     requires { at + 4 ≤ length image.now }
     ensures { result ≡ word_at image.now at }
 {
-    wide(image[at])
-        + 256 * wide(image[at + 1])
-        + 65536 * wide(image[at + 2])
-        + 16777216 * wide(image[at + 3])
+    u32::from_le_bytes([image[at], image[at + 1], image[at + 2], image[at + 3]])
 }
 
-fn count(image: &[u8], at: usize) -> usize
+// The count at a byte, where it is at most `most`.
+fn count(image: &[u8], at: usize, most: usize) -> Option<usize>
     requires { at + 4 ≤ length image.now }
-    ensures { result ≡ word_at image.now at }
+    ensures { MatchOption result (most < word_at image.now at) (λ n. (n ≡ word_at image.now at) × (n ≤ most)) }
 {
-    word(image, at) as usize
+    let n = word(image, at) as usize;
+    (n <= most).then_some(n)
 }
 
 fn last_end(image: &[u8], strings: usize) -> usize
@@ -51,65 +38,44 @@ fn last_end(image: &[u8], strings: usize) -> usize
     ensures { result ≡ last_end (words_at image.now 12 strings) }
 {
     if strings == 0 {
-        return 0;
+        0
+    } else {
+        word(image, 8 + 4 * strings) as usize
     }
-    count(image, 8 + 4 * strings)
 }
 
 fn zero_from(image: &[u8], from: usize) -> bool
     requires { from ≤ length image.now }
     ensures { result ≡ zeros (drop from image.now) }
 {
-    let mut i = from;
-    while i < image.len() {
-        if image[i] != 0 {
-            return false;
-        }
-        i += 1;
-    }
-    true
+    image[from..].iter().all(|&b| b == 0)
 }
 
 // Whether the bytes are an image, and the counts of one.
-pub fn open(image: &[u8]) -> Opened
+pub fn open(image: &[u8]) -> Option<Shape>
     ensures { result ≡ opened image.now }
 {
     let n = image.len();
     if n < 12 {
-        return Opened::Malformed;
+        return None;
     }
-    let strings = count(image, 0);
-    if MAX_STRINGS < strings {
-        return Opened::Malformed;
-    }
-    let words = count(image, 4);
-    if MAX_WORDS < words {
-        return Opened::Malformed;
-    }
-    let erased = count(image, 8);
-    if MAX_ERASED < erased {
-        return Opened::Malformed;
-    }
+    let strings = count(image, 0, MAX_STRINGS)?;
+    let words = count(image, 4, MAX_WORDS)?;
+    let erased = count(image, 8, MAX_ERASED)?;
     let at = 12 + 4 * strings + 4 * words + 4 * erased;
     if n < at {
-        return Opened::Malformed;
+        return None;
     }
     let bytes = last_end(image, strings);
-    if MAX_BYTES < bytes {
-        return Opened::Malformed;
+    if MAX_BYTES < bytes || n != at + (bytes + 3) / 4 * 4 || !zero_from(image, at + bytes) {
+        return None;
     }
-    if n != at + (bytes + 3) / 4 * 4 {
-        return Opened::Malformed;
-    }
-    if zero_from(image, at + bytes) {
-        return Opened::Whole(Shape {
-            strings,
-            words,
-            erased,
-            bytes,
-        });
-    }
-    Opened::Malformed
+    Some(Shape {
+        strings,
+        words,
+        erased,
+        bytes,
+    })
 }
 
 // n words of the image from `from` on.
@@ -117,9 +83,7 @@ pub fn read_words(image: &[u8], from: usize, n: usize, words: &mut [u32])
     requires { (from + 4 * n ≤ length image.now) × (n ≤ length words.old) }
     ensures { words.new ≡ words_at image.now from n ++ drop n words.old }
 {
-    let mut i = 0;
-    while i < n {
+    for i in 0..n {
         words[i] = word(image, from + 4 * i);
-        i += 1;
     }
 }

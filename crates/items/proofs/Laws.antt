@@ -1,5 +1,5 @@
 -- From what the calls did, what is read of an item, what is done for it, for all items of a list, for a statement. No line here knows the code. Assumes nothing.
-use Prim.Native.Nat.{ℕ, ◌+◌, ◌-◌, ◌*◌, ◌%◌, ◌<◌, ◌≤◌}
+use Prim.Native.Nat.{ℕ, ◌+◌, ◌*◌, ◌%◌, ◌<◌, ◌≤◌}
 use mathlib.Core.Path.{◌≡◌, refl, sym, ap, ◌∙◌, subst}
 use mathlib.Core.Bool.{true, false}
 use mathlib.Core.List.{List, [], ◌∷◌, append-nil}
@@ -18,7 +18,7 @@ use Rattle.tree.proofs.Nodes.{cons_last, stmt_line}
 use Rattle.table.specs.Rows.{Row, width, note_width, find}
 use Rattle.runs.specs.Runs.{Keeps}
 use Rattle.entries.specs.Entries.{row, entry_key, row_word}
-use Rattle.views.specs.View.{TypeRef, Integer, Long, Single, Double, FixedString, Record, head, head_of, arg_of, ScopeItem, View, Shared, Static, is_set, scope_item, items, view}
+use Rattle.views.specs.View.{TypeRef, ScopeItem, View, Shared, Static, is_set, scope_item, items, view}
 use Rattle.steps.specs.State.{each, enter}
 use Rattle.steps.specs.declared.Counts.{Counts}
 use Rattle.steps.specs.Held.{Does, Notes, Rows, entering, pushing}
@@ -28,8 +28,9 @@ use Rattle.collect.specs.Diagnostics.{items_outside}
 use Rattle.collect.specs.Seen.{Seen, see}
 use Rattle.collect.specs.Collect.{given, marked, typed, item_type, item, statement}
 use Rattle.collect.specs.Collect as C
-use Rattle.parts.specs.declared.TypeAt.{TypeAt}
-use Rattle.parts.specs.Parts.{AsTypeIs}
+use Rattle.std.specs.Prelude.{Option as RustOption, None, Some}
+use Rattle.lookup.specs.declared.Typed.{Typed}
+use Rattle.parts.specs.Parts.{AsTypeIs, written, written_if}
 use Rattle.parts.specs.Over.{scope_items_over}
 use Rattle.parts.specs.Turns.{Turn, turn_start, turn_next, turn_some, turn_end, list_rows, list_all}
 use Rattle.collect.specs.Code.{SomeStmt, CollectsAny}
@@ -78,14 +79,14 @@ module _ {ws : List ℕ} {at : ℕ} where
       record { names = S.names; strings = S.strings; tree = i.ty; end = S.end; stands = i.there }
 
   -- so the item is read from these words
-  pub item_is : {t : TypeAt} → AsTypeIs ws (at + 2) t
-      → ItemIs ws at (record { name = pay_of (get_or ws at 0); array = eqb (pay_of (get_or ws (at + 1) 0)) 1; head = t.head; arg = t.arg; next = t.next })
+  pub item_is : {ty : RustOption Typed} {next : ℕ} → AsTypeIs ws (at + 2) ty next
+      → ItemIs ws at (record { name = pay_of (get_or ws at 0); array = eqb (pay_of (get_or ws (at + 1) 0)) 1; ty = ty; next = next })
   unfolding scope_item is_set
   item_is T = record {
     is = λ ns n r end S.
         let i = in_item r S in
         let e = T.is ns n i.ty end i.there in
-        rw i.is (record { name_is = i.name_is; array_is = ap (λ (x : ℕ). eqb x 1) i.flag_is; head_is_lem = e.0; arg_is = e.1 }, e.2);
+        rw i.is (record { name_is = i.name_is; array_is = ap (λ (x : ℕ). eqb x 1) i.flag_is; ty_is = e.0 }, e.1);
   }
 
 -- ---- marks
@@ -125,18 +126,9 @@ module _ {s r : Counts} {b b' : List ℕ} {kind scope : ℕ} {i : ItemAt} where
     room = R.fit;
   }
 
--- a type has a head
-type_head : (t : TypeRef) → head t ≡ 0 → ⊥
-type_head Integer e = absurd (omega arith)
-type_head Long e = absurd (omega arith)
-type_head Single e = absurd (omega arith)
-type_head Double e = absurd (omega arith)
-type_head (FixedString n) e = absurd (omega arith)
-type_head (Record x) e = absurd (omega arith)
-
-no_type : (o : Option TypeRef) → head_of o ≡ 0 → o ≡ none
+no_type : (o : Option TypeRef) → None ≡ written_if o → o ≡ none
 no_type none e = refl
-no_type (some t) e = absurd (type_head t e)
+no_type (some t) e = let z : ◌≡◌ {A = ℕ} 0 1 = cc in absurd (omega arith)
 
 module _ {s : Counts} {b : List ℕ} {kind scope : ℕ} {i : ItemAt} (k : kind ≡ 134) (fit : s.rows * width ≤ length b) where
   -- its type: none of an array
@@ -145,23 +137,25 @@ module _ {s : Counts} {b : List ℕ} {kind scope : ℕ} {i : ItemAt} (k : kind �
   enters_array e = record { does = λ it I bytes ends erased. rw (eq-eqb kind 134 k, sym I.array_is, e) (rows_nothing fit); room = fit }
 
   -- nor of an item without a type
-  pub enters_untyped : i.array ≡ false → i.head ≡ 0 → Enters kind scope i s s b b
+  pub enters_untyped : i.array ≡ false → i.ty ≡ None → Enters kind scope i s s b b
   unfolding item_as item_type typed
-  enters_untyped e z = record { does = λ it I bytes ends erased. rw (eq-eqb kind 134 k, sym I.array_is, e, no_type it.ty (sym I.head_is_lem ∙ z)) (rows_nothing fit); room = fit }
+  enters_untyped e z = record { does = λ it I bytes ends erased. rw (eq-eqb kind 134 k, sym I.array_is, e, no_type it.ty (sym z ∙ I.ty_is)) (rows_nothing fit); room = fit }
 
 module _ {s r : Counts} {b b' : List ℕ} where
-  typed_entered : (scope name : ℕ) (o : Option TypeRef) → (head_of o ≡ 0 → ⊥) → Rows (entering (row 134 name (scope ∷ head_of o ∷ arg_of o ∷ []))) s r b b'
+  typed_entered : (scope name : ℕ) (o : Option TypeRef) {t : Typed} → Some t ≡ written_if o → Rows (entering (row 134 name (scope ∷ t.head ∷ t.arg ∷ []))) s r b b'
       → (bytes ends erased : List ℕ) → Rows (λ N D. typed (given (some N) (some D) bytes ends erased) scope name o) s r b b'
   unfolding entering typed
-  typed_entered scope name none z R bytes ends erased = absurd (z refl)
-  typed_entered scope name (some t) z R bytes ends erased = R
+  typed_entered scope name none e R bytes ends erased = let z : ◌≡◌ {A = ℕ} 0 1 = cc in absurd (omega arith)
+  typed_entered scope name (some x) {t} e R bytes ends erased =
+      let same : t ≡ written x = cc in
+      rw same at R
 
   -- else the typed variable's row
-  pub enters_typed : {kind scope : ℕ} {i : ItemAt} → kind ≡ 134 → i.array ≡ false → (i.head ≡ 0 → ⊥) → Rows (entering (row 134 i.name (scope ∷ i.head ∷ i.arg ∷ []))) s r b b' → Enters kind scope i s r b b'
+  pub enters_typed : {kind scope : ℕ} {i : ItemAt} {t : Typed} → kind ≡ 134 → i.array ≡ false → i.ty ≡ Some t → Rows (entering (row 134 i.name (scope ∷ t.head ∷ t.arg ∷ []))) s r b b' → Enters kind scope i s r b b'
   unfolding item_as item_type
   enters_typed {kind} {scope} {i} k e z R = record {
     does = λ it I bytes ends erased. rw (eq-eqb kind 134 k, sym I.array_is, e)
-        (typed_entered scope it.name it.ty (λ h. z (I.head_is_lem ∙ h)) (rw (I.name_is, I.head_is_lem, I.arg_is) at R) bytes ends erased);
+        (typed_entered scope it.name it.ty (sym z ∙ I.ty_is) (rw I.name_is at R) bytes ends erased);
     room = R.fit;
   }
 
@@ -171,38 +165,38 @@ module _ {s r : Counts} {b b' : List ℕ} where
 abbrev pub Done : (kind scope : ℕ) (s : Counts) (b : List ℕ) (t : Counts) (b' : List ℕ) → List ScopeItem → Type 0
 Done kind scope s b t b' is = (bytes ends erased : List ℕ) → Rows (λ N D. each (item_as (given (some N) (some D) bytes ends erased) kind scope) is) s t b b'
 
--- where a loop over the list is: p is the next item's place, `left` are to come
-pub record Going (ws : List ℕ) (at kind scope : ℕ) (s : Counts) (b : List ℕ) (t : Counts) (b' : List ℕ) (p left : ℕ) : Type 0 where
+-- where a loop over the list is: p is the next item's place, k were read
+pub record Going (ws : List ℕ) (at kind scope : ℕ) (s : Counts) (b : List ℕ) (t : Counts) (b' : List ℕ) (p k : ℕ) : Type 0 where
   pub room : t.rows * width ≤ length b'
   pub long : length b' ≡ length b
-  pub turn : Turn scope_item (Done kind scope s b t b') ws (at + 1) (pay_of (get_or ws at 0)) p left
+  pub turn : Turn scope_item (Done kind scope s b t b') ws (at + 1) (pay_of (get_or ws at 0)) p k
 
 module _ {ws : List ℕ} {at kind scope : ℕ} {s : Counts} {b : List ℕ} where
   -- nothing is done, and all are to come
-  pub items_start : s.rows * width ≤ length b → Going ws at kind scope s b s b (at + 1) (pay_of (get_or ws at 0))
+  pub items_start : s.rows * width ≤ length b → Going ws at kind scope s b s b (at + 1) 0
   items_start fit = record {
     room = fit;
     long = refl;
     turn = turn_start (Done kind scope s b s b) (λ bytes ends erased. rows_each_none (λ (i : ScopeItem) N D. item_as (given (some N) (some D) bytes ends erased) kind scope i) fit) ws (at + 1) (pay_of (get_or ws at 0));
   }
 
-  module _ {t : Counts} {b' : List ℕ} {p left : ℕ} (T : Going ws at kind scope s b t b' p left) where
+  module _ {t : Counts} {b' : List ℕ} {p k : ℕ} (T : Going ws at kind scope s b t b' p k) where
     -- where some are to come, the next one stands at p
-    pub item_there : 0 < left → SomeTree (one (many ItemRow)) ws at → SomeTree (row_shape ItemRow) ws p
+    pub item_there : k < pay_of (get_or ws at 0) → SomeTree (one (many ItemRow)) ws at → SomeTree (row_shape ItemRow) ws p
     item_there h S = turn_some T.turn h (list_rows S)
 
     -- one more is done
-    pub items_next : 0 < left → {i : ItemAt} → ItemIs ws p i → {u : Counts} {b'' : List ℕ} → length b'' ≡ length b' → Enters kind scope i t u b' b'' → Going ws at kind scope s b u b'' i.next (left - 1)
+    pub items_next : k < pay_of (get_or ws at 0) → {i : ItemAt} → ItemIs ws p i → {u : Counts} {b'' : List ℕ} → length b'' ≡ length b' → Enters kind scope i t u b' b'' → Going ws at kind scope s b u b'' i.next (k + 1)
     items_next h {i} I {u} {b''} l E = record {
       room = E.room;
       long = l ∙ T.long;
       turn = turn_next T.turn h (Done kind scope s b u b'') i.next (λ ns n r end S.
           let e = I.is ns n r end S in
-          (e.1, λ done P bytes ends erased. rows_each_next (λ (x : ScopeItem) N D. item_as (given (some N) (some D) bytes ends erased) kind scope x) done (scope_item r) (P bytes ends erased) (E.does (scope_item r) e.0 bytes ends erased)));
+          (e.1, λ done many P bytes ends erased. rows_each_next (λ (x : ScopeItem) N D. item_as (given (some N) (some D) bytes ends erased) kind scope x) done (scope_item r) (P bytes ends erased) (E.does (scope_item r) e.0 bytes ends erased)));
     }
 
     -- none is to come: all are done
-    pub items_all : left ≡ 0 → EntersAll ws at kind scope s t b b'
+    pub items_all : pay_of (get_or ws at 0) ≤ k → EntersAll ws at kind scope s t b b'
     items_all z = record { does = λ ns n v end S. list_all scope_item (λ is e. Done kind scope s b t b' is) (λ ns n rs end S c. (turn_end T.turn z ns n rs end S c).1) ns n v end S; room = T.room }
 
 -- ---- the statements

@@ -8,19 +8,19 @@ use Rattle.tree.specs.Tree.{Tree, one, row as row_shape}
 use Rattle.tree.specs.Stands.{Stands}
 use Rattle.table.specs.Rows.{width, find}
 use Rattle.entries.specs.Entries.{row, entry_key, row_word}
-use Rattle.views.specs.View.{ScopeItem, head_of, arg_of, scope_item, items}
+use Rattle.views.specs.View.{ScopeItem, scope_item, items}
 use Rattle.steps.specs.State.{Step, asking, each}
 use Rattle.steps.specs.declared.Counts.{Counts}
 use Rattle.steps.specs.Held.{Rows}
 use Rattle.collect.specs.Collect.{Given, given, entry, marked, item_type}
+use Rattle.parts.specs.Parts.{written_if}
 use Rattle.items.specs.declared.ItemAt.{ItemAt}
 
 -- what was read is the item
 pub record Reads (i : ItemAt) (item : ScopeItem) : Type 0 where
   pub name_is : i.name ≡ item.name
   pub array_is : i.array ≡ item.array
-  pub head_is_lem : i.head ≡ head_of item.ty
-  pub arg_is : i.arg ≡ arg_of item.ty
+  pub ty_is : i.ty ≡ written_if item.ty
 
 -- whatever item stands there
 pub record ItemIs (ws : List ℕ) (at : ℕ) (i : ItemAt) : Type 0 where

@@ -11,15 +11,16 @@ ghost use Rattle.collect.specs.Collect.{marked as marked_of};
 ghost use Rattle.collect.specs.Code.{SomeStmt, CollectsAny};
 ghost use Rattle.items.specs.Items.{ItemIs, Enters, EntersAll};
 
+use lookup::Typed;
 use steps::Counts;
+use table::Rows;
 
-// An item: its name, whether it is an array, its type (head 0: none), and the place past it.
+// An item: its name, whether it is an array, its type, and the place past it.
 #[derive(Clone, Copy)]
 pub struct ItemAt {
     name: u32,
     array: bool,
-    head: u32,
-    arg: u32,
+    ty: Option<Typed>,
     next: usize,
 }
 
@@ -31,49 +32,50 @@ fn item_at(words: &[u32], at: usize) -> ItemAt
 {
     let name = words[at] % 16777216;
     let array = words[at + 1] % 16777216 == 1;
-    let t = parts::as_type(words, at + 2);
+    let (ty, next) = parts::as_type(words, at + 2);
     ItemAt {
-        name: name,
-        array: array,
-        head: t.head,
-        arg: t.arg,
-        next: t.next,
+        name,
+        array,
+        ty,
+        next,
     }
 }
 
-// A name's mark with one more: 1 for a variable, 2 for an array.
+// A name's mark with one more: 1 for a variable, 2 for an array. A row may have any number as its mark, so it is a number here, and this is not `mark | 2`: above 3 the definition leaves it.
 fn marked(mark: u32, array: bool) -> u32
     ensures { result ≡ marked_of array mark }
 {
     if array {
-        if 2 <= mark {
-            return mark;
-        }
-        return mark + 2;
+        if 2 <= mark { mark } else { mark + 2 }
+    } else if mark % 2 == 1 {
+        mark
+    } else {
+        mark + 1
     }
-    if mark % 2 == 1 {
-        return mark;
-    }
-    mark + 1
 }
 
-// An item's row of a kind: 134 is its type, where a variable has one; 138 and 139 are its marks in SHARED and STATIC.
+// An item's row of a kind: 134 is its type, where a variable has one; 138 and 139 are its marks in SHARED and STATIC. The kind
+// is in the row as well, so it says which of the two is entered.
 fn enter_item(b: &mut [u32], s: Counts, kind: u32, scope: u32, i: ItemAt) -> Counts
     requires { (s.rows * width ≤ length b.old) × (kind < 144) × (i.name < 16777216) }
     ensures { Enters kind scope i s result b.old b.new }
 {
     let name = i.name;
     if kind != 134 {
-        let mark = marked(lookup::word(b, s.rows, kind, name, scope, 2), i.array);
+        let rows = Rows {
+            words: b,
+            count: s.rows,
+        };
+        let mark = marked(lookup::word(&rows, kind, name, scope, 2), i.array);
         return steps::enter(b, s, kind, name, scope, mark, 0, 0, 0);
     }
     if i.array {
         return s;
     }
-    if i.head == 0 {
-        return s;
+    match i.ty {
+        Some(t) => steps::enter(b, s, 134, name, scope, t.head, t.arg, 0, 0),
+        None => s,
     }
-    steps::enter(b, s, 134, name, scope, i.head, i.arg, 0, 0)
 }
 
 // The same for all items of the list.
@@ -83,12 +85,10 @@ fn enter_items(words: &[u32], b: &mut [u32], s: Counts, kind: u32, scope: u32, a
 {
     let mut t = s;
     let mut p = at + 1;
-    let mut left = words[at] % 16777216;
-    while 0 < left {
+    for _ in 0..words[at] % 16777216 {
         let i = item_at(words, p);
         t = enter_item(b, t, kind, scope, i);
         p = i.next;
-        left -= 1;
     }
     t
 }

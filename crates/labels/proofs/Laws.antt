@@ -28,9 +28,7 @@ use Rattle.steps.specs.State.{State, Step, running, stopped, ◌⨾◌, asking, 
 use Rattle.steps.specs.declared.Counts.{Counts}
 use Rattle.steps.specs.Held.{Fit, Held, Does, Notes, Rows, entering, pushing, noting}
 use Rattle.steps.proofs.Compose.{Stays, then, asked, rows_does, notes_does, stays_when, stays_pick, stays_enter, stays_push, stopped_does}
-use Rattle.fold.specs.Value.{literal_kind, low_of, high_of}
-use Rattle.fold.specs.declared.Fold.{Fold}
-use Rattle.fold.specs.declared.Fold.TheVariants.{Is, Overflow, NotConstant}
+use Rattle.fold.specs.Value.{literal_kind, low_of, high_of, Fold}
 use Rattle.fold.specs.declared.Value.{Value}
 use Rattle.consteval.specs.ConstEval.{const_eval}
 use Rattle.consteval.specs.Evaluates.{fold_of, Ready, Evaluates}
@@ -39,7 +37,10 @@ use Rattle.collect.specs.Diagnostics.{duplicate_line, duplicate_label, option_ba
 use Rattle.collect.specs.Seen.{Seen, see}
 use Rattle.collect.specs.Collect.{given, statement, any_array, const_of, label, label_name, option_base, folded, const}
 use Rattle.collect.specs.Code.{SomeStmt, CollectsAny}
-use Rattle.labels.specs.Labels.{ConstAt, say_base}
+use Rattle.labels.specs.Labels.{ConstAt, say_base, code_of}
+use Rattle.fold.specs.declared.Unfolded.{Unfolded}
+use Rattle.std.specs.Prelude.{Ok, Err}
+use Rattle.fold.specs.declared.Unfolded.TheVariants.{Overflow, NotConstant}
 
 -- ---- a statement whose first field is a plain word: its line, and the word's payload
 
@@ -220,28 +221,34 @@ const_entered name v e R = rw (sym e.0, sym e.1, sym e.2) R
 
 module _ {s r : Counts} {b d : List ℕ} (line name : ℕ) where
   -- a value is entered
-  pub folded_value : {b' : List ℕ} {v : Value} {f : Fold} → Is v ≡ f → s.notes * note_width ≤ length d → Rows (entering (const_of name v)) s r b b'
+  pub folded_value : {b' : List ℕ} {v : Value} {f : Fold} → Ok v ≡ f → s.notes * note_width ≤ length d → Rows (entering (const_of name v)) s r b b'
       → (bytes ends erased : List ℕ) → Does (λ N D. folded (given (some N) (some D) bytes ends erased) line name f) s r b d b' d
   unfolding folded entering
   folded_value e h R bytes ends erased = rw (sym e) (rows_does R d h)
 
   -- an overflow is 11
-  pub folded_over : {d' : List ℕ} {f : Fold} → Overflow ≡ f → s.rows * width ≤ length b → Notes (pushing (const_overflow line name)) s r d d'
+  pub folded_over : {d' : List ℕ} {f : Fold} → (Err Overflow) ≡ f → s.rows * width ≤ length b → Notes (pushing (const_overflow line name)) s r d d'
       → (bytes ends erased : List ℕ) → Does (λ N D. folded (given (some N) (some D) bytes ends erased) line name f) s r b d b d'
   unfolding folded pushing
   folded_over e h F bytes ends erased = rw (sym e) (notes_does F b h)
 
   -- what isn't constant is 12
-  pub folded_not : {d' : List ℕ} {f : Fold} → NotConstant ≡ f → s.rows * width ≤ length b → Notes (pushing (not_constant line name)) s r d d'
+  pub folded_not : {d' : List ℕ} {f : Fold} → (Err NotConstant) ≡ f → s.rows * width ≤ length b → Notes (pushing (not_constant line name)) s r d d'
       → (bytes ends erased : List ℕ) → Does (λ N D. folded (given (some N) (some D) bytes ends erased) line name f) s r b d b d'
   unfolding folded pushing
   folded_not e h F bytes ends erased = rw (sym e) (notes_does F b h)
 
+  -- so what is said of one that doesn't fold
+  pub folded_unfolded : {d' : List ℕ} {f : Fold} (why : Unfolded) → Err why ≡ f → s.rows * width ≤ length b → Notes (pushing (code_of why ∷ line ∷ (name + 1) ∷ 0 ∷ 0 ∷ 0 ∷ [])) s r d d'
+      → (bytes ends erased : List ℕ) → Does (λ N D. folded (given (some N) (some D) bytes ends erased) line name f) s r b d b d'
+  folded_unfolded Overflow e h F = folded_over e h F
+  folded_unfolded NotConstant e h F = folded_not e h F
+
 folded_stays : (bytes ends erased : List ℕ) (line name : ℕ) (f : Fold) (N D : ℕ) → Stays (folded (given (some N) (some D) bytes ends erased) line name f)
 unfolding folded
-folded_stays bytes ends erased line name (Is v) N D = stays_enter N (const_of name v)
-folded_stays bytes ends erased line name Overflow N D = stays_push D (const_overflow line name)
-folded_stays bytes ends erased line name NotConstant N D = stays_push D (not_constant line name)
+folded_stays bytes ends erased line name (Ok v) N D = stays_enter N (const_of name v)
+folded_stays bytes ends erased line name (Err Overflow) N D = stays_push D (const_overflow line name)
+folded_stays bytes ends erased line name (Err NotConstant) N D = stays_push D (not_constant line name)
 
 -- what collecting sees of a CONST, and where its expression stands
 pub record SeesConst (ws ns : List ℕ) (n at line : ℕ) (v : View Seen) (end : ℕ) : Type 0 where

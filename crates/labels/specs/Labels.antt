@@ -10,6 +10,8 @@ use Rattle.consteval.specs.Evaluates.{Consts}
 use Rattle.steps.specs.State.{when, push}
 use Rattle.steps.specs.Held.{Sized}
 use Rattle.collect.specs.Diagnostics.{option_base_twice, option_base_late}
+use Rattle.fold.specs.declared.Unfolded.{Unfolded}
+use Rattle.fold.specs.declared.Unfolded.TheVariants.{Overflow, NotConstant}
 use Rattle.collect.specs.Code.{SomeStmt}
 
 -- the buffer keeps rows whose CONST rows meet their rule, with n strings
@@ -30,3 +32,8 @@ pub record ConstAt (ws : List ℕ) (at : ℕ) (s : Counts) (b : List ℕ) : Type
 -- what is said of an OPTION BASE
 unfoldable pub say_base : (twice late : Bool) (line : ℕ) → Sized
 say_base twice late line N D = pick twice (push (some D) (option_base_twice line)) (when late (push (some D) (option_base_late line)))
+
+-- the number of what is said of a CONST that doesn't fold
+abbrev pub code_of : Unfolded → ℕ
+code_of Overflow = 11
+code_of NotConstant = 12

@@ -4,17 +4,19 @@
 ghost use Rattle.std.specs.Prelude.{◌≡◌, false, List, ℕ, ◌*◌, ◌≤◌, ◌<◌, length};
 ghost use Rattle.std.proofs.Math.Option.{some};
 ghost use Rattle.table.specs.Rows.{Row, width, note_width};
-ghost use Rattle.runs.specs.Runs.{Keeps};
+ghost use Rattle.runs.specs.Runs.{KeptIn};
 ghost use Rattle.fold.specs.Value.{Good};
 ghost use Rattle.fold.specs.Fold.{GoodFold};
+ghost use Rattle.consteval.specs.EvalLaws.{Words32};
 ghost use Rattle.tree.specs.Sorts.{label as label_kind, label_name, option_base, const as const_kind};
-ghost use Rattle.steps.specs.Held.{Fit, Rows, Notes, Does, entering};
+ghost use Rattle.steps.specs.Held.{Fit, Rows as ChangesRows, Notes, Does, entering};
 ghost use Rattle.collect.specs.Collect.{given, any_array, const_of, folded as folded_step};
-ghost use Rattle.labels.specs.Labels.{ConstAt, say_base};
+ghost use Rattle.labels.specs.Labels.{ConstAt, say_base, code_of};
 ghost use Rattle.collect.specs.Code.{SomeStmt, CollectsAny};
 
-use fold::{Fold, Value};
+use fold::{Fold, Unfolded, Value};
 use steps::Counts;
+use table::Rows;
 
 // A line number. The last one stays, also after a diagnostic. It was there before where the rows have not become more: that spares a search.
 pub fn label(
@@ -34,7 +36,8 @@ pub fn label(
     steps::push_if(d, t, t.rows == s.rows, 1, line, 0, 0, n, 0)
 }
 
-// A label, in the same way.
+// A label, in the same way. The two differ in the row's kind and in what the diagnostic names, and nothing else is in them: one function of both would have
+// ten parameters, and be no plainer.
 pub fn label_name(
     words: &[u32],
     b: &mut [u32],
@@ -52,25 +55,23 @@ pub fn label_name(
     steps::push_if(d, t, t.rows == s.rows, 2, line, name + 1, 0, 0, 0)
 }
 
-// Whether there is an array, in whatever scope: their keys are together.
-fn any_array(b: &[u32], count: usize) -> bool
-    requires { count * width ≤ length b.now }
-    ensures { (rows : List Row) → Keeps rows count b.now → result ≡ any_array rows }
+// Whether there is an array, in whatever scope: their keys are together. (A slice's own words are known to fit, those of a slice in a struct are not, so that is
+// asked.)
+fn any_array(rows: &Rows<'_>) -> bool
+    requires { Words32 rows.now.words.now }
+    ensures { (rs : List Row) → KeptIn rs rows.now → result ≡ any_array rs }
 {
     let from = entries::entry_key(133, 0, 0);
     let to = entries::entry_key(134, 0, 0);
-    runs::any_between(b, count, from, to)
+    runs::any_between(rows, from, to)
 }
 
 // Whether there is an array, asked only of a first OPTION BASE: of another it doesn't matter.
-fn late_base(b: &[u32], count: usize, twice: bool) -> bool
-    requires { count * width ≤ length b.now }
-    ensures { twice ≡ false → (rows : List Row) → Keeps rows count b.now → result ≡ any_array rows }
+fn late_base(rows: &Rows<'_>, twice: bool) -> bool
+    requires { Words32 rows.now.words.now }
+    ensures { twice ≡ false → (rs : List Row) → KeptIn rs rows.now → result ≡ any_array rs }
 {
-    if twice {
-        return false;
-    }
-    any_array(b, count)
+    !twice && any_array(rows)
 }
 
 // What is said of an OPTION BASE: that it isn't the first, or else that an array was before it.
@@ -79,9 +80,10 @@ fn say_base(d: &mut [u32], s: Counts, twice: bool, late: bool, line: u32) -> Cou
     ensures { Notes (say_base twice late line) s result d.old d.new }
 {
     if twice {
-        return steps::push(d, s, 8, line, 0, 0, 0, 0);
+        steps::push(d, s, 8, line, 0, 0, 0, 0)
+    } else {
+        steps::push_if(d, s, late, 9, line, 0, 0, 0, 0)
     }
-    steps::push_if(d, s, late, 9, line, 0, 0, 0, 0)
 }
 
 // OPTION BASE: once, and before any array. The last value stays.
@@ -91,8 +93,12 @@ pub fn option_base(words: &[u32], b: &mut [u32], d: &mut [u32], s: Counts, at: u
 {
     let line = words[at] % 16777216;
     let n = words[at + 1] % 16777216;
-    let twice = lookup::has(b, s.rows, 143, 0, 0);
-    let late = late_base(b, s.rows, twice);
+    let rows = Rows {
+        words: b,
+        count: s.rows,
+    };
+    let twice = lookup::has(&rows, 143, 0, 0);
+    let late = late_base(&rows, twice);
     let t = say_base(d, s, twice, late, line);
     steps::enter(b, t, 143, 0, 0, n, 0, 0, 0)
 }
@@ -100,10 +106,20 @@ pub fn option_base(words: &[u32], b: &mut [u32], d: &mut [u32], s: Counts, at: u
 // A folded constant's row.
 fn enter_value(b: &mut [u32], s: Counts, name: u32, v: Value) -> Counts
     requires { (s.rows * width ≤ length b.old) × (name < 16777216) × Good v }
-    ensures { Rows (entering (const_of name v)) s result b.old b.new }
+    ensures { ChangesRows (entering (const_of name v)) s result b.old b.new }
 {
     let c = fold::const_words(v);
     steps::enter(b, s, 132, name, 0, c.kind, c.low, c.high, 0)
+}
+
+// The number of the diagnostic of a CONST whose expression doesn't fold.
+fn code_of(why: Unfolded) -> u32
+    ensures { result ≡ code_of why }
+{
+    match why {
+        Unfolded::Overflow => 11,
+        Unfolded::NotConstant => 12,
+    }
 }
 
 // What became of a CONST's expression: a CONST that doesn't fold leaves an earlier row.
@@ -112,9 +128,8 @@ fn folded(b: &mut [u32], d: &mut [u32], s: Counts, line: u32, name: u32, f: Fold
     ensures { (bytes ends erased : List ℕ) → Does (λ N D. folded_step (given (some N) (some D) bytes ends erased) line name f) s result b.old d.old b.new d.new }
 {
     match f {
-        Fold::Is(v) => enter_value(b, s, name, v),
-        Fold::Overflow => steps::push(d, s, 11, line, name + 1, 0, 0, 0),
-        Fold::NotConstant => steps::push(d, s, 12, line, name + 1, 0, 0, 0),
+        Ok(v) => enter_value(b, s, name, v),
+        Err(why) => steps::push(d, s, code_of(why), line, name + 1, 0, 0, 0),
     }
 }
 
@@ -128,9 +143,12 @@ pub fn constant(words: &[u32], b: &mut [u32], d: &mut [u32], s: Counts, at: usiz
     }
     let line = words[at] % 16777216;
     let name = words[at + 1] % 16777216;
-    let twice = lookup::has(b, s.rows, 132, name, 0);
-    let f = consteval::const_eval(words, at + 2, b, s.rows);
+    let rows = Rows {
+        words: b,
+        count: s.rows,
+    };
+    let twice = lookup::has(&rows, 132, name, 0);
+    let f = consteval::const_eval(words, at + 2, &rows);
     let t = steps::push_if(d, s, twice, 10, line, name + 1, 0, 0, 0);
-    let g = consteval::fold_of(f);
-    folded(b, d, t, line, name, g)
+    folded(b, d, t, line, name, consteval::fold_of(f))
 }

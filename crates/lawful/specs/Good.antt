@@ -5,7 +5,7 @@ use Rattle.std.proofs.Common.{zero-le}
 use Rattle.std.proofs.Math.Path.{refl}
 use Rattle.std.proofs.Math.Bool.{true, false}
 use mathlib.Core.List.{List, [], ◌∷◌, ◌++◌}
-use Rattle.std.proofs.Math.Option.{Option, some}
+use Rattle.std.proofs.Math.Option.{some}
 use Rattle.std.proofs.Math.ListN.{get_or}
 use Rattle.words.specs.Word.{kind_of, pick}
 use Rattle.words.specs.Each.{Each}

@@ -1,6 +1,6 @@
 -- Each definition of `collect`, in their order, keeps the rows such as a lent table may have them; so the rows that collecting gives pass the rule of a
 -- lent table, and const_eval may be asked under them. And the diagnostics name names, and both have room. Assumes nothing.
-use Rattle.std.specs.Prelude.{ℕ, zero, suc, ◌+◌, ◌*◌, ◌%◌, ◌≤◌, ◌<◌, ◌≡◌, Bool, ◌&&◌, ◌||◌, leb, get_or}
+use Rattle.std.specs.Prelude.{ℕ, zero, suc, ◌+◌, ◌*◌, ◌%◌, ◌≤◌, ◌<◌, ◌≡◌, Bool, ◌&&◌, ◌||◌, leb, get_or, Ok, Err, Some}
 use Rattle.std.proofs.Math.Path.{refl}
 use Rattle.std.proofs.Common.{sym, ◌∙◌, subst, get_or-drop}
 use Rattle.std.proofs.Math.Bool.{true, false, not}
@@ -21,11 +21,9 @@ use Rattle.tree.specs.Sorts.{body, Kind, sorts}
 use Rattle.tree.specs.Tree.{Shape, one, row, Tree, word as leaf, value, Stmt, list, part, this, that, done, cons, none as no_rows, more, Right, over}
 use Rattle.tree.specs.Stands.{Stands}
 use Rattle.views.specs.View.{TypeRef, Integer, Long, Single, Double, FixedString, Record, head, arg, head_of, arg_of, Declarator, Param, ScopeItem, FieldDecl, View, Label, LabelName, OptionBase, TypeDef, Const, Shared, Static, Dim, Redim, Sub, Function, Other, view, inner, walk}
-use Rattle.fold.specs.Value.{literal_kind, low_of, high_of}
+use Rattle.fold.specs.Value.{literal_kind, low_of, high_of, Fold}
 use Rattle.fold.specs.ValueLaws.{RowValue, row_rule}
 use Rattle.fold.proofs.FoldLaws.{RowFold}
-use Rattle.fold.specs.declared.Fold.{Fold}
-use Rattle.fold.specs.declared.Fold.TheVariants.{Is, Overflow, NotConstant}
 use Rattle.fold.specs.declared.Value.{Value}
 use Rattle.table.specs.Rows.{Row, width, note_width, key_of, key, find, image}
 use Rattle.table.specs.Images.{holds_image}
@@ -33,7 +31,6 @@ use Rattle.entries.specs.Entries.{entry_key, row_word, has, line_row, label_row,
 use Rattle.lent.specs.Rules.{is_marked, scope_ok, type_ok, rules, row_ok, kind_ok, word_ok, const_ok}
 use Rattle.lent.specs.Lent.{Lent, checked, lent_rows}
 use Rattle.lent.specs.LentLaws.{checked_complete, lent_rows_lem}
-use Rattle.lent.specs.declared.Checked.TheVariants.{Rows}
 use Rattle.lent.specs.Valid.{item_ok, line_ok, label_ok, type_ok_lem, field_ok, const_ok_lem, array_ok, typed_var_ok, proc_ok, param_ok, dim_shared_ok, shared_ok, static_ok, static_proc_ok, def_fn_ok, unranked_ok, option_base_ok}
 use Rattle.consteval.specs.EvalLaws.{Words32}
 use Rattle.consteval.specs.RowLaws.{consts_enter}
@@ -48,6 +45,7 @@ use Rattle.lent.specs.RuleLaws.{words_ok_at, array_name}
 use Rattle.lawful.specs.Good.{FineNote, each_append, GoodRows, Good, Bounded, Entry, no_rows_lem, other, replace_good, Keeps, push_k, change_k, enter_k, nothing_k, stop_k, then_k, pick_k, if_k, when_k, asking_k, each_k, found, good_lent}
 use Rattle.lawful.specs.Uses.{Small}
 use Rattle.lawful.specs.Views.{Folds, Known, stands_known, Scope, marked_scope, TypeFine, OptFine, FineField, FineItem, FineParam, FineDecl, FineParams, FineView, type_or_none_lem, own_scope, module_scope, inner_scope, view_fine}
+use Rattle.fold.specs.declared.Unfolded.TheVariants.{Overflow, NotConstant}
 
 -- the kind of a row's first word is another than a CONST's
 no_const : (k x : ℕ) → eqb k 132 ≡ false → x < 16777216 → kind_of (word_of k x) ≡ 132 → ⊥
@@ -343,9 +341,9 @@ module _ (ns : List ℕ) (n : ℕ) where
 
     folded_k : (line x : ℕ) (f : Fold) → length ns ≡ n → Named ns x → RowFold n f → Keeps ns n G (C.folded G line x f)
     unfolding C.folded
-    folded_k line x (Is v) c h r = entry_k _ (const_e x h v c r)
-    folded_k line x Overflow c h r = error_k (one_name x h.named)
-    folded_k line x NotConstant c h r = error_k (one_name x h.named)
+    folded_k line x (Ok v) c h r = entry_k _ (const_e x h v c r)
+    folded_k line x (Err Overflow) c h r = error_k (one_name x h.named)
+    folded_k line x (Err NotConstant) c h r = error_k (one_name x h.named)
 
     const_k : (line x : ℕ) (e : Seen) → length ns ≡ n → Named ns x → Folds n e.folds_to → Keeps ns n G (C.const G line x e)
     unfolding C.const
@@ -547,7 +545,7 @@ module _ (ns : List ℕ) (n : ℕ) (rows : List Row) (g : GoodRows ns n rows) (N
   image_lent = good_lent ns n g (holds_image N rows g.table fit)
 
   -- the test of a lent table says so
-  pub image_checked : checked ns (image width N rows) ≡ Rows (length rows)
+  pub image_checked : checked ns (image width N rows) ≡ Some (length rows)
   image_checked = checked_complete ns rows (length rows) (image width N rows) image_lent
 
   -- and gives these rows

@@ -9,7 +9,7 @@ use Rattle.words.specs.Each.{Each}
 use Rattle.expr.specs.Expr.{Expr, Named}
 use Rattle.expr.specs.Stands.{Wrote}
 use Rattle.expr.proofs.Parts.{wrote_first, wrote_left, wrote_right}
-use Rattle.tree.specs.Sorts.{Sorts, nil, ◌&◌, opt, body, named, name, many, TypeRef as TypeSort, Declarator as DeclaratorRow, Param as ParamRow, ScopeItem as ScopeRow, FieldDecl as FieldRow, Kind, sorts, label, label_name, dim, shared, static, redim, sub, function, const, option_base, type_def}
+use Rattle.tree.specs.Sorts.{Sorts, nil, ◌&◌, opt, body, name, many, TypeRef as TypeSort, Declarator as DeclaratorRow, Param as ParamRow, ScopeItem as ScopeRow, FieldDecl as FieldRow, Kind, sorts, label, label_name, dim, shared, static, redim, sub, function, const, option_base, type_def}
 use Rattle.tree.specs.KindLaws.{by_kind}
 use Rattle.tree.specs.Tree.{strings, Shape, one, row, rows, Tree, word, value, Stmt, list, part, this, that, done, cons, none, more, ok_l, words_t, Right, over}
 use Rattle.tree.specs.Stands.{Stands}
@@ -18,7 +18,6 @@ use Rattle.views.specs.KindLaws.{view_kinds, view_other}
 use Rattle.subscripts.specs.Subscripts.{indexed, subscript_count}
 use Rattle.table.specs.Rows.{Row}
 use Rattle.fold.proofs.FoldLaws.{RowFold}
-use Rattle.fold.specs.declared.Fold.{Fold}
 use Rattle.lent.specs.Rules.{is_marked, type_ok, scope_ok}
 use Rattle.lent.specs.Valid.{type_or_none}
 use Rattle.consteval.specs.ConstEval.{const_eval}
@@ -26,6 +25,7 @@ use Rattle.consteval.specs.Evaluates.{Consts}
 use Rattle.consteval.specs.EvalLaws.{Words32, const_row_lem}
 use Rattle.collect.specs.Seen.{Seen, see}
 use Rattle.lawful.specs.Uses.{Small, length_rows, optional_small, subscripts_small}
+use Rattle.fold.specs.Value.{Fold}
 
 -- ---- definitions
 

@@ -10,7 +10,7 @@ use native.Mathlib.Nat.{not-suc-le-zero}
 use lib.Dec.{leb, ltb, eqb}
 use lib.ListN.{length, take, drop, get_or, get_or-append, length-drop}
 use lib.Seq.{get_or_at, get_or-take, get_or-drop, length-take-le}
-use borrow.Author.Tests.{eqb-true, ltb-true}
+use borrow.Author.Tests.{eqb-true, ltb-true, le-leb, lt-leb}
 use Rattle.words.specs.Word.{pick}
 use Rattle.words.specs.Told.{Told, stops, gives, after, unless}
 use Rattle.words.specs.Refusals.{refused}
@@ -18,19 +18,23 @@ use Rattle.words.specs.declared.Refusal.TheVariants.{Rows as NoRows, Lookup}
 use Rattle.strings.specs.Name.{is_name as spells_name}
 use Rattle.strings.specs.Table.{start_of, string_at, sound, marks_below, names_of}
 use Rattle.strings.specs.Open.{entry_of, Answers}
-use Rattle.strings.proofs.Laws.{marks_length, marks_all, names_length, sound_at, ends_in, name_empty}
-use Rattle.table.specs.Rows.{rows_of}
+use Rattle.words.specs.Sizes.{max_strings, max_bytes}
+use Rattle.strings.proofs.Laws.{and_true, and_false, marks_length, marks_all, names_length, sound_at, ends_in, name_empty}
+use Rattle.table.specs.Rows.{Row, rows_of}
 use Rattle.table.specs.Laws.{order, pick_false}
+use Rattle.table.specs.declared.rows.Rows.{Rows}
 use Rattle.lent.specs.Rules.{is_marked, scope_ok, type_ok}
 use Rattle.lent.specs.RuleLaws.{name_below, scope_below}
 use Rattle.lent.specs.Lent.{checked, lent_rows}
-use Rattle.lent.specs.declared.Checked.TheVariants.{Bad, Rows}
-use Rattle.leaves.specs.Leaves.{admits, ruled, last_byte}
-use Rattle.leaves.specs.Entries.{Small, Judged, Ready}
-use Rattle.leaves.specs.declared.Opened.{Opened}
-use Rattle.leaves.specs.declared.Opened.TheVariants.{Shut, Table}
+use Rattle.leaves.specs.Leaves.{sized, admits, ruled, asked, last_byte}
+use Rattle.leaves.specs.Entries.{tell, Small, Judged, Ready}
 use Rattle.leaves.specs.declared.Question.{Question}
 use Rattle.leaves.specs.declared.Question.TheVariants.{InProc, InScope, OfType}
+use Rattle.std.specs.Prelude.{Option, None, Some, Result, Err, Ok}
+use Rattle.std.specs.Option.{ok_or}
+use Rattle.std.specs.Result.{IsErrAnd}
+use Rattle.std.proofs.lemmas.Result.{err_from_is_err_and}
+use Rattle.words.specs.declared.Refusal.{Refusal}
 
 -- ---- what an entry tells
 
@@ -56,15 +60,46 @@ answers_after {A} {B} {s} {bytes} {ends} {t} {u} {r} k a e = record { at = a.at;
     go true false = refl
     go false t = refl
 
+-- a call that `open` refuses is refused
+pub entry_stopped : {A B : Type 0} (f : A → B) {s : Bool} {bytes ends : List ℕ} (rows : List ℕ) (q : Question) (h : List Row → B) (r : Refusal) (x : Result A Refusal)
+    → Answers s bytes ends (refused r) (ruled (names_of bytes ends) rows q) → IsErrAnd x (λ y. y ≡ r) → Answers s bytes ends (tell f x) (asked bytes ends rows q h)
+unfolding asked after refused
+entry_stopped f rows q h r x T e = let p = err_from_is_err_and x e in rw (p.1, p.2) (answers_after (λ rs. gives (h rs)) T refl)
+
+-- what `lookup` gives for the rows is what is asked of them
+pub entry_given : {B : Type 0} {s : Bool} {bytes ends : List ℕ} (rows : List ℕ) (q : Question) (h : List Row → B) {rs : List Row} {b : B} → Answers s bytes ends (gives rs) (ruled (names_of bytes ends) rows q)
+    → b ≡ h rs → Answers s bytes ends (gives b) (asked bytes ends rows q h)
+unfolding asked after
+entry_given rows q h T e = answers_after (λ rs. gives (h rs)) T (ap gives e)
+
+-- ---- sizes
+
+-- one that is passed is enough
+pub sized_no : (bytes ends : List ℕ) → (max_strings < length ends) ⊎ ((length ends ≤ max_strings) × (max_bytes < length bytes)) → sized bytes ends ≡ false
+unfolding sized
+sized_no bytes ends (inl h) = and_false _ _ (lt-leb _ _ h)
+sized_no bytes ends (inr h) = and_true _ _ (le-leb _ _ h.0) ∙ lt-leb _ _ h.1
+
+-- none is
+pub sized_yes : (bytes ends : List ℕ) → length ends ≤ max_strings → length bytes ≤ max_bytes → sized bytes ends ≡ true
+unfolding sized
+sized_yes bytes ends h k = and_true _ _ (le-leb _ _ h) ∙ le-leb _ _ k
+
 -- ---- 6 and 11
 
 module _ (names rows : List ℕ) (q : Question) where
   -- rows that are no lent table: 6
-  pub ruled_bad : checked names rows ≡ Bad → ruled names rows q ≡ refused NoRows
+  pub ruled_bad : checked names rows ≡ None → ruled names rows q ≡ refused NoRows
   unfolding ruled lent_rows after refused
   ruled_bad e = rw e
 
-  module _ (n : ℕ) (e : checked names rows ≡ Rows n) where
+  pub ruled_none : {f : Refusal} {o : Option ℕ} → o ≡ checked names rows → o ≡ None → ◌≡◌ {A = Result ℕ Refusal} (Err f) (ok_or o NoRows) → refused f ≡ ruled names rows q
+  ruled_none {f} e n v =
+      let w : ◌≡◌ {A = Result ℕ Refusal} (Err f) (Err NoRows) = rw n at v in
+      let g : f ≡ NoRows = cc in
+      ap refused g ∙ sym (ruled_bad (sym e ∙ n))
+
+  module _ (n : ℕ) (e : checked names rows ≡ Some n) where
     -- a question that isn't right: 11
     pub ruled_no : admits names q ≡ false → ruled names rows q ≡ refused Lookup
     unfolding ruled lent_rows after refused unless
@@ -174,7 +209,7 @@ module _ (bytes ends : List ℕ) (x : ℕ) (s : sound bytes ends ≡ true) (e : 
       ∙ ap (λ (l : ℕ). get_or (take (z - a) (drop a bytes)) (l - 1) 0) (sym string_length)
 
 -- what passed is known
-pub ready_judged : (bytes ends rows : List ℕ) (q : Question) (o : Opened) → sound bytes ends ≡ true → length ends ≤ 1024 → Judged (names_of bytes ends) rows q o → Ready bytes ends rows q o
-ready_judged bytes ends rows q (Shut f) s l j = tt
-ready_judged bytes ends rows q (Table n) s l j =
+pub ready_judged : (bytes ends : List ℕ) (q : Question) (o : Result Rows Refusal) → sound bytes ends ≡ true → length ends ≤ 1024 → Judged (names_of bytes ends) q o → Ready bytes ends q o
+ready_judged bytes ends q (Err f) s l j = tt
+ready_judged bytes ends q (Ok held) s l j =
     record { passing = j; right = s; small = small_admitted (names_of bytes ends) q (omega (arith, names_length bytes ends)) j.admitted }

@@ -1,5 +1,5 @@
 -- Worked examples of the entries behind the checks of sizes and strings: 6 before 11, what 11 tests, and an answer. Strings: A, B%, and one that is no name.
-use Rattle.std.specs.Prelude.{◌≡◌, refl, true, List, [], ◌∷◌, ◌++◌, ℕ, ◌-◌}
+use Rattle.std.specs.Prelude.{◌≡◌, refl, true, List, [], ◌∷◌, ◌++◌, ℕ, ◌-◌, None}
 use Rattle.std.proofs.Math.Option.{none, some}
 use Rattle.words.specs.Told.{stops, gives, after, unless}
 use Rattle.words.specs.Refusals.{refused}
@@ -12,7 +12,6 @@ use Rattle.lent.specs.Rules.{scope_ok, type_ok, const_ok, word_ok, words_ok, kin
 use Rattle.lent.specs.Lent.{all_zero, ended_at, scan, checked, lent_rows}
 use Rattle.lookup.specs.Lookup.{shares, visible, typed_var, lookup_array, from_suffix, class_of, declared_type}
 use Rattle.builtins.specs.Builtins.{takes, builtins, same, entry_of, builtin}
-use Rattle.builtins.specs.declared.Arguments.TheVariants.{Unknown}
 use Rattle.leaves.specs.Leaves.{admits, ruled, asked, last_byte, shares_at, type_words_at, lookup_array_at, declared_type_at, builtin_at}
 
 -- the bytes of the three strings
@@ -59,6 +58,6 @@ pub answered :
     × (lookup_array_at bytes ends rows 1 1 ≡ gives none)
     × (declared_type_at bytes ends rows 0 1 ≡ gives (some 0))
     × (declared_type_at bytes ends rows 0 0 ≡ gives (some 3))
-    × (builtin_at bytes ends 0 ≡ gives Unknown)
+    × (builtin_at bytes ends 0 ≡ gives None)
 unfolding bytes ends rows bad ascii names_of marks_below string_at start_of is_name between inner suffix rest lookup_array_at declared_type_at builtin_at asked ruled admits after unless lent_rows checked scan ended_at all_zero key row_ok kind_ok words_ok word_ok const_ok type_ok scope_ok rows_of find lookup_array visible shares declared_type last_byte class_of from_suffix typed_var builtin entry_of builtins takes same
 answered = (refl, refl, refl, refl, refl)

@@ -1,5 +1,5 @@
 -- The leaves as entries over a lent string table and lent rows: number 5, 1, 6, 11, and then what `lookup` gives. These are definitions.
-use Rattle.std.specs.Prelude.{Bool, ◌&&◌, ℕ, ◌-◌, leb, length, get_or}
+use Rattle.std.specs.Prelude.{Bool, ◌&&◌, ℕ, ◌-◌, leb, length, get_or, Option as RustOption}
 use mathlib.Core.List.{List}
 use Rattle.std.proofs.Math.Option.{Option}
 use Rattle.words.specs.Sizes.{max_strings, max_bytes}
@@ -11,9 +11,9 @@ use Rattle.lent.specs.Lent.{lent_rows}
 use Rattle.lookup.specs.Lookup.{TypeRef, ArrayInfo, shares, is_static, type_words, typed_var, typed_var_in, lookup_array, declared_type}
 use Rattle.builtins.specs.Builtins.{builtin}
 use Rattle.builtins.specs.Answers.{arguments_of}
-use Rattle.builtins.specs.declared.Arguments.{Arguments}
 use Rattle.leaves.specs.declared.Question.{Question}
 use Rattle.leaves.specs.declared.Question.TheVariants.{InProc, InScope, OfType}
+use Rattle.builtins.specs.declared.Arguments.{Arguments}
 
 -- 5: at most 1,024 strings and 16,384 bytes
 unfoldable pub sized : (bytes ends : List ℕ) → Bool
@@ -76,5 +76,5 @@ unfolding asked last_byte
 declared_type_at bytes ends rows scope name = asked bytes ends rows (InScope scope name) (λ (rs : List Row). declared_type rs (last_byte (string_at bytes ends name)) scope name)
 
 -- `builtin` takes no rows
-unfoldable pub builtin_at : (bytes ends : List ℕ) (name : ℕ) → Told Arguments
+unfoldable pub builtin_at : (bytes ends : List ℕ) (name : ℕ) → Told (RustOption Arguments)
 builtin_at bytes ends name = unless (is_marked (names_of bytes ends) name) 11 0 (gives (arguments_of (builtin (string_at bytes ends name))))

@@ -1,4 +1,5 @@
-// The leaves of document 01 over a lent string table and lent rows. Each entry gives 5, 1, 6, 11 in this order, or what `lookup` gives.
+// The leaves of document 01 over a lent string table and lent rows. Each entry gives 5, 1, 6, 11 in this order, or what `lookup` gives. The seven differ in the question, in
+// what they answer and in the definition of it: one function of all would take these as closures, and its contract would be longer than theirs.
 #![tactic(auto)]
 
 ghost use Rattle.std.specs.Prelude.{◌≡◌, true};
@@ -12,12 +13,11 @@ ghost use Rattle.leaves.specs.Leaves.{sized as sized_of, admits as admits_of, ru
 ghost use Rattle.leaves.specs.Entries.{tell_rows, tell_flag, tell_count, tell_type, tell_array, tell_class, tell_taking, tell_gate, Passes, Judged, Ready};
 
 use builtins::Arguments;
-use lent::Checked;
-use lookup::{Array, Declared, Typed};
-use strings::Verdict;
+use lookup::{Array, Typed};
+use table::Rows;
 use words::Refusal;
 
-// What a lookup asks about.
+// What a lookup asks about. An enum and no closure: the definition of what is admitted goes by its variants.
 #[derive(Clone, Copy)]
 pub enum Question {
     InProc { proc: u32, name: u32 },
@@ -25,96 +25,55 @@ pub enum Question {
     OfType { head: u32, arg: u32 },
 }
 
-// Why there are no rows to ask, or how many there are.
-#[derive(Clone, Copy)]
-pub enum Opened {
-    Shut(Refusal),
-    Table(usize),
-}
-
 // Whether the question's numbers are names', a scope's, a type's.
+#[tactic(auto, unfolding(crate::specs::Leaves::admits))]
 fn admits(names: &[u8], q: Question) -> bool
     ensures { result ≡ admits_of names.now q }
 {
     match q {
         Question::InProc { proc, name } => {
-            if lent::is_name(names, proc) {
-                lent::is_name(names, name)
-            } else {
-                false
-            }
+            lent::is_name(names, proc) && lent::is_name(names, name)
         }
         Question::InScope { scope, name } => {
-            if lent::scope_ok(names, scope) {
-                lent::is_name(names, name)
-            } else {
-                false
-            }
+            lent::scope_ok(names, scope) && lent::is_name(names, name)
         }
         Question::OfType { head, arg } => lent::type_ok(names, head, arg),
     }
 }
 
 // Numbers 6 and 11.
-fn ruled(rows: &[u32], names: &[u8], q: Question) -> Opened
-    ensures told { tell_rows rows.now result ≡ ruled_of names.now rows.now q }
-    ensures judged { Judged names.now rows.now q result }
+fn ruled<'a>(rows: &'a [u32], names: &[u8], q: Question) -> Result<Rows<'a>, Refusal>
+    ensures told { tell_rows result ≡ ruled_of names.now rows.now q }
+    ensures judged { Judged names.now q result }
 {
-    match lent::check_rows(rows, names) {
-        Checked::Bad => Opened::Shut(Refusal::Rows),
-        Checked::Rows(n) => {
-            if admits(names, q) {
-                Opened::Table(n)
-            } else {
-                Opened::Shut(Refusal::Lookup)
-            }
-        }
+    let count = lent::check_rows(rows, names).ok_or(Refusal::Rows)?;
+    if admits(names, q) {
+        Ok(Rows { words: rows, count })
+    } else {
+        Err(Refusal::Lookup)
     }
 }
 
-// Whether the sizes and the string table pass.
-#[derive(Clone, Copy)]
-pub enum Gate {
-    Closed(Refusal),
-    Passed,
-}
-
-// Numbers 5 and 1.
-pub fn passes(bytes: &[u8], ends: &[u32]) -> Gate
+// Numbers 5 and 1. `reader::marks` begins in the same way, but that crate is not below this one: here is no tree to read.
+pub fn passes(bytes: &[u8], ends: &[u32]) -> Result<(), Refusal>
     ensures told { Answers (sized_of bytes.now ends.now) bytes.now ends.now (tell_gate result) (gives tt) }
     ensures passed { Passes bytes.now ends.now result }
 {
-    if words::MAX_STRINGS < ends.len() {
-        return Gate::Closed(Refusal::Size);
+    if words::MAX_STRINGS < ends.len() || words::MAX_BYTES < bytes.len() {
+        return Err(Refusal::Size);
     }
-    if words::MAX_BYTES < bytes.len() {
-        return Gate::Closed(Refusal::Size);
-    }
-    match strings::check(bytes, ends) {
-        Verdict::Breaks(p) => Gate::Closed(Refusal::Strings(p)),
-        Verdict::Sound => Gate::Passed,
-    }
+    strings::check(bytes, ends)?;
+    Ok(())
 }
 
 // All checks: 5, 1, 6, 11.
-fn open(bytes: &[u8], ends: &[u32], rows: &[u32], q: Question) -> Opened
-    ensures told { Answers (sized_of bytes.now ends.now) bytes.now ends.now (tell_rows rows.now result) (ruled_of (names_of bytes.now ends.now) rows.now q) }
-    ensures ready { Ready bytes.now ends.now rows.now q result }
+fn open<'a>(bytes: &[u8], ends: &[u32], rows: &'a [u32], q: Question) -> Result<Rows<'a>, Refusal>
+    ensures told { Answers (sized_of bytes.now ends.now) bytes.now ends.now (tell_rows result) (ruled_of (names_of bytes.now ends.now) rows.now q) }
+    ensures ready { Ready bytes.now ends.now q result }
 {
-    match passes(bytes, ends) {
-        Gate::Closed(f) => Opened::Shut(f),
-        Gate::Passed => {
-            let names = strings::names_of(bytes, ends);
-            let n = ends.len();
-            ruled(rows, &names[..n], q)
-        }
-    }
-}
-
-#[derive(Clone, Copy)]
-pub enum Flagged {
-    NoFlag(Refusal),
-    Flag(bool),
+    passes(bytes, ends)?;
+    let names = strings::names_of(bytes, ends);
+    ruled(rows, &names[..ends.len()], q)
 }
 
 // Whether the procedure uses the module's name, an array or a variable.
@@ -125,13 +84,11 @@ pub fn shares(
     proc: u32,
     name: u32,
     array: bool,
-) -> Flagged
+) -> Result<bool, Refusal>
     ensures { Answers (sized_of bytes.now ends.now) bytes.now ends.now (tell_flag result) (shares_at bytes.now ends.now rows.now proc name array) }
 {
-    match open(bytes, ends, rows, Question::InProc { proc, name }) {
-        Opened::Shut(f) => Flagged::NoFlag(f),
-        Opened::Table(n) => Flagged::Flag(lookup::shares(rows, n, proc, name, array)),
-    }
+    let held = open(bytes, ends, rows, Question::InProc { proc, name })?;
+    Ok(lookup::shares(&held, proc, name, array))
 }
 
 // Whether the procedure's own name keeps its value between calls.
@@ -142,71 +99,67 @@ pub fn is_static(
     proc: u32,
     name: u32,
     array: bool,
-) -> Flagged
+) -> Result<bool, Refusal>
     ensures { Answers (sized_of bytes.now ends.now) bytes.now ends.now (tell_flag result) (is_static_at bytes.now ends.now rows.now proc name array) }
 {
-    match open(bytes, ends, rows, Question::InProc { proc, name }) {
-        Opened::Shut(f) => Flagged::NoFlag(f),
-        Opened::Table(n) => Flagged::Flag(lookup::is_static(rows, n, proc, name, array)),
-    }
-}
-
-#[derive(Clone, Copy)]
-pub enum Counted {
-    NoCount(Refusal),
-    Count(u32),
+    let held = open(bytes, ends, rows, Question::InProc { proc, name })?;
+    Ok(lookup::is_static(&held, proc, name, array))
 }
 
 // The size of a type in words.
-pub fn type_words(bytes: &[u8], ends: &[u32], rows: &[u32], head: u32, arg: u32) -> Counted
+pub fn type_words(
+    bytes: &[u8],
+    ends: &[u32],
+    rows: &[u32],
+    head: u32,
+    arg: u32,
+) -> Result<u32, Refusal>
     ensures { Answers (sized_of bytes.now ends.now) bytes.now ends.now (tell_count result) (type_words_at bytes.now ends.now rows.now head arg) }
 {
-    match open(bytes, ends, rows, Question::OfType { head, arg }) {
-        Opened::Shut(f) => Counted::NoCount(f),
-        Opened::Table(n) => Counted::Count(lookup::type_words(rows, n, head, arg)),
-    }
-}
-
-#[derive(Clone, Copy)]
-pub enum TypedAs {
-    NoType(Refusal),
-    Var(Typed),
+    let held = open(bytes, ends, rows, Question::OfType { head, arg })?;
+    Ok(lookup::type_words(&held, head, arg))
 }
 
 // A variable's declared type from a scope.
-pub fn typed_var(bytes: &[u8], ends: &[u32], rows: &[u32], scope: u32, name: u32) -> TypedAs
+pub fn typed_var(
+    bytes: &[u8],
+    ends: &[u32],
+    rows: &[u32],
+    scope: u32,
+    name: u32,
+) -> Result<Option<Typed>, Refusal>
     ensures { Answers (sized_of bytes.now ends.now) bytes.now ends.now (tell_type result) (typed_var_at bytes.now ends.now rows.now scope name) }
 {
-    match open(bytes, ends, rows, Question::InScope { scope, name }) {
-        Opened::Shut(f) => TypedAs::NoType(f),
-        Opened::Table(n) => TypedAs::Var(lookup::typed_var(rows, n, scope, name)),
-    }
+    let held = open(bytes, ends, rows, Question::InScope { scope, name })?;
+    Ok(lookup::typed_var(&held, scope, name))
 }
 
 // A variable's declared type in exactly a scope.
-pub fn typed_var_in(bytes: &[u8], ends: &[u32], rows: &[u32], scope: u32, name: u32) -> TypedAs
+pub fn typed_var_in(
+    bytes: &[u8],
+    ends: &[u32],
+    rows: &[u32],
+    scope: u32,
+    name: u32,
+) -> Result<Option<Typed>, Refusal>
     ensures { Answers (sized_of bytes.now ends.now) bytes.now ends.now (tell_type result) (typed_var_in_at bytes.now ends.now rows.now scope name) }
 {
-    match open(bytes, ends, rows, Question::InScope { scope, name }) {
-        Opened::Shut(f) => TypedAs::NoType(f),
-        Opened::Table(n) => TypedAs::Var(lookup::typed_var_in(rows, n, scope, name)),
-    }
-}
-
-#[derive(Clone, Copy)]
-pub enum Arrayed {
-    NoLook(Refusal),
-    Look(Array),
+    let held = open(bytes, ends, rows, Question::InScope { scope, name })?;
+    Ok(lookup::typed_var_in(&held, scope, name))
 }
 
 // The array that a name is from a scope.
-pub fn lookup_array(bytes: &[u8], ends: &[u32], rows: &[u32], scope: u32, name: u32) -> Arrayed
+pub fn lookup_array(
+    bytes: &[u8],
+    ends: &[u32],
+    rows: &[u32],
+    scope: u32,
+    name: u32,
+) -> Result<Option<Array>, Refusal>
     ensures { Answers (sized_of bytes.now ends.now) bytes.now ends.now (tell_array result) (lookup_array_at bytes.now ends.now rows.now scope name) }
 {
-    match open(bytes, ends, rows, Question::InScope { scope, name }) {
-        Opened::Shut(f) => Arrayed::NoLook(f),
-        Opened::Table(n) => Arrayed::Look(lookup::lookup_array(rows, n, scope, name)),
-    }
+    let held = open(bytes, ends, rows, Question::InScope { scope, name })?;
+    Ok(lookup::lookup_array(&held, scope, name))
 }
 
 // The last byte of a name.
@@ -219,51 +172,36 @@ pub fn last_byte(bytes: &[u8], ends: &[u32], name: u32) -> u8
     bytes[e - 1]
 }
 
-#[derive(Clone, Copy)]
-pub enum Classed {
-    NoClass(Refusal),
-    Held(Declared),
-}
-
 // The type that a variable or an array's elements hold.
-pub fn declared_type(bytes: &[u8], ends: &[u32], rows: &[u32], scope: u32, name: u32) -> Classed
+pub fn declared_type(
+    bytes: &[u8],
+    ends: &[u32],
+    rows: &[u32],
+    scope: u32,
+    name: u32,
+) -> Result<Option<u32>, Refusal>
     ensures { Answers (sized_of bytes.now ends.now) bytes.now ends.now (tell_class result) (declared_type_at bytes.now ends.now rows.now scope name) }
 {
-    match open(bytes, ends, rows, Question::InScope { scope, name }) {
-        Opened::Shut(f) => Classed::NoClass(f),
-        Opened::Table(n) => {
-            let last = last_byte(bytes, ends, name);
-            Classed::Held(lookup::declared_type(rows, n, last, scope, name))
-        }
-    }
-}
-
-#[derive(Clone, Copy)]
-pub enum Taking {
-    NoName(Refusal),
-    Entry(Arguments),
+    let held = open(bytes, ends, rows, Question::InScope { scope, name })?;
+    let last = last_byte(bytes, ends, name);
+    Ok(lookup::declared_type(&held, last, scope, name))
 }
 
 // The builtin function of a name.
-pub fn builtin(bytes: &[u8], ends: &[u32], name: u32) -> Taking
+pub fn builtin(bytes: &[u8], ends: &[u32], name: u32) -> Result<Option<Arguments>, Refusal>
     ensures { Answers (sized_of bytes.now ends.now) bytes.now ends.now (tell_taking result) (builtin_at bytes.now ends.now name) }
 {
-    match passes(bytes, ends) {
-        Gate::Closed(f) => Taking::NoName(f),
-        Gate::Passed => {
-            let names = strings::names_of(bytes, ends);
-            let n = ends.len();
-            if lent::is_name(&names[..n], name) {
-                Taking::Entry(spelled(bytes, ends, name))
-            } else {
-                Taking::NoName(Refusal::Lookup)
-            }
-        }
+    passes(bytes, ends)?;
+    let names = strings::names_of(bytes, ends);
+    if lent::is_name(&names[..ends.len()], name) {
+        Ok(spelled(bytes, ends, name))
+    } else {
+        Err(Refusal::Lookup)
     }
 }
 
 // The same of a number that is a name's.
-pub fn spelled(bytes: &[u8], ends: &[u32], name: u32) -> Arguments
+pub fn spelled(bytes: &[u8], ends: &[u32], name: u32) -> Option<Arguments>
     requires { (sound bytes.now ends.now ≡ true) × (is_marked (names_of bytes.now ends.now) name ≡ true) }
     ensures { result ≡ arguments_of (builtin_of (string_at bytes.now ends.now name)) }
 {

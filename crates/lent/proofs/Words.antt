@@ -1,4 +1,4 @@
--- The words of a row, tested in turn. Assumes nothing.
+-- The words of a row, tested in turn, and zeros. Assumes nothing.
 use mathlib.Core.Path.{◌≡◌, sym, ap, ◌∙◌}
 use mathlib.Core.Bool.{Bool, true, false}
 use mathlib.Core.List.{List, []}
@@ -7,10 +7,13 @@ use native.Mathlib.Omega.{arith}
 use native.Mathlib.Numerals.{add-one}
 use lib.ListN.{length, drop, get_or, drop_of_length-le}
 use lib.Seq.{drop-cons, drop-drop, get_or-drop}
+use Rattle.std.specs.Prelude.{eqb, refl, ◌∷◌, ◌&&◌}
+use Rattle.std.specs.List.{list_all}
 use Rattle.words.specs.Word.{pay_of, pick}
 use Rattle.table.specs.Laws.{pick_true, pick_false}
 use Rattle.table.specs.Rows.{Row}
 use Rattle.lent.specs.Rules.{rules, word_ok, words_ok, kind_ok}
+use Rattle.lent.specs.Lent.{all_zero}
 
 module _ (names rs ws : List ℕ) (j : ℕ) where
   -- word j under its rule
@@ -56,3 +59,13 @@ unfolding kind_ok words_ok
 first_word names k r =
     ap (λ (x : ℕ). pick (word_ok names (get_or (get_or rules k []) 0 0) (pay_of (get_or r 0 0)) x (get_or (drop 1 r) 1 0)) (words_ok names (drop 1 (get_or rules k [])) (drop 1 r)) false) (get_or-drop 1 r 0 0)
     ∙ ap (λ (x : ℕ). pick (word_ok names (get_or (get_or rules k []) 0 0) (pay_of (get_or r 0 0)) (get_or r 1 0) x) (words_ok names (drop 1 (get_or rules k [])) (drop 1 r)) false) (get_or-drop 1 r 1 0)
+
+-- each word is zero
+pub all_zero_is : (words : List ℕ) → all_zero words ≡ list_all (λ x. eqb x 0) words
+unfolding all_zero
+all_zero_is [] = refl
+all_zero_is (x ∷ xs) = go (eqb x 0) (all_zero_is xs)
+  where
+    go : (t : Bool) → all_zero xs ≡ list_all (λ y. eqb y 0) xs → pick t (all_zero xs) false ≡ (t && list_all (λ y. eqb y 0) xs)
+    go true e = e
+    go false e = refl

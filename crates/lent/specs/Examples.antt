@@ -1,13 +1,12 @@
 -- The rule of a lent table at its bounds, by computation: what document 01 names just inside and just outside. Three strings, of which the first and the
 -- last are names.
-use Rattle.std.specs.Prelude.{◌≡◌, refl, Bool, true, false, not, List, [], ◌∷◌, ◌++◌, ℕ, ◌+◌, ◌*◌}
+use Rattle.std.specs.Prelude.{◌≡◌, refl, Bool, true, false, not, List, [], ◌∷◌, ◌++◌, ℕ, ◌+◌, ◌*◌, None, Some}
 use Rattle.words.specs.Word.{pick, flatten}
 use Rattle.table.specs.Rows.{Row, width, key, zeros}
 use Rattle.entries.specs.Entries.{row, line_row, label_row, type_row, field_row, const_row, array_row, typed_var_row, proc_row, param_row, dim_shared_row, shared_row, static_row, static_proc_row, def_fn_row, unranked_row, option_base_row}
 use Rattle.fold.specs.Value.{const_rule}
 use Rattle.lent.specs.Rules.{scope_ok, type_ok, const_ok, word_ok, words_ok, kind_ok, row_ok}
 use Rattle.lent.specs.Lent.{all_zero, ended_at, scan, checked}
-use Rattle.lent.specs.declared.Checked.TheVariants.{Bad, Rows}
 
 -- the marks of the three strings
 pub names : List ℕ
@@ -107,12 +106,12 @@ gaps = field_row 0 7 2 0 45 2 ∷ param_row 2 3 0 false false 0 0 ∷ []
 
 -- zeros behind the rows, also too few for one more; a key twice; a row behind a zero row; a tail that is not zero
 pub tables :
-    (checked names (flatten gaps ++ zeros (width + 2)) ≡ Rows 2)
-    × (checked names (zeros (2 * width)) ≡ Rows 0)
-    × (checked names [] ≡ Rows 0)
-    × (checked names (flatten (label_row 2 0 ∷ label_row 2 1 ∷ [])) ≡ Bad)
-    × (checked names (flatten (label_row 2 0 ∷ label_row 0 0 ∷ [])) ≡ Bad)
-    × (checked names (zeros width ++ label_row 2 0) ≡ Bad)
-    × (checked names (label_row 2 0 ++ (0 ∷ 1 ∷ [])) ≡ Bad)
+    (checked names (flatten gaps ++ zeros (width + 2)) ≡ Some 2)
+    × (checked names (zeros (2 * width)) ≡ Some 0)
+    × (checked names [] ≡ Some 0)
+    × (checked names (flatten (label_row 2 0 ∷ label_row 2 1 ∷ [])) ≡ None)
+    × (checked names (flatten (label_row 2 0 ∷ label_row 0 0 ∷ [])) ≡ None)
+    × (checked names (zeros width ++ label_row 2 0) ≡ None)
+    × (checked names (label_row 2 0 ++ (0 ∷ 1 ∷ [])) ≡ None)
 unfolding names gaps checked scan ended_at all_zero flatten key row_ok kind_ok words_ok word_ok const_ok const_rule type_ok scope_ok
 tables = (refl, refl, refl, refl, refl, refl, refl)

@@ -1,6 +1,6 @@
 -- A lent table: rows that are right by themselves, strictly rising, and zeros after them. `Lent` says what it is; `checked` decides it row by row, and
 -- `LentLaws` shows that it says yes to exactly the lent tables. These are definitions.
-use Rattle.std.specs.Prelude.{◌≡◌, Bool, true, false, List, [], ◌∷◌, ℕ, zero, suc, ◌/◌, leb, eqb, length, take, drop, get_or}
+use Rattle.std.specs.Prelude.{◌≡◌, Bool, true, false, List, [], ◌∷◌, ℕ, zero, suc, ◌/◌, leb, eqb, length, take, drop, get_or, Option, None, Some}
 use Rattle.words.specs.Word.{pick}
 use Rattle.words.specs.Told.{Told, gives}
 use Rattle.words.specs.Refusals.{refused}
@@ -8,8 +8,6 @@ use Rattle.words.specs.declared.Refusal.TheVariants.{Rows as RowsRefused}
 use Rattle.words.specs.Each.{Each}
 use Rattle.table.specs.Rows.{width, Row, key, rows_of, Holds}
 use Rattle.lent.specs.Rules.{row_ok}
-use Rattle.lent.specs.declared.Checked.{Checked}
-use Rattle.lent.specs.declared.Checked.TheVariants.{Bad, Rows}
 
 -- each row is right by itself
 abbrev pub AllOk : (names : List ℕ) → List Row → Type 0
@@ -26,25 +24,25 @@ all_zero [] = true
 all_zero (x ∷ xs) = pick (eqb x 0) (all_zero xs) false
 
 -- n rows, if what is left is zeros
-unfoldable pub ended_at : ℕ → List ℕ → Checked
-ended_at n rest = pick (all_zero rest) (Rows n) Bad
+unfoldable pub ended_at : ℕ → List ℕ → Option ℕ
+ended_at n rest = pick (all_zero rest) (Some n) None
 
 -- after n rows that are right and rise, with room for f more: the next key is to be at least lo
-unfoldable pub scan : (names : List ℕ) (f lo n : ℕ) → List ℕ → Checked
+unfoldable pub scan : (names : List ℕ) (f lo n : ℕ) → List ℕ → Option ℕ
 scan names zero lo n b = ended_at n b
 scan names (suc f) lo n b =
     pick (eqb (get_or b 0 0) 0) (ended_at n b) (
     pick (row_ok names (take width b)) (
-    pick (leb lo (key (take width b))) (scan names f (suc (key (take width b))) (suc n) (drop width b)) Bad) Bad)
+    pick (leb lo (key (take width b))) (scan names f (suc (key (take width b))) (suc n) (drop width b)) None) None)
 
 -- the whole buffer
-unfoldable pub checked : (names : List ℕ) → List ℕ → Checked
+unfoldable pub checked : (names : List ℕ) → List ℕ → Option ℕ
 checked names b = scan names (length b / width) 1 0 b
 
 -- the rows of a lent table
-abbrev pub told : List ℕ → Checked → Told (List Row)
-told b Bad = refused RowsRefused
-told b (Rows n) = gives (rows_of n b)
+abbrev pub told : List ℕ → Option ℕ → Told (List Row)
+told b None = refused RowsRefused
+told b (Some n) = gives (rows_of n b)
 
 -- number 6, or the rows
 unfoldable pub lent_rows : (names : List ℕ) → List ℕ → Told (List Row)

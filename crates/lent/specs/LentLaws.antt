@@ -2,7 +2,7 @@
 -- the rows that have room. Assumes nothing.
 use Rattle.std.proofs.Math.Path.{◌≡◌, refl, sym, ap}
 use Rattle.std.proofs.Common.{◌∙◌, inl, inr, add-one, take-append-drop, drop_of_length-le, drop-cons, drop-drop, get_or-drop, get_or-take, take_at, drop_at, length-take-le}
-use Rattle.std.specs.Prelude.{Bool, ◌⊎◌, drop}
+use Rattle.std.specs.Prelude.{Bool, ◌⊎◌, drop, Option, None, Some}
 use Rattle.std.proofs.Math.Bool.{true, false}
 use mathlib.Core.List.{List, [], ◌∷◌, ◌++◌, append_assoc}
 use Prim.Native.Nat.{ℕ, zero, suc, ◌+◌, ◌-◌, ◌*◌, ◌/◌, ◌≤◌, ◌<◌, zero-le}
@@ -19,8 +19,6 @@ use Rattle.table.specs.Images.{table_wide, holds_fits, image_none}
 use Rattle.runs.specs.Places.{rows_filled}
 use Rattle.lent.specs.Rules.{kind_ok, row_ok}
 use Rattle.lent.specs.Lent.{all_zero, AllOk, ended_at, scan, checked, told, lent_rows, Lent}
-use Rattle.lent.specs.declared.Checked.{Checked}
-use Rattle.lent.specs.declared.Checked.TheVariants.{Bad, Rows}
 
 -- ---- zeros
 
@@ -121,7 +119,7 @@ module _ (lo : ℕ) (r : Row) (rs : List Row) (b : List ℕ) (t : Table lo (r �
   pub rest_image : drop width b ≡ image width (length (drop width b)) rs
   rest_image = rest_is ∙ ap (λ (j : ℕ). image width j rs) (sym (length-drop width b))
 
-bad_not : {A : Type 0} (m : ℕ) (s : Checked) → s ≡ Bad → s ≡ Rows m → A
+bad_not : {A : Type 0} (m : ℕ) (s : Option ℕ) → s ≡ None → s ≡ Some m → A
 bad_not m s e f =
     let z : ◌≡◌ {A = ℕ} 0 1 = cc in
     absurd (omega arith)
@@ -133,29 +131,29 @@ module _ (names : List ℕ) where
   pub scan_ended : (f lo n : ℕ) (b : List ℕ) → get_or b 0 0 ≡ 0 → scan names f lo n b ≡ ended_at n b
   unfolding scan
   scan_ended zero lo n b e = refl
-  scan_ended (suc f) lo n b e = pick_true (ended_at n b) (pick (row_ok names (take width b)) (pick (leb lo (key (take width b))) (scan names f (suc (key (take width b))) (suc n) (drop width b)) Bad) Bad) (eq-eqb (get_or b 0 0) 0 e)
+  scan_ended (suc f) lo n b e = pick_true (ended_at n b) (pick (row_ok names (take width b)) (pick (leb lo (key (take width b))) (scan names f (suc (key (take width b))) (suc n) (drop width b)) None) None) (eq-eqb (get_or b 0 0) 0 e)
 
   module _ (f lo n : ℕ) (b : List ℕ) (e : get_or b 0 0 ≡ 0 → ⊥) where
-    scan_there : scan names (suc f) lo n b ≡ pick (row_ok names (take width b)) (pick (leb lo (key (take width b))) (scan names f (suc (key (take width b))) (suc n) (drop width b)) Bad) Bad
+    scan_there : scan names (suc f) lo n b ≡ pick (row_ok names (take width b)) (pick (leb lo (key (take width b))) (scan names f (suc (key (take width b))) (suc n) (drop width b)) None) None
     unfolding scan
     scan_there =
-        pick_false (ended_at n b) (pick (row_ok names (take width b)) (pick (leb lo (key (take width b))) (scan names f (suc (key (take width b))) (suc n) (drop width b)) Bad) Bad) (ne_eqb (get_or b 0 0) 0 e)
+        pick_false (ended_at n b) (pick (row_ok names (take width b)) (pick (leb lo (key (take width b))) (scan names f (suc (key (take width b))) (suc n) (drop width b)) None) None) (ne_eqb (get_or b 0 0) 0 e)
 
-    -- a row that isn't in order by itself: Bad
-    pub scan_bad_row : row_ok names (take width b) ≡ false → scan names (suc f) lo n b ≡ Bad
-    scan_bad_row o = scan_there ∙ pick_false (pick (leb lo (key (take width b))) (scan names f (suc (key (take width b))) (suc n) (drop width b)) Bad) Bad o
+    -- a row that isn't in order by itself: None
+    pub scan_bad_row : row_ok names (take width b) ≡ false → scan names (suc f) lo n b ≡ None
+    scan_bad_row o = scan_there ∙ pick_false (pick (leb lo (key (take width b))) (scan names f (suc (key (take width b))) (suc n) (drop width b)) None) None o
 
     module _ (o : row_ok names (take width b) ≡ true) where
-      scan_ok : scan names (suc f) lo n b ≡ pick (leb lo (key (take width b))) (scan names f (suc (key (take width b))) (suc n) (drop width b)) Bad
-      scan_ok = scan_there ∙ pick_true (pick (leb lo (key (take width b))) (scan names f (suc (key (take width b))) (suc n) (drop width b)) Bad) Bad o
+      scan_ok : scan names (suc f) lo n b ≡ pick (leb lo (key (take width b))) (scan names f (suc (key (take width b))) (suc n) (drop width b)) None
+      scan_ok = scan_there ∙ pick_true (pick (leb lo (key (take width b))) (scan names f (suc (key (take width b))) (suc n) (drop width b)) None) None o
 
-      -- a key below lo: Bad
-      pub scan_bad_key : key (take width b) < lo → scan names (suc f) lo n b ≡ Bad
-      scan_bad_key h = scan_ok ∙ pick_false (scan names f (suc (key (take width b))) (suc n) (drop width b)) Bad (lt-leb lo (key (take width b)) h)
+      -- a key below lo: None
+      pub scan_bad_key : key (take width b) < lo → scan names (suc f) lo n b ≡ None
+      scan_bad_key h = scan_ok ∙ pick_false (scan names f (suc (key (take width b))) (suc n) (drop width b)) None (lt-leb lo (key (take width b)) h)
 
       -- a row in order, with a key from lo on: the scan goes on after it
       pub scan_next : lo ≤ key (take width b) → scan names (suc f) lo n b ≡ scan names f (suc (key (take width b))) (suc n) (drop width b)
-      scan_next h = scan_ok ∙ pick_true (scan names f (suc (key (take width b))) (suc n) (drop width b)) Bad (le-leb lo (key (take width b)) h)
+      scan_next h = scan_ok ∙ pick_true (scan names f (suc (key (take width b))) (suc n) (drop width b)) None (le-leb lo (key (take width b)) h)
 
   -- ---- the same from within a buffer b, at row n of the cap that fit
 
@@ -178,12 +176,12 @@ module _ (names : List ℕ) where
       e' : get_or (drop (n * width) b) 0 0 ≡ 0 → ⊥
       e' z = e (sym (head_at b n) ∙ z)
 
-      -- row n isn't in order by itself: Bad
-      pub turn_bad_row : row_ok names (take width (drop (n * width) b)) ≡ false → scan names (cap - n) lo n (drop (n * width) b) ≡ Bad
+      -- row n isn't in order by itself: None
+      pub turn_bad_row : row_ok names (take width (drop (n * width) b)) ≡ false → scan names (cap - n) lo n (drop (n * width) b) ≡ None
       turn_bad_row o = rw fuel (scan_bad_row (cap - (n + 1)) lo n (drop (n * width) b) e' o)
 
-      -- its key is below lo: Bad
-      pub turn_bad_key : row_ok names (take width (drop (n * width) b)) ≡ true → key (take width (drop (n * width) b)) < lo → scan names (cap - n) lo n (drop (n * width) b) ≡ Bad
+      -- its key is below lo: None
+      pub turn_bad_key : row_ok names (take width (drop (n * width) b)) ≡ true → key (take width (drop (n * width) b)) < lo → scan names (cap - n) lo n (drop (n * width) b) ≡ None
       turn_bad_key o k = rw fuel (scan_bad_key (cap - (n + 1)) lo n (drop (n * width) b) e' o k)
 
       -- it is in order, with a key from lo on: the scan goes on at row n + 1
@@ -203,17 +201,17 @@ module _ (names : List ℕ) where
     ok : AllOk names (rows_of k b)
     words : b ≡ image width (length b) (rows_of k b)
 
-  ended_sound : (lo n m : ℕ) (b : List ℕ) → ended_at n b ≡ Rows m → Scanned lo n m b
+  ended_sound : (lo n m : ℕ) (b : List ℕ) → ended_at n b ≡ Some m → Scanned lo n m b
   unfolding ended_at rows_of Each
   ended_sound lo n m b e = go (all_zero b) refl
     where
       go : (t : Bool) → all_zero b ≡ t → Scanned lo n m b
       go true q =
-          let f : Rows n ≡ Rows m = sym (pick_true (Rows n) Bad q) ∙ e in
+          let f : Some n ≡ Some m = sym (pick_true (Some n) None q) ∙ e in
           let f' : n ≡ m = cc in
           record { k = 0; sum = omega arith; table = tt; ok = tt; words = zeros_of b q ∙ sym (image_none width (length b)) }
       go false q =
-          let f : Bad ≡ Rows m = sym (pick_false (Rows n) Bad q) ∙ e in
+          let f : None ≡ Some m = sym (pick_false (Some n) None q) ∙ e in
           let z : ◌≡◌ {A = ℕ} 0 1 = cc in
           absurd (omega arith)
 
@@ -233,14 +231,14 @@ module _ (names : List ℕ) where
         words = whole ∙ ap (λ (j : ℕ). image width j (take width b ∷ rows_of S.k (drop width b))) le;
       }
 
-  scan_sound : (f lo n m : ℕ) (b : List ℕ) → f * width ≤ length b → scan names f lo n b ≡ Rows m → Scanned lo n m b
+  scan_sound : (f lo n m : ℕ) (b : List ℕ) → f * width ≤ length b → scan names f lo n b ≡ Some m → Scanned lo n m b
   unfolding scan
   scan_sound zero lo n m b fit e = ended_sound lo n m b e
   scan_sound (suc f) lo n m b fit e =
       go (eqb (get_or b 0 0) 0) refl (row_ok names (take width b)) refl (leb lo (key (take width b))) refl (scan_sound f (suc (key (take width b))) (suc n) m (drop width b) (omega (arith, length-drop width b)))
     where
       go : (s : Bool) → eqb (get_or b 0 0) 0 ≡ s → (t : Bool) → row_ok names (take width b) ≡ t → (u : Bool) → leb lo (key (take width b)) ≡ u
-          → (scan names f (suc (key (take width b))) (suc n) (drop width b) ≡ Rows m → Scanned (suc (key (take width b))) (suc n) m (drop width b)) → Scanned lo n m b
+          → (scan names f (suc (key (take width b))) (suc n) (drop width b) ≡ Some m → Scanned (suc (key (take width b))) (suc n) m (drop width b)) → Scanned lo n m b
       go true q t r u v ih = ended_sound lo n m b (sym (scan_ended (suc f) lo n b (eqb-true (get_or b 0 0) 0 q)) ∙ e)
       go false q false r u v ih = bad_not m (scan names (suc f) lo n b) (scan_bad_row f lo n b (eqb-false (get_or b 0 0) 0 q) r) e
       go false q true r false v ih = bad_not m (scan names (suc f) lo n b) (scan_bad_key f lo n b (eqb-false (get_or b 0 0) 0 q) r (leb-false lo (key (take width b)) v)) e
@@ -249,7 +247,7 @@ module _ (names : List ℕ) where
           more_sound lo n m b (omega arith) r h (ih (sym (scan_next f lo n b (eqb-false (get_or b 0 0) 0 q) r h) ∙ e))
 
   -- a yes: the buffer holds the rows that stand in it, each in order by itself
-  pub checked_sound : (n : ℕ) (b : List ℕ) → checked names b ≡ Rows n → Lent names (rows_of n b) n b
+  pub checked_sound : (n : ℕ) (b : List ℕ) → checked names b ≡ Some n → Lent names (rows_of n b) n b
   unfolding checked
   checked_sound n b e =
       let S : Scanned 1 0 n b = scan_sound (length b / width) 1 0 n b (omega arith) e in
@@ -284,14 +282,14 @@ module _ (names : List ℕ) where
   table_one (r ∷ rs) t o = (t.0, ok_key r o.0, t.2)
 
   scan_complete : (f lo n : ℕ) (b : List ℕ) (rows : List Row) → f * width ≤ length b → length b < f * width + width → Table lo rows → AllOk names rows → b ≡ image width (length b) rows
-      → scan names f lo n b ≡ Rows (n + length rows)
+      → scan names f lo n b ≡ Some (n + length rows)
   unfolding Each ended_at scan
   scan_complete f lo n b [] fit cap t o e =
       let z : b ≡ zeros (length b) = e ∙ image_none width (length b) in
       let h : get_or b 0 0 ≡ 0 = ap (λ (l : List ℕ). get_or l 0 0) z ∙ head_zeros (length b) in
       let a : all_zero b ≡ true = ap all_zero z ∙ of_zeros (length b) in
       let s : n ≡ n + 0 = omega arith in
-      scan_ended f lo n b h ∙ pick_true (Rows n) Bad a ∙ ap Rows s
+      scan_ended f lo n b h ∙ pick_true (Some n) None a ∙ ap Some s
   scan_complete zero lo n b (r ∷ rs) fit cap t o e = absurd (omega (arith, image_fits lo (r ∷ rs) b t e))
   scan_complete (suc f) lo n b (r ∷ rs) fit cap t o e =
       let row : take width b ≡ r = first_row lo r rs b t e in
@@ -303,15 +301,15 @@ module _ (names : List ℕ) where
       let ld : length (drop width b) ≡ length b - width = length-drop width b in
       scan_next f lo n b h ok (omega (arith, t.1))
       ∙ scan_complete f (suc (key (take width b))) (suc n) (drop width b) rs (omega arith) (omega arith) t' o.1 (rest_image lo r rs b t e)
-      ∙ ap Rows s
+      ∙ ap Some s
 
   -- a lent table of n rows is said to be one of n rows
-  pub checked_complete : (rows : List Row) (n : ℕ) (b : List ℕ) → Lent names rows n b → checked names b ≡ Rows n
+  pub checked_complete : (rows : List Row) (n : ℕ) (b : List ℕ) → Lent names rows n b → checked names b ≡ Some n
   unfolding checked
   checked_complete rows n b L =
       let t : Table 1 rows = table_one rows L.holds.table L.ok in
       let s : 0 + length rows ≡ n = omega (arith, L.holds.filled.count) in
-      scan_complete (length b / width) 1 0 b rows (omega arith) (omega arith) t L.ok L.holds.filled.words ∙ ap Rows s
+      scan_complete (length b / width) 1 0 b rows (omega arith) (omega arith) t L.ok L.holds.filled.words ∙ ap Some s
 
   -- ---- the rows that it gives
 

@@ -9,8 +9,8 @@ ghost use Rattle.lent.specs.Rules.{rules, is_marked, scope_ok, type_ok, const_ok
 ghost use Rattle.lent.specs.Lent.{all_zero, ended_at, checked};
 
 // What each word of a row may be, for each kind from 128 on, word 0 without its kind: 0 unused, 1 scope, 2 small, 3 half, 4 flag, 5 mark, 6 item, 7 name,
-// 8 type, 9 type or none, 10 constant, 11 a part of one before it.
-const RULES: [[u8; 6]; 16] = [
+// 8 type, 9 type or none, 10 constant, 11 a part of one before it. (Bytes: the definition has the same numbers.)
+static RULES: [[u8; 6]; 16] = [
     [2, 0, 1, 0, 0, 0],
     [7, 0, 1, 0, 0, 0],
     [7, 0, 3, 2, 0, 0],
@@ -33,24 +33,19 @@ const RULES: [[u8; 6]; 16] = [
 pub fn is_name(names: &[u8], x: u32) -> bool
     ensures { result ≡ is_marked names.now x }
 {
-    let i = x as usize;
-    if i < names.len() {
-        return names[i] == 1;
-    }
-    false
+    names.get(x as usize) == Some(&1)
 }
 
 // Whether w is 0 or a name's number plus 1.
+#[tactic(auto, unfolding(crate::specs::Rules::scope_ok))]
 pub fn scope_ok(names: &[u8], w: u32) -> bool
     ensures { result ≡ scope_ok names.now w }
 {
-    if w == 0 {
-        return true;
-    }
-    is_name(names, w - 1)
+    w == 0 || is_name(names, w - 1)
 }
 
 // Whether a type has this head and argument.
+#[tactic(auto, unfolding(crate::specs::Rules::type_ok))]
 pub fn type_ok(names: &[u8], head: u32, arg: u32) -> bool
     ensures { result ≡ type_ok names.now head arg }
 {
@@ -65,29 +60,17 @@ pub fn type_ok(names: &[u8], head: u32, arg: u32) -> bool
 fn plain_type(head: u32, arg: u32) -> bool
     ensures { result ≡ pick (leb 40 head) (pick (leb head 43) (eqb arg 0) false) false }
 {
-    if head < 40 {
-        return false;
-    }
-    if 43 < head {
-        return false;
-    }
-    arg == 0
+    (40..=43).contains(&head) && arg == 0
 }
 
 // Whether 64 bits are a whole number from -2147483648 to 2147483648.
 fn whole_ok(low: u32, high: u32) -> bool
     ensures { result ≡ whole_rule low high }
 {
-    if high == 0 {
-        return low <= 2147483648;
-    }
-    if high == 4294967295 {
-        return 2147483648 <= low;
-    }
-    false
+    high == 0 && low <= 2147483648 || high == 4294967295 && 2147483648 <= low
 }
 
-// Whether it is the high word of a finite float.
+// Whether it is the high word of a finite float, by its exponent's bits. (`expr` has the same line, private: no promise for others is worth one line.)
 fn finite(high: u32) -> bool
     ensures { result ≡ float_rule high }
 {
@@ -98,21 +81,17 @@ fn finite(high: u32) -> bool
 fn string_ok(names: &[u8], low: u32, high: u32) -> bool
     ensures { result ≡ (ltb low (length names.now) && eqb high 0) }
 {
-    if (low as usize) < names.len() {
-        return high == 0;
-    }
-    false
+    (low as usize) < names.len() && high == 0
 }
 
 // Whether a constant of this kind has this value.
+#[tactic(auto, unfolding(crate::specs::Rules::const_ok, fold::specs::Value::const_rule))]
 fn const_ok(names: &[u8], kind: u32, low: u32, high: u32) -> bool
     ensures { result ≡ const_ok names.now kind low high }
 {
     match kind {
-        24 => whole_ok(low, high),
-        25 => whole_ok(low, high),
-        26 => finite(high),
-        27 => finite(high),
+        24 | 25 => whole_ok(low, high),
+        26 | 27 => finite(high),
         28 => string_ok(names, low, high),
         _ => false,
     }
@@ -131,13 +110,11 @@ fn type_or_none(names: &[u8], head: u32, arg: u32) -> bool
 fn item_ok(w: u32) -> bool
     ensures { result ≡ pick (eqb w 0) false (ltb w 4) }
 {
-    if w == 0 {
-        return false;
-    }
-    w < 4
+    (1..4).contains(&w)
 }
 
 // Whether a word is what its rule says, with the two words after it.
+#[tactic(auto, unfolding(crate::specs::Rules::word_ok))]
 fn word_ok(names: &[u8], rule: u8, w: u32, next: u32, after: u32) -> bool
     ensures { result ≡ word_ok names.now rule w next after }
 {
@@ -165,49 +142,39 @@ fn rule(k: usize, j: usize) -> u8
     RULES[k][j]
 }
 
-// Word j, 0 past the end.
+// Word j, 0 past the end. (`reader` has the same: it isn't below this crate.)
 fn at(row: &[u32], j: usize) -> u32
     ensures { result ≡ get_or row.now j 0 }
 {
-    if j < row.len() {
-        return row[j];
-    }
-    0
+    row.get(j).copied().unwrap_or(0)
 }
 
-// Whether the words from word 1 on are what their rules say.
+// Whether the words from word 1 on are what their rules say. (A loop: `all` was tried, and wants one more law, from the range's numbers to the words.)
 fn words_ok(names: &[u8], k: usize, row: &[u32]) -> bool
     requires { (k < 16) × (length row.now ≡ width) }
     ensures { result ≡ words_ok names.now (drop 1 (get_or rules k [])) (drop 1 row.now) }
 {
-    let mut j = 1;
-    while j < table::WIDTH {
+    for j in 1..table::WIDTH {
         if !word_ok(names, rule(k, j), row[j], at(row, j + 1), at(row, j + 2)) {
             return false;
         }
-        j += 1;
     }
     true
 }
 
 // Whether the row is in order by itself.
+#[tactic(auto, using(crate::proofs::Words::first_word), unfolding(crate::specs::Rules::row_ok))]
 pub fn row_ok(names: &[u8], row: &[u32]) -> bool
     requires { length row.now ≡ width }
     ensures { result ≡ row_ok names.now row.now }
 {
     let first = row[0];
     let kind = first / 16777216;
-    if kind < 128 {
-        return false;
-    }
-    if 143 < kind {
+    if !(128..=143).contains(&kind) {
         return false;
     }
     let k = (kind - 128) as usize;
-    if !word_ok(names, rule(k, 0), first % 16777216, row[1], row[2]) {
-        return false;
-    }
-    words_ok(names, k, row)
+    word_ok(names, rule(k, 0), first % 16777216, row[1], row[2]) && words_ok(names, k, row)
 }
 
 // Whether all words from `from` on are zero.
@@ -215,56 +182,37 @@ fn all_zero(b: &[u32], from: usize) -> bool
     requires { from ≤ length b.now }
     ensures { result ≡ all_zero (drop from b.now) }
 {
-    let mut i = from;
-    while i < b.len() {
-        if b[i] != 0 {
-            return false;
-        }
-        i += 1;
-    }
-    true
-}
-
-// What a lent buffer is: no table, or one of so many rows.
-#[derive(Clone, Copy)]
-pub enum Checked {
-    Bad,
-    Rows(usize),
+    b[from..].iter().all(|&word| word == 0)
 }
 
 // n rows that are in order, if zeros are all that is left.
-fn ended(b: &[u32], n: usize) -> Checked
+#[tactic(auto, unfolding(crate::specs::Lent::ended_at))]
+fn ended(b: &[u32], n: usize) -> Option<usize>
     requires { n * width ≤ length b.now }
     ensures { result ≡ ended_at n (drop (n * width) b.now) }
 {
-    if all_zero(b, n * table::WIDTH) {
-        Checked::Rows(n)
-    } else {
-        Checked::Bad
-    }
+    all_zero(b, n * table::WIDTH).then_some(n)
 }
 
 // Tests a lent table.
-pub fn check_rows(b: &[u32], names: &[u8]) -> Checked
+pub fn check_rows(b: &[u32], names: &[u8]) -> Option<usize>
     ensures { result ≡ checked names.now b.now }
 {
     let cap = b.len() / table::WIDTH;
-    let mut n = 0;
     let mut last: u64 = 0;
-    while n < cap {
+    for n in 0..cap {
         let at = n * table::WIDTH;
         if b[at] == 0 {
             return ended(b, n);
         }
         if !row_ok(names, &b[at..at + table::WIDTH]) {
-            return Checked::Bad;
+            return None;
         }
         let k = table::key_at(b, n);
         if k <= last {
-            return Checked::Bad;
+            return None;
         }
         last = k;
-        n += 1;
     }
-    ended(b, n)
+    ended(b, cap)
 }

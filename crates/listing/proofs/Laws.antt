@@ -2,11 +2,10 @@
 use Prim.Native.Nat.{ℕ, ◌+◌, ◌-◌, ◌*◌, ◌≤◌}
 use native.Mathlib.Omega.{arith}
 use mathlib.Core.Path.{◌≡◌, refl, sym, ap, ◌∙◌}
-use mathlib.Core.Logic.{◌⊎◌, inl, inr}
 use mathlib.Core.List.{List}
 use mathlib.Core.Bool.{Bool, true, false}
 use mathlib.Core.Option.{none, some}
-use borrow.Author.Tests.{le-leb, ne_eqb}
+use borrow.Author.Tests.{le-leb}
 use lib.ListN.{length, length-replicate, take, drop}
 use Rattle.words.specs.Told.{Told, stops, gives, unless}
 use Rattle.words.specs.Refusals.{number_of, refused}
@@ -26,10 +25,9 @@ use Rattle.equivalence.proofs.AcceptedLaws.{Within as Longer, same, rows_full, n
 use Rattle.analyse.specs.Analyse.{Analyses, Tells, work, analysis_in, told, counted}
 use Rattle.analyse.specs.ReadOff.{shown_of, read_off, Within, read_off_lem, within}
 use Rattle.analyse.specs.declared.Given.{Given}
-use Rattle.analyse.specs.declared.Answer.{Answer}
-use Rattle.analyse.specs.declared.Answer.TheVariants.{Refused, Done}
 use Rattle.listing.specs.Listing.{text_of, listed, analysed, listing}
 use Rattle.listing.specs.Shown.{shown_text, answer_text, program_text, limit, too_short, WroteUnless}
+use Rattle.std.specs.Prelude.{Result, Err, Ok, Option, None, Some}
 
 -- buffers of zeros are fresh
 pub made : (n m : ℕ) → Fresh true (zeros n) (zeros m)
@@ -55,23 +53,23 @@ shown_text_lem bytes ends (stops n p) = refl
 shown_text_lem bytes ends (gives a) = refl
 
 -- an answer that is neither 7 nor 8 is that of all longer buffers
-refused_number : (f : Refusal) (n p : ℕ) → told (Refused f) ≡ counted (stops n p) → number_of f ≡ n
+refused_number : (f : Refusal) (n p : ℕ) → told (Err f) ≡ counted (stops n p) → number_of f ≡ n
 unfolding told counted refused
 refused_number f n p e = cc
 
-limit_short : (r : Answer) (n p : ℕ) → limit n ≡ true → told r ≡ counted (stops n p) → too_short r ≡ true
+limit_short : (r : Result Given Refusal) (n p : ℕ) → limit n ≡ true → told r ≡ counted (stops n p) → too_short r ≡ true
 unfolding too_short told counted
-limit_short (Refused f) n p l e = rw (refused_number f n p e) l
-limit_short (Done m) n p l e = absurd (let z : ◌≡◌ {A = ℕ} 0 1 = cc in omega arith)
+limit_short (Err f) n p l e = rw (refused_number f n p e) l
+limit_short (Ok m) n p l e = absurd (let z : ◌≡◌ {A = ℕ} 0 1 = cc in omega arith)
 
-not_short : (r : Answer) {t u : Told Analysis} → too_short r ≡ false → told r ≡ counted u → Longer t u → u ≡ t
+not_short : (r : Result Given Refusal) {t u : Told Analysis} → too_short r ≡ false → told r ≡ counted u → Longer t u → u ≡ t
 unfolding limit
 not_short r q e same = refl
 not_short r q e rows_full = absurd (let z : ◌≡◌ {A = Bool} true false = sym (limit_short r 7 0 refl e) ∙ q in let w : ◌≡◌ {A = ℕ} 0 1 = cc in omega arith)
 not_short r q e notes_full = absurd (let z : ◌≡◌ {A = Bool} true false = sym (limit_short r 8 0 refl e) ∙ q in let w : ◌≡◌ {A = ℕ} 0 1 = cc in omega arith)
 
 -- with room for the tree, the answer's text is that of the analysis in so much room, whatever the place of 1
-module _ {bytes ends erased words notes rows out notes' rows' out' : List ℕ} {r : Answer} (a : Analyses bytes ends erased words r notes rows out notes' rows' out') (h : length words ≤ length out) where
+module _ {bytes ends erased words notes rows out notes' rows' out' : List ℕ} {r : Result Given Refusal} (a : Analyses bytes ends erased words r notes rows out notes' rows' out') (h : length words ≤ length out) where
   abbrev lent : Told Analysis
   lent = analysis (some (length rows)) (some (length notes)) a.at bytes ends erased words
 
@@ -96,65 +94,48 @@ module _ {bytes ends erased words notes rows out notes' rows' out' : List ℕ} {
       ∙ placeless bytes ends (sized_program bytes ends words erased) (sound bytes ends) a.at _
 
 -- an answer's counts lie in the buffers
-pub counts_within : {bytes ends erased words notes rows out notes' rows' out' : List ℕ} {r : Answer} → Analyses bytes ends erased words r notes rows out notes' rows' out' → Within r notes' rows' out'
+pub counts_within : {bytes ends erased words notes rows out notes' rows' out' : List ℕ} {r : Result Given Refusal} → Analyses bytes ends erased words r notes rows out notes' rows' out' → Within r notes' rows' out'
 counts_within {r = r} a = within r _ a.is
 
-module _ (bytes ends notes rows words : List ℕ) {b c : List ℕ} {i j : ℕ} {a : Answer} where
+module _ (bytes ends notes rows words : List ℕ) {b c : List ℕ} {i j : ℕ} {a : Result Given Refusal} where
   -- a refusal's text is its `E` line
-  pub text_refused : {r : Refusal} {n : ℕ} → a ≡ Refused r → n ≡ number_of r → Wrote (refusal n) b c i j → Wrote (answer_text bytes ends a notes rows words) b c i j
+  pub text_refused : {r : Refusal} {n : ℕ} → a ≡ Err r → n ≡ number_of r → Wrote (refusal n) b c i j → Wrote (answer_text bytes ends a notes rows words) b c i j
   unfolding answer_text shown_text read_off refused
   text_refused e k p = rw (e, ← k) p
 
   -- any other's is the page of what stands in the buffers
-  pub text_done : {n : Given} → a ≡ Done n → Wrote (page bytes ends (chunks note_width n.notes notes) (chunks width n.rows rows) (take n.words words)) b c i j → Wrote (answer_text bytes ends a notes rows words) b c i j
+  pub text_done : {n : Given} → a ≡ Ok n → Wrote (page bytes ends (chunks note_width n.notes notes) (chunks width n.rows rows) (take n.words words)) b c i j → Wrote (answer_text bytes ends a notes rows words) b c i j
   unfolding answer_text shown_text read_off
   text_done e p = rw e p
 
 -- the same, of the counts that were taken from it
-pub within_done : (a : Answer) (n : Given) (notes rows words : List ℕ) → a ≡ Done n → Within a notes rows words → Within (Done n) notes rows words
+pub within_done : (a : Result Given Refusal) (n : Given) (notes rows words : List ℕ) → a ≡ Ok n → Within a notes rows words → Within (Ok n) notes rows words
 within_done a n notes rows words e h = rw e at h
 
--- 7 and 8 are such numbers
-pub when_limit : (n : ℕ) → (n ≡ 7) ⊎ (n ≡ 8) → true ≡ limit n
-unfolding limit
-when_limit n (inl e) = rw e refl
-when_limit n (inr e) = rw e refl
-
--- no other is
-pub no_limit : (n : ℕ) → (n ≡ 7 → ⊥) → (n ≡ 8 → ⊥) → false ≡ limit n
-unfolding limit
-no_limit n h i = rw (ne_eqb n 7 h, ne_eqb n 8 i) refl
-
 -- a refusal is too short where its number is one
-pub refused_short : {a : Answer} {f : Refusal} {n : ℕ} {b : Bool} → a ≡ Refused f → n ≡ number_of f → b ≡ limit n → b ≡ too_short a
+pub refused_short : {a : Result Given Refusal} {f : Refusal} {n : ℕ} {b : Bool} → a ≡ Err f → n ≡ number_of f → b ≡ limit n → b ≡ too_short a
 unfolding too_short
 refused_short e k l = rw (e, ← k) l
 
 -- what was done is not
-pub done_short : {a : Answer} {n : Given} → a ≡ Done n → false ≡ too_short a
+pub done_short : {a : Result Given Refusal} {n : Given} → a ≡ Ok n → false ≡ too_short a
 unfolding too_short
 done_short e = rw e refl
 
 -- a run that was too short left all as it was
-pub kept : {text b : List ℕ} {n : ℕ} → WroteUnless true text b b n
-kept = record {
-  kept = λ e. refl;
-  wrote = λ e. absurd (let w : ◌≡◌ {A = ℕ} 0 1 = cc in omega arith);
-}
+pub kept : {text b : List ℕ} → WroteUnless text b b None
+kept = record { kept = λ e. refl; wrote = λ n e. cc }
 
 -- any other wrote the text
-pub written : {text b c : List ℕ} {n : ℕ} → Wrote text b c 0 n → WroteUnless false text b c n
-written p = record {
-  kept = λ e. absurd (let w : ◌≡◌ {A = ℕ} 0 1 = cc in omega arith);
-  wrote = λ e. p;
-}
+pub written : {text b c : List ℕ} {n : ℕ} → Wrote text b c 0 n → WroteUnless text b c (Some n)
+written {text} {b} {c} {n} p = record { kept = λ e. cc; wrote = λ m e. let q : m ≡ n = cc in rw q p }
 
 -- the text under another name
-pub renamed : {q : Bool} {s t b c : List ℕ} {n : ℕ} → s ≡ t → WroteUnless q s b c n → WroteUnless q t b c n
+pub renamed : {s t b c : List ℕ} {n : Option ℕ} → s ≡ t → WroteUnless s b c n → WroteUnless t b c n
 renamed e p = rw e at p
 
 -- after a run that was too short another begins with all as it was
-pub again : {q : Bool} {t b c d : List ℕ} {n m : ℕ} → q ≡ true → WroteUnless q t b c n → Wrote t c d 0 m → Wrote t b d 0 m
+pub again : {t b c d : List ℕ} {n : Option ℕ} {m : ℕ} → n ≡ None → WroteUnless t b c n → Wrote t c d 0 m → Wrote t b d 0 m
 again e p w = rw (p.kept e) at w
 
 -- ---- an image's text

@@ -1,6 +1,6 @@
 -- What the inner contracts cite: the text of an answer and of what stands in the buffers behind it, the text of a program, and which answers ask for more room.
 -- These are definitions.
-use Rattle.std.specs.Prelude.{ℕ, ◌*◌, ◌≡◌, Bool, true, false, ◌||◌, List, eqb}
+use Rattle.std.specs.Prelude.{ℕ, ◌*◌, ◌≡◌, Bool, false, ◌||◌, List, eqb, Result, Err, Ok, Option, None, Some}
 use Rattle.std.proofs.Math.Option.{some}
 use Rattle.words.specs.Told.{Told, stops, gives}
 use Rattle.words.specs.Refusals.{number_of}
@@ -9,9 +9,9 @@ use Rattle.table.specs.Rows.{width, note_width}
 use Rattle.page.specs.Page.{page, refusal}
 use Rattle.equivalence.specs.Analysis.{analysis}
 use Rattle.analyse.specs.ReadOff.{Shown, read_off}
-use Rattle.analyse.specs.declared.Answer.{Answer}
-use Rattle.analyse.specs.declared.Answer.TheVariants.{Refused, Done}
 use Rattle.listing.specs.Listing.{text_of}
+use Rattle.words.specs.declared.Refusal.{Refusal}
+use Rattle.analyse.specs.declared.Given.{Given}
 
 -- the text of what was read off, or of its number
 unfoldable pub shown_text : (bytes ends : List ℕ) → Told Shown → List ℕ
@@ -19,7 +19,7 @@ shown_text bytes ends (stops n p) = refusal n
 shown_text bytes ends (gives s) = page bytes ends s.diagnostics s.rows s.resolved
 
 -- the text of an answer, with the buffers behind it
-unfoldable pub answer_text : (bytes ends : List ℕ) → Answer → (notes rows words : List ℕ) → List ℕ
+unfoldable pub answer_text : (bytes ends : List ℕ) → Result Given Refusal → (notes rows words : List ℕ) → List ℕ
 answer_text bytes ends a notes rows words = shown_text bytes ends (read_off a notes rows words)
 
 -- the text of a program's parts, with the rows and diagnostics that are promised
@@ -31,11 +31,11 @@ unfoldable pub limit : ℕ → Bool
 limit n = eqb n 7 || eqb n 8
 
 -- an answer that is one of them
-unfoldable pub too_short : Answer → Bool
-too_short (Refused f) = limit (number_of f)
-too_short (Done n) = false
+unfoldable pub too_short : Result Given Refusal → Bool
+too_short (Err f) = limit (number_of f)
+too_short (Ok n) = false
 
--- what a run in lent buffers leaves: the text, or where they were too short all as it was
-pub record WroteUnless (short : Bool) (text before after : List ℕ) (next : ℕ) : Type 0 where
-  pub kept : short ≡ true → after ≡ before
-  pub wrote : short ≡ false → Wrote text before after 0 next
+-- what a run in lent buffers leaves: the text up to the place that it answers, or where they were too short all as it was
+pub record WroteUnless (text before after : List ℕ) (next : Option ℕ) : Type 0 where
+  pub kept : next ≡ None → after ≡ before
+  pub wrote : (at : ℕ) → next ≡ Some at → Wrote text before after 0 at

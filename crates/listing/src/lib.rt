@@ -10,11 +10,11 @@ ghost use Rattle.analyse.specs.ReadOff.{Within};
 ghost use Rattle.listing.specs.Listing.{listing as listing_of};
 ghost use Rattle.listing.specs.Shown.{answer_text, program_text, limit, too_short, WroteUnless};
 
-use analyse::{Answer, analyse_in};
-use image::{Opened, Shape, open, read_words};
+use analyse::{Given, analyse_in};
+use image::{Shape, open, read_words};
 use page::{Counts, put_page, put_refusal};
 use text::finish;
-use words::number;
+use words::Refusal;
 
 // The text of an answer and of what stands in the buffers.
 fn put_answer(
@@ -24,14 +24,14 @@ fn put_answer(
     notes: &[u32],
     rows: &[u32],
     words: &[u32],
-    a: Answer,
+    a: Result<Given, Refusal>,
 ) -> usize
     requires { Within a notes.now rows.now words.now }
     ensures { Wrote (answer_text bytes.now ends.now a notes.now rows.now words.now) out.old out.new 0 result }
 {
     match a {
-        Answer::Refused(r) => put_refusal(out, number(r)),
-        Answer::Done(n) => put_page(
+        Err(r) => put_refusal(out, r.number()),
+        Ok(n) => put_page(
             out,
             bytes,
             ends,
@@ -46,23 +46,18 @@ fn put_answer(
     }
 }
 
-fn full(number: u32) -> bool
-    ensures { result ≡ limit number }
-{
-    match number {
-        7 => true,
-        8 => true,
-        _ => false,
-    }
-}
-
-// Whether the rows or the diagnostics had too little room.
-fn too_short(a: Answer) -> bool
+// Whether the rows or the diagnostics had too little room: document 01's 7 or 8. By the number, since after a pattern of the two variants the check knows of any
+// other one by Rattle's own names alone.
+#[tactic(auto, using(crate::proofs::Laws::refused_short, crate::proofs::Laws::done_short), unfolding(crate::specs::Shown::too_short, crate::specs::Shown::limit))]
+fn too_short(a: Result<Given, Refusal>) -> bool
     ensures { result ≡ too_short a }
 {
     match a {
-        Answer::Refused(r) => full(number(r)),
-        Answer::Done(_) => false,
+        Err(r) => {
+            let n = r.number();
+            n == 7 || n == 8
+        }
+        Ok(_) => false,
     }
 }
 
@@ -114,13 +109,6 @@ fn put_full(out: &mut [u8], image: &[u8], s: Shape) -> usize
     )
 }
 
-// What a run in lent buffers came to: whether the rows or the diagnostics had too little room, and where they had enough the place past the text.
-#[derive(Clone, Copy)]
-struct Tried {
-    short: bool,
-    at: usize,
-}
-
 // The text of a program's parts by a run in shorter buffers: to clear all the room costs more than a small program does. Where they are too short
 // nothing is written.
 fn put_first(
@@ -132,22 +120,19 @@ fn put_first(
     notes: &mut [u32],
     rows: &mut [u32],
     resolved: &mut [u32],
-) -> Tried
+) -> Option<usize>
     requires { (length words.now ≤ length resolved.old) × (length rows.old ≤ 2048 * width) × (length notes.old ≤ 2048 * note_width) × Fresh true rows.old notes.old }
-    ensures { WroteUnless result.short (program_text bytes.now ends.now erased.now words.now) out.old out.new result.at }
+    ensures { WroteUnless (program_text bytes.now ends.now erased.now words.now) out.old out.new result }
 {
     let a = analyse_in(bytes, ends, words, erased, notes, rows, resolved, true);
     if too_short(a) {
-        return Tried { short: true, at: 0 };
+        return None;
     }
-    let at = put_answer(out, bytes, ends, notes, rows, resolved, a);
-    Tried {
-        short: false,
-        at: at,
-    }
+    Some(put_answer(out, bytes, ends, notes, rows, resolved, a))
 }
 
-// An image's words read into lent buffers; its string bytes stay where they are.
+// An image's words read into lent buffers; its string bytes stay where they are. (The places are worked out as in `put_full`: a function of both would answer four numbers,
+// and its contract would say them again.)
 fn put_read(
     out: &mut [u8],
     image: &[u8],
@@ -158,9 +143,9 @@ fn put_read(
     notes: &mut [u32],
     rows: &mut [u32],
     resolved: &mut [u32],
-) -> Tried
+) -> Option<usize>
     requires { Shaped image.now s.strings s.words s.erased s.bytes × (s.strings ≤ length ends.old) × (s.words ≤ length words.old) × (s.erased ≤ length erased.old) × (length rows.old ≤ 2048 * width) × (length notes.old ≤ 2048 * note_width) × (s.words ≤ length resolved.old) × Fresh true rows.old notes.old }
-    ensures { WroteUnless result.short (listing_of image.now) out.old out.new result.at }
+    ensures { WroteUnless (listing_of image.now) out.old out.new result }
 {
     let tree_from = 12 + 4 * s.strings;
     let erased_from = tree_from + 4 * s.words;
@@ -181,21 +166,29 @@ fn put_read(
     )
 }
 
-// Many words, strings or erased names, in 73,728 bytes of buffers; 1,024 rows and 1,024 diagnostics, one for two words.
-fn put_names_middle(out: &mut [u8], image: &[u8], s: Shape) -> usize
-    requires { Shaped image.now s.strings s.words s.erased s.bytes }
-    ensures { Wrote (listing_of image.now) out.old out.new 0 result }
+// In buffers of these sizes: nothing is written where the image's parts are larger, or its rows or diagnostics have too little room. It is not inlined, so that
+// the stack of a function that calls it is touched only as far as that one needs.
+#[inline(never)]
+fn put_level<
+    const STRINGS: usize,
+    const WORDS: usize,
+    const ERASED: usize,
+    const NOTES: usize,
+    const ROWS: usize,
+>(out: &mut [u8], image: &[u8], s: Shape) -> Option<usize>
+    requires { Shaped image.now s.strings s.words s.erased s.bytes × (STRINGS ≤ 1024) × (WORDS ≤ 8192) × (ERASED ≤ 1024) × (NOTES ≤ 2048 * note_width) × (ROWS ≤ 2048 * width) }
+    ensures { WroteUnless (listing_of image.now) out.old out.new result }
 {
-    if 2048 < s.words {
-        return put_full(out, image, s);
+    if STRINGS < s.strings || WORDS < s.words || ERASED < s.erased {
+        return None;
     }
-    let mut ends = [0u32; 1024];
-    let mut words = [0u32; 2048];
-    let mut erased = [0u32; 1024];
-    let mut notes = [0u32; 6144];
-    let mut rows = [0u32; 6144];
-    let mut resolved = [0u32; 2048];
-    let t = put_read(
+    let mut ends = [0u32; STRINGS];
+    let mut words = [0u32; WORDS];
+    let mut erased = [0u32; ERASED];
+    let mut notes = [0u32; NOTES];
+    let mut rows = [0u32; ROWS];
+    let mut resolved = [0u32; WORDS];
+    put_read(
         out,
         image,
         s,
@@ -205,11 +198,19 @@ fn put_names_middle(out: &mut [u8], image: &[u8], s: Shape) -> usize
         &mut notes,
         &mut rows,
         &mut resolved,
-    );
-    if t.short {
-        return put_full(out, image, s);
+    )
+}
+
+// Many words, strings or erased names, in 73,728 bytes of buffers; 1,024 rows and 1,024 diagnostics, one for two words.
+// (A `match` here and below: the closure of an `unwrap_or_else` would write `out`, and what stands there then the check does not find by itself.)
+fn put_names_middle(out: &mut [u8], image: &[u8], s: Shape) -> usize
+    requires { Shaped image.now s.strings s.words s.erased s.bytes }
+    ensures { Wrote (listing_of image.now) out.old out.new 0 result }
+{
+    match put_level::<1024, 2048, 1024, 6144, 6144>(out, image, s) {
+        Some(at) => at,
+        None => put_full(out, image, s),
     }
-    t.at
 }
 
 // In 33,280 bytes of buffers; 512 rows and 512 diagnostics, one for two words, so that few programs are run twice.
@@ -217,36 +218,13 @@ fn put_middle(out: &mut [u8], image: &[u8], s: Shape) -> usize
     requires { Shaped image.now s.strings s.words s.erased s.bytes }
     ensures { Wrote (listing_of image.now) out.old out.new 0 result }
 {
-    if 1024 < s.words {
+    if 1024 < s.words || 64 < s.strings || 64 < s.erased {
         return put_names_middle(out, image, s);
     }
-    if 64 < s.strings {
-        return put_names_middle(out, image, s);
+    match put_level::<64, 1024, 64, 3072, 3072>(out, image, s) {
+        Some(at) => at,
+        None => put_full(out, image, s),
     }
-    if 64 < s.erased {
-        return put_names_middle(out, image, s);
-    }
-    let mut ends = [0u32; 64];
-    let mut words = [0u32; 1024];
-    let mut erased = [0u32; 64];
-    let mut notes = [0u32; 3072];
-    let mut rows = [0u32; 3072];
-    let mut resolved = [0u32; 1024];
-    let t = put_read(
-        out,
-        image,
-        s,
-        &mut ends,
-        &mut words,
-        &mut erased,
-        &mut notes,
-        &mut rows,
-        &mut resolved,
-    );
-    if t.short {
-        return put_full(out, image, s);
-    }
-    t.at
 }
 
 // Many strings or erased names, in 24,576 bytes of buffers; 256 rows and 256 diagnostics, one for two words.
@@ -254,30 +232,10 @@ fn put_names_small(out: &mut [u8], image: &[u8], s: Shape) -> usize
     requires { Shaped image.now s.strings s.words s.erased s.bytes }
     ensures { Wrote (listing_of image.now) out.old out.new 0 result }
 {
-    if 512 < s.words {
-        return put_names_middle(out, image, s);
+    match put_level::<1024, 512, 1024, 1536, 1536>(out, image, s) {
+        Some(at) => at,
+        None => put_names_middle(out, image, s),
     }
-    let mut ends = [0u32; 1024];
-    let mut words = [0u32; 512];
-    let mut erased = [0u32; 1024];
-    let mut notes = [0u32; 1536];
-    let mut rows = [0u32; 1536];
-    let mut resolved = [0u32; 512];
-    let t = put_read(
-        out,
-        image,
-        s,
-        &mut ends,
-        &mut words,
-        &mut erased,
-        &mut notes,
-        &mut rows,
-        &mut resolved,
-    );
-    if t.short {
-        return put_names_middle(out, image, s);
-    }
-    t.at
 }
 
 // In 7,680 bytes of buffers; 64 rows and 64 diagnostics.
@@ -285,36 +243,13 @@ fn put_small(out: &mut [u8], image: &[u8], s: Shape) -> usize
     requires { Shaped image.now s.strings s.words s.erased s.bytes }
     ensures { Wrote (listing_of image.now) out.old out.new 0 result }
 {
-    if 512 < s.words {
-        return put_middle(out, image, s);
-    }
-    if 64 < s.strings {
+    if s.words <= 512 && (64 < s.strings || 64 < s.erased) {
         return put_names_small(out, image, s);
     }
-    if 64 < s.erased {
-        return put_names_small(out, image, s);
+    match put_level::<64, 512, 64, 384, 384>(out, image, s) {
+        Some(at) => at,
+        None => put_middle(out, image, s),
     }
-    let mut ends = [0u32; 64];
-    let mut words = [0u32; 512];
-    let mut erased = [0u32; 64];
-    let mut notes = [0u32; 384];
-    let mut rows = [0u32; 384];
-    let mut resolved = [0u32; 512];
-    let t = put_read(
-        out,
-        image,
-        s,
-        &mut ends,
-        &mut words,
-        &mut erased,
-        &mut notes,
-        &mut rows,
-        &mut resolved,
-    );
-    if t.short {
-        return put_middle(out, image, s);
-    }
-    t.at
 }
 
 // Many strings or erased names for so few words, in 6,144 bytes of buffers; 64 rows and 64 diagnostics, one for two words.
@@ -322,36 +257,10 @@ fn put_names_tiny(out: &mut [u8], image: &[u8], s: Shape) -> usize
     requires { Shaped image.now s.strings s.words s.erased s.bytes }
     ensures { Wrote (listing_of image.now) out.old out.new 0 result }
 {
-    if 128 < s.words {
-        return put_names_small(out, image, s);
+    match put_level::<256, 128, 256, 384, 384>(out, image, s) {
+        Some(at) => at,
+        None => put_names_small(out, image, s),
     }
-    if 256 < s.strings {
-        return put_names_small(out, image, s);
-    }
-    if 256 < s.erased {
-        return put_names_small(out, image, s);
-    }
-    let mut ends = [0u32; 256];
-    let mut words = [0u32; 128];
-    let mut erased = [0u32; 256];
-    let mut notes = [0u32; 384];
-    let mut rows = [0u32; 384];
-    let mut resolved = [0u32; 128];
-    let t = put_read(
-        out,
-        image,
-        s,
-        &mut ends,
-        &mut words,
-        &mut erased,
-        &mut notes,
-        &mut rows,
-        &mut resolved,
-    );
-    if t.short {
-        return put_names_small(out, image, s);
-    }
-    t.at
 }
 
 // In 2,368 bytes of buffers; 32 rows and 16 diagnostics.
@@ -359,36 +268,13 @@ fn put_tiny(out: &mut [u8], image: &[u8], s: Shape) -> usize
     requires { Shaped image.now s.strings s.words s.erased s.bytes }
     ensures { Wrote (listing_of image.now) out.old out.new 0 result }
 {
-    if 128 < s.words {
-        return put_small(out, image, s);
-    }
-    if 32 < s.strings {
+    if s.words <= 128 && (32 < s.strings || 16 < s.erased) {
         return put_names_tiny(out, image, s);
     }
-    if 16 < s.erased {
-        return put_names_tiny(out, image, s);
+    match put_level::<32, 128, 16, 96, 192>(out, image, s) {
+        Some(at) => at,
+        None => put_small(out, image, s),
     }
-    let mut ends = [0u32; 32];
-    let mut words = [0u32; 128];
-    let mut erased = [0u32; 16];
-    let mut notes = [0u32; 96];
-    let mut rows = [0u32; 192];
-    let mut resolved = [0u32; 128];
-    let t = put_read(
-        out,
-        image,
-        s,
-        &mut ends,
-        &mut words,
-        &mut erased,
-        &mut notes,
-        &mut rows,
-        &mut resolved,
-    );
-    if t.short {
-        return put_small(out, image, s);
-    }
-    t.at
 }
 
 // In 472 bytes of buffers; 8 rows and 4 diagnostics.
@@ -396,44 +282,18 @@ fn put_least(out: &mut [u8], image: &[u8], s: Shape) -> usize
     requires { Shaped image.now s.strings s.words s.erased s.bytes }
     ensures { Wrote (listing_of image.now) out.old out.new 0 result }
 {
-    if 16 < s.words {
-        return put_tiny(out, image, s);
+    match put_level::<8, 16, 4, 24, 48>(out, image, s) {
+        Some(at) => at,
+        None => put_tiny(out, image, s),
     }
-    if 8 < s.strings {
-        return put_tiny(out, image, s);
-    }
-    if 4 < s.erased {
-        return put_tiny(out, image, s);
-    }
-    let mut ends = [0u32; 8];
-    let mut words = [0u32; 16];
-    let mut erased = [0u32; 4];
-    let mut notes = [0u32; 24];
-    let mut rows = [0u32; 48];
-    let mut resolved = [0u32; 16];
-    let t = put_read(
-        out,
-        image,
-        s,
-        &mut ends,
-        &mut words,
-        &mut erased,
-        &mut notes,
-        &mut rows,
-        &mut resolved,
-    );
-    if t.short {
-        return put_tiny(out, image, s);
-    }
-    t.at
 }
 
 fn put_listing(out: &mut [u8], image: &[u8]) -> usize
     ensures { Wrote (listing_of image.now) out.old out.new 0 result }
 {
     match open(image) {
-        Opened::Whole(s) => put_least(out, image, s),
-        Opened::Malformed => put_refusal(out, 5),
+        Some(s) => put_least(out, image, s),
+        None => put_refusal(out, 5),
     }
 }
 

@@ -1,40 +1,23 @@
 // Two tables made one in a lent buffer, from the back, so that each row moves once.
 #![tactic(auto)]
 
-ghost use Rattle.std.specs.Prelude.{◌≡◌, List, ◌++◌, ℕ, ◌+◌, ◌*◌, ◌≤◌, length, take, drop};
-ghost use Rattle.std.proofs.Math.Seq.{slice};
+ghost use Rattle.std.specs.Prelude.{◌≡◌, List, ℕ, ◌+◌, ◌*◌, ◌≤◌, length, take};
 ghost use Rattle.table.specs.Rows.{Row, width, rank, insert_all, Holds};
 ghost use Rattle.merge.specs.Merge.{Apart, Merging};
 
-// The words from `from` up to `to` move up by w words.
-fn move_up(b: &mut [u32], from: usize, to: usize, w: usize)
-    requires { (from ≤ to) × (to + w ≤ length b.old) }
-    ensures { b.new ≡ take (from + w) b.old ++ (slice from to b.old ++ drop (to + w) b.old) }
-{
-    // by one row, it is one move of memory
-    if w == table::WIDTH {
-        table::shift_up(b, from, to);
-        return;
-    }
-    let mut i = to;
-    while from < i {
-        i = i - 1;
-        b[i + w] = b[i];
-    }
-}
+use table::Rows;
 
 // How many of the first i rows stand before the key: often all of them.
-fn below(b: &[u32], i: usize, k: u64) -> usize
-    requires { i * width ≤ length b.now }
-    ensures within { result ≤ i }
-    ensures ranked { (rows : List Row) → Holds rows i (take (i * width) b.now) → result ≡ rank k rows }
+fn below(rows: &Rows<'_>, k: u64) -> usize
+    ensures within { result ≤ rows.now.count }
+    ensures ranked { (rs : List Row) → Holds rs rows.now.count (take (rows.now.count * width) rows.now.words.now) → result ≡ rank k rs }
 {
-    if 0 < i {
-        if table::key_at(b, i - 1) < k {
-            return i;
-        }
+    let count = rows.count;
+    if 0 < count && rows.key(count - 1) < k {
+        return count;
     }
-    table::lower_bound(&b[..i * table::WIDTH], i, k)
+    let words = &rows.words[..count * table::WIDTH];
+    Rows { words, count }.lower_bound(k)
 }
 
 // Row j of src goes to its place; the rows after that place, of the first i, move up by j + 1 rows. Returns how many of them are left below.
@@ -46,9 +29,9 @@ fn place(b: &mut [u32], i: usize, src: &[u32], j: usize) -> usize
     let at = j * table::WIDTH;
     let end = i * table::WIDTH;
     let k = table::key_at(src, j);
-    let p = below(b, i, k);
+    let p = below(&Rows { words: b, count: i }, k);
     let to = p * table::WIDTH;
-    move_up(b, to, end, at + table::WIDTH);
+    b.copy_within(to..end, to + at + table::WIDTH);
     table::put_words(b, to + at, &src[at..at + table::WIDTH]);
     p
 }
@@ -60,9 +43,7 @@ pub fn merge(b: &mut [u32], count: usize, src: &[u32], m: usize)
     ensures merged { (rows more : List Row) → Holds rows count b.old → Holds more m src.now → Apart more rows → Holds (insert_all more rows) (count + m) b.new }
 {
     let mut i = count;
-    let mut j = m;
-    while 0 < j {
-        j = j - 1;
+    for j in (0..m).rev() {
         i = place(b, i, src, j);
     }
 }

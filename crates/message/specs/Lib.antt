@@ -1,4 +1,4 @@
--- `Message` has the templates and says what they stand for; `Table` and `Plain` lay them out for the code.
+-- `Message` has the templates and says what they stand for; `Table` and `Pieces` lay them out for the code.
 pub mod Message
 pub mod Table
-pub mod Plain
+pub mod Pieces

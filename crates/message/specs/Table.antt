@@ -1,4 +1,4 @@
--- The templates as the program writes them, a note on a line of its own; `flatten table` is all of them one after the other, as runs without a mark are listed. These are definitions.
+-- The templates as the program writes them, a note on a line of its own. These are definitions.
 use Rattle.std.specs.Prelude.{ℕ, List, ◌++◌, map}
 use Rattle.text.specs.Text.{ascii}
 use Rattle.message.specs.Message.{Template, error, error_with_note, templates}

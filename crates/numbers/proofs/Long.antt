@@ -4,10 +4,10 @@ use lib.Ieee.{Float, nan, inf, fin, up, down}
 use lib.Ieee.Fits.{down_pos}
 use lib.Ieee.Exact.{HasValue}
 use Rattle.numbers.specs.declared.Halves.{Halves}
-use Rattle.numbers.specs.declared.Whole.TheVariants.{At, Out}
 use Rattle.numbers.specs.Numbers.{near, whole_of, signed, within, pick_whole, long_of, PartsOf}
 use Rattle.numbers.proofs.Order.{near_same, near_ge}
 use Rattle.numbers.proofs.Value.{quot_ge}
+use Rattle.std.specs.Prelude.{Some, None}
 
 -- of a value a / c
 pub whole_value : (h : Halves) (x : Float) (s : Bool) (a c : ℕ) → 0 < c → HasValue x s a c → whole_of h x ≡ signed s (near h a c)
@@ -54,15 +54,15 @@ out_any true n h = out_neg n h
 out_any false n h = out_pos n (omega arith)
 
 -- a whole number in the range is the answer
-pub long_in : (h : Halves) (x : Float) (z : ℤ) → whole_of h x ≡ z → within 31 z ≡ true → At z ≡ long_of h x
-long_in h x z e w = sym (ap (λ (y : ℤ). pick_whole (within 31 y) (At y) Out) e ∙ ap (λ (b : Bool). pick_whole b (At z) Out) w)
+pub long_in : (h : Halves) (x : Float) (z : ℤ) → whole_of h x ≡ z → within 31 z ≡ true → Some z ≡ long_of h x
+long_in h x z e w = sym (ap (λ (y : ℤ). pick_whole (within 31 y) (Some y) None) e ∙ ap (λ (b : Bool). pick_whole b (Some z) None) w)
 
--- one outside is Out
-pub long_out : (h : Halves) (x : Float) (z : ℤ) → whole_of h x ≡ z → within 31 z ≡ false → Out ≡ long_of h x
-long_out h x z e w = sym (ap (λ (y : ℤ). pick_whole (within 31 y) (At y) Out) e ∙ ap (λ (b : Bool). pick_whole b (At z) Out) w)
+-- one outside is None
+pub long_out : (h : Halves) (x : Float) (z : ℤ) → whole_of h x ≡ z → within 31 z ≡ false → None ≡ long_of h x
+long_out h x z e w = sym (ap (λ (y : ℤ). pick_whole (within 31 y) (Some y) None) e ∙ ap (λ (b : Bool). pick_whole b (Some z) None) w)
 
 -- so is any float with an exponent above 1055
-pub long_far : (h : Halves) (x : Float) (s : Bool) (exp sig : ℕ) → 1055 < exp → PartsOf x s exp sig → Out ≡ long_of h x
+pub long_far : (h : Halves) (x : Float) (s : Bool) (exp sig : ℕ) → 1055 < exp → PartsOf x s exp sig → None ≡ long_of h x
 long_far h x s exp sig l p =
     long_out h x (signed s (near h (sig * 2 ^ exp) (2 ^ 1074))) (whole_value h x s (sig * 2 ^ exp) (2 ^ 1074) (pow_pos 1074) p.value)
     (out_any s (near h (sig * 2 ^ exp) (2 ^ 1074))

@@ -45,14 +45,6 @@ compare_is o a b h = one (compare a b) o a b (cmp a b) h
 pub near_lt : (h : Halves) (a b : ℕ) → a % b * 2 < b → near h a b ≡ a / b
 near_lt h a b k = ap (λ (o : Ordering). by_half h (a / b) o) (compare_is Ordering.lt (a % b * 2) b k)
 
--- exactly half: by the rule for halves
-pub near_eq : (h : Halves) (a b : ℕ) → a % b * 2 ≡ b → near h a b ≡ half_of h (a / b)
-near_eq h a b k = ap (λ (o : Ordering). by_half h (a / b) o) (compare_is Ordering.eq (a % b * 2) b k)
-
--- more than half: the next
-pub near_gt : (h : Halves) (a b : ℕ) → b < a % b * 2 → near h a b ≡ suc (a / b)
-near_gt h a b k = ap (λ (o : Ordering). by_half h (a / b) o) (compare_is Ordering.gt (a % b * 2) b k)
-
 -- ---- scaled
 cmp_scale : (o : Ordering) (a b k : ℕ) → 0 < k → Cmp o a b → Cmp o (a * k) (b * k)
 cmp_scale Ordering.lt a b k K h = mul-lt-mul_of_pos_right h K

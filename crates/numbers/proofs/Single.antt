@@ -10,10 +10,10 @@ use lib.Ieee.Exact.{HasValue, units_val}
 use lib.Ieee.Nearest.{closest, closest_same}
 use lib.Ieee.Scale.{round_same}
 use Rattle.numbers.specs.declared.Halves.TheVariants.{Even}
-use Rattle.numbers.specs.declared.Narrow.TheVariants.{To}
 use Rattle.numbers.specs.Numbers.{near, narrowed, finite_to, PartsOf}
 use Rattle.numbers.proofs.Order.{near_even, near_le, near_ge}
 use Rattle.numbers.proofs.Value.{pows, size_is, quot_ge, quot_lt}
+use Rattle.std.specs.Prelude.{Some}
 
 -- ---- of a value a / c
 -- narrowed, it is the fraction rounded to 32 bits
@@ -200,7 +200,7 @@ single_finite x s exp sig p b =
     (units_val binary32 s q k (under q k (kept_le exp sig p.small) (λ h. kept_ge exp sig h p.lead) b))
 
 -- a float that has a value is finite
-pub finite_to_lem : (x : Float) (s : Bool) (a c : ℕ) → HasValue x s a c → To x ≡ finite_to x
+pub finite_to_lem : (x : Float) (s : Bool) (a c : ℕ) → HasValue x s a c → Some x ≡ finite_to x
 finite_to_lem nan s a c v = absurd v
 finite_to_lem (inf t) s a c v = absurd v
 finite_to_lem (fin t m e) s a c v = refl

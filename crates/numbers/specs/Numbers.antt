@@ -1,6 +1,6 @@
 -- Narrowing, rounding and whole numbers as floats, on the exact values of IEEE 754. Definitions only.
 -- A finite float is `fin s m e`, the number m * 2 ^ e = m * up e / down e, negative where s is true.
-use Rattle.std.specs.Prelude.{ℕ, suc, ◌+◌, ◌-◌, ◌*◌, ◌/◌, ◌%◌, ◌^◌, ◌<◌, ◌≤◌, Bool, true, false, cond, ℤ, pos, negsuc, neg_ℤ, nat_lt, Float}
+use Rattle.std.specs.Prelude.{ℕ, suc, ◌+◌, ◌-◌, ◌*◌, ◌/◌, ◌%◌, ◌^◌, ◌<◌, ◌≤◌, Bool, true, false, cond, ℤ, pos, negsuc, neg_ℤ, nat_lt, Float, Option, Some, None}
 use Prim.Native.Nat.{compare, Ordering}
 use Rattle.std.specs.Int.Signed.{mag}
 use Rattle.std.specs.Float.Ieee as Ieee
@@ -9,10 +9,6 @@ use Rattle.std.specs.Float.Ieee.{up, down}
 use Rattle.std.specs.Float.Ieee.Exact.{HasValue}
 use Rattle.numbers.specs.declared.Halves.{Halves}
 use Rattle.numbers.specs.declared.Halves.TheVariants.{Even}
-use Rattle.numbers.specs.declared.Whole.{Whole}
-use Rattle.numbers.specs.declared.Whole.TheVariants.{At, Out}
-use Rattle.numbers.specs.declared.Narrow.{Narrow}
-use Rattle.numbers.specs.declared.Narrow.TheVariants.{To, Over}
 
 -- ---- rounding to a whole number
 
@@ -46,13 +42,13 @@ abbrev pub within : ℕ → ℤ → Bool
 within k z = nat_lt (mag z) (2 ^ k)
 
 -- the first where the test holds, else the second
-abbrev pub pick_whole : Bool → Whole → Whole → Whole
+abbrev pub pick_whole : Bool → Option ℤ → Option ℤ → Option ℤ
 pick_whole true a b = a
 pick_whole false a b = b
 
 -- a float rounded, where the rounded number has 32 bits
-abbrev pub long_of : Halves → Float → Whole
-long_of h x = pick_whole (within 31 (whole_of h x)) (At (whole_of h x)) Out
+abbrev pub long_of : Halves → Float → Option ℤ
+long_of h x = pick_whole (within 31 (whole_of h x)) (Some (whole_of h x)) None
 
 -- ---- narrowing to 32 bits: to nearest, ties to even; an infinity where it is too large
 
@@ -62,14 +58,14 @@ narrowed nan = nan
 narrowed (inf s) = inf s
 narrowed (fin s m e) = Ieee.round binary32 s (m * up e) (down e)
 
--- a float that is finite, else Over
-abbrev pub finite_to : Float → Narrow
-finite_to nan = Over
-finite_to (inf s) = Over
-finite_to (fin s m e) = To (fin s m e)
+-- a float that is finite, else None
+abbrev pub finite_to : Float → Option Float
+finite_to nan = None
+finite_to (inf s) = None
+finite_to (fin s m e) = Some (fin s m e)
 
 -- narrowed, then tested
-abbrev pub narrow_of : Float → Narrow
+abbrev pub narrow_of : Float → Option Float
 narrow_of x = finite_to (narrowed x)
 
 -- ---- a whole number as a float of 64 bits (law `double_exact`: below 2 ^ 53 either way it is the same number)

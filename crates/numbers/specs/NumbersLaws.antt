@@ -1,5 +1,5 @@
 -- What users of the conversions rest on: which floats are finite, that whole numbers below 2 ^ 53 are floats exactly, and which two words are a finite float's.
-use Rattle.std.specs.Prelude.{◌≡◌, ℕ, zero, suc, ◌+◌, ◌-◌, ◌*◌, ◌/◌, ◌%◌, ◌^◌, ◌<◌, ◌≤◌, Bool, true, false, cond, not, T, ℤ, pos, negsuc, ◌+ℤ◌, ◌==◌, int_lt, unsigned_abs, refl, Float}
+use Rattle.std.specs.Prelude.{◌≡◌, ℕ, zero, suc, ◌+◌, ◌-◌, ◌*◌, ◌/◌, ◌%◌, ◌^◌, ◌<◌, ◌≤◌, Bool, true, false, cond, not, T, ℤ, pos, negsuc, ◌+ℤ◌, ◌==◌, int_lt, unsigned_abs, refl, Float, Option, Some, None}
 use Rattle.std.proofs.Common.{sym, ap, ◌∙◌, subst, le_trans, le_of_eq, lt_of_lt_of_le, mul-lt-mul_of_pos_right, mul-one, arith, ltb-true, le-ltb, ltb→lt, pow-add, pow_pos, pow_mono}
 use Rattle.std.specs.Int.Signed.{non_neg}
 use Rattle.std.specs.Float.{nan, inf, fin, binary64}
@@ -7,8 +7,6 @@ use Rattle.std.specs.Float.Ieee.{odd, of_fields, of_bits, of_int, is_nan, round}
 use Rattle.std.specs.Float.Ieee.Exact.{HasValue, round_exact}
 use Rattle.std.specs.Float.Ieee.Scale.{finite}
 use Rattle.numbers.specs.declared.Halves.{Halves}
-use Rattle.numbers.specs.declared.Whole.{Whole}
-use Rattle.numbers.specs.declared.Whole.TheVariants.{At, Out}
 use Rattle.numbers.specs.Numbers.{within, whole_of, long_of, pick_whole, double_of, of_words, bits_of}
 
 -- ---- finite floats
@@ -49,15 +47,15 @@ within_abs (pos n) t = let h = ltb→lt n 2147483648 t in omega arith
 within_abs (negsuc n) t = ltb→lt n 2147483648 t
 
 -- a whole number that was rounded is from -2147483648 to 2147483648
-abbrev pub Small : Whole → Type 0
-Small (At z) = unsigned_abs z ≤ 2147483648
-Small Out = Unit {0}
+abbrev pub Small : Option ℤ → Type 0
+Small (Some z) = unsigned_abs z ≤ 2147483648
+Small None = Unit {0}
 
 -- what `long_of` gives is so
 pub long_small : (h : Halves) (x : Float) → Small (long_of h x)
 long_small h x = go (within 31 (whole_of h x)) (within_abs (whole_of h x))
   where
-    go : (b : Bool) → (T b → unsigned_abs (whole_of h x) ≤ 2147483648) → Small (pick_whole b (At (whole_of h x)) Out)
+    go : (b : Bool) → (T b → unsigned_abs (whole_of h x) ≤ 2147483648) → Small (pick_whole b (Some (whole_of h x)) None)
     go true k = k tt
     go false k = tt
 

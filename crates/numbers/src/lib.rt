@@ -6,24 +6,13 @@ ghost use Rattle.std.specs.Float.{binary64};
 ghost use Rattle.std.specs.Float.Ieee.Scale.{finite};
 ghost use Rattle.numbers.specs.Numbers.{near, half_of, long_of, narrow_of, double_of, of_words, bits_of, whole_at, PartsOf};
 
-// Where the half between two whole numbers goes: the rule for ties is a parameter of every rounding here.
+use std::cmp::Ordering;
+
+// Where the half between two whole numbers goes: the rule for ties is a parameter of every rounding here. (An enum, though it has
+// one rule: contracts name the rule, which a closure would hide.)
 #[derive(Clone, Copy)]
 pub enum Halves {
     Even,
-}
-
-// A whole number of 32 bits, or that it is out of range.
-#[derive(Clone, Copy)]
-pub enum Whole {
-    At(i64),
-    Out,
-}
-
-// A float that 32 bits hold, or that it isn't finite any more.
-#[derive(Clone, Copy)]
-pub enum Narrow {
-    To(f64),
-    Over,
 }
 
 // A finite f64 is sig * 2 ^ exp of the smallest positive one, 2 ^ -1074.
@@ -50,14 +39,11 @@ fn near_ratio(h: Halves, n: u64, d: u64) -> u64
     ensures { result ≡ near h n d }
 {
     let q = n / d;
-    let t = (n % d) * 2;
-    if t < d {
-        return q;
+    match (n % d * 2).cmp(&d) {
+        Ordering::Less => q,
+        Ordering::Equal => at_half(h, q),
+        Ordering::Greater => q + 1,
     }
-    if d < t {
-        return q + 1;
-    }
-    at_half(h, q)
 }
 
 // The whole number nearest to sig / 2 ^ shift: from 55 places on it is below a half.
@@ -81,47 +67,37 @@ fn take_apart(x: f64) -> Parts
     let field = b % 9223372036854775808 / 4503599627370496;
     let t = b % 4503599627370496;
     if field == 0 {
-        return Parts {
+        Parts {
             neg,
             exp: 0,
             sig: t,
-        };
-    }
-    Parts {
-        neg,
-        exp: field - 1,
-        sig: 4503599627370496 + t,
+        }
+    } else {
+        Parts {
+            neg,
+            exp: field - 1,
+            sig: 4503599627370496 + t,
+        }
     }
 }
 
 // x rounded to a whole number, its range tested after rounding. An exponent above 1055 is 2 ^ 33 or more.
-pub fn to_long(h: Halves, x: f64) -> Whole
+pub fn to_long(h: Halves, x: f64) -> Option<i64>
     requires { T (finite x) }
     ensures { result ≡ long_of h x }
 {
     let p = take_apart(x);
     let exp = p.exp;
     if exp > 1055 {
-        return Whole::Out;
+        return None;
     }
     let n = near_shift(h, p.sig, 1074 - exp);
-    if p.neg {
-        if n > 2147483648 {
-            return Whole::Out;
-        }
-        return Whole::At(0 - (n as i64));
+    // one more below 0 than above it
+    if n > 2147483647 + u64::from(p.neg) {
+        return None;
     }
-    if n > 2147483647 {
-        return Whole::Out;
-    }
-    Whole::At(n as i64)
-}
-
-// How far the exponent lies above that of 32 bits' smallest normal numbers: 0 for those that are subnormal there.
-fn spare(exp: u64) -> u64
-    ensures { result ≡ exp - 896 }
-{
-    if exp >= 896 { exp - 896 } else { 0 }
+    let z = n as i64;
+    Some(if p.neg { -z } else { z })
 }
 
 fn sign_bit(neg: bool) -> u64
@@ -131,22 +107,23 @@ fn sign_bit(neg: bool) -> u64
 }
 
 // x narrowed to 32 bits, given back at 64. The leading digit, and a carry out of the digits, run into the exponent's field by themselves.
-pub fn to_single(x: f64) -> Narrow
+pub fn to_single(x: f64) -> Option<f64>
     requires { T (finite x) }
     ensures { result ≡ narrow_of x }
 {
     let p = take_apart(x);
     let exp = p.exp;
     if exp >= 1150 {
-        return Narrow::Over;
+        return None;
     }
-    let k = spare(exp);
+    // how far the exponent lies above that of 32 bits' smallest normal numbers: 0 for those that are subnormal there
+    let k = exp.saturating_sub(896);
     let q = near_shift(Halves::Even, p.sig, 925 + k - exp);
     let b = k * 8388608 + q;
     if b >= 2139095040 {
-        return Narrow::Over;
+        return None;
     }
-    Narrow::To(f32::from_bits((sign_bit(p.neg) + b) as u32) as f64)
+    Some(f32::from_bits((sign_bit(p.neg) + b) as u32) as f64)
 }
 
 // A whole number as a float, exact up to 2 ^ 53 either way.
@@ -156,39 +133,53 @@ pub fn to_double(z: i64) -> f64
     std::num::nearest_i64_to_f64(z)
 }
 
+// By two comparisons: the library's `is_finite` promises the same by another definition than the contracts here cite.
 pub fn is_finite(x: f64) -> bool
     ensures { result ≡ finite x }
 {
     let top = f64::from_bits(0x7ff0_0000_0000_0000);
-    if x < top {
-        return -top < x;
-    }
-    false
+    x < top && -top < x
 }
 
 // 64 bits as two words, the low first.
-#[derive(Clone, Copy)]
+#[derive(Clone, Copy, Debug, PartialEq, Eq)]
 pub struct TwoWords {
     pub low: u32,
     pub high: u32,
 }
 
+impl From<u64> for TwoWords {
+    ghost from_gives = { λ n w. (w.low ≡ n % 4294967296) × (w.high ≡ n / 4294967296) };
+
+    fn from(bits: u64) -> TwoWords {
+        TwoWords {
+            low: (bits % 4294967296) as u32,
+            high: (bits / 4294967296) as u32,
+        }
+    }
+}
+
+impl From<TwoWords> for u64 {
+    ghost from_gives = { λ w n. n ≡ w.high * 4294967296 + w.low };
+
+    fn from(words: TwoWords) -> u64 {
+        u64::from(words.high) * 4294967296 + u64::from(words.low)
+    }
+}
+
+// A float's words and back: no From, since both ask for a finite float.
 pub fn words_of(x: f64) -> TwoWords
     requires { T (finite x) }
     ensures { (result.low ≡ to_bits binary64 x % 4294967296) × (result.high ≡ to_bits binary64 x / 4294967296) }
 {
-    let b = f64::to_bits(x);
-    TwoWords {
-        low: (b % 4294967296) as u32,
-        high: (b / 4294967296) as u32,
-    }
+    TwoWords::from(x.to_bits())
 }
 
 pub fn of_words(low: u32, high: u32) -> f64
     requires { T (finite (of_words low high)) }
     ensures { result ≡ of_words low high }
 {
-    f64::from_bits((high as u64) * 4294967296 + (low as u64))
+    f64::from_bits(u64::from(TwoWords { low, high }))
 }
 
 // A whole number's words, two's complement.
@@ -196,25 +187,12 @@ pub fn whole_words(z: i64) -> TwoWords
     requires { unsigned_abs z < 4294967296 }
     ensures { (result.low ≡ bits_of z % 4294967296) × (result.high ≡ bits_of z / 4294967296) }
 {
-    if z < 0 {
-        return TwoWords {
-            low: (z + 4294967296) as u32,
-            high: 4294967295,
-        };
-    }
-    TwoWords {
-        low: z as u32,
-        high: 0,
-    }
+    TwoWords::from(z.cast_unsigned())
 }
 
 // And back.
 pub fn of_whole_words(low: u32, high: u32) -> i64
     ensures { result ≡ whole_at low high }
 {
-    let n = (high as u64) * 4294967296 + (low as u64);
-    if high < 2147483648 {
-        return n as i64;
-    }
-    -1 - ((18446744073709551615 - n) as i64)
+    u64::from(TwoWords { low, high }).cast_signed()
 }

@@ -3,7 +3,8 @@ use Prim.Native.Nat.{ℕ, ◌+◌, ◌<◌, ◌≤◌}
 use native.Mathlib.Omega.{arith}
 use mathlib.Core.Path.{◌≡◌, refl, sym, ap, ◌∙◌}
 use mathlib.Core.List.{List, [], ◌∷◌, append-nil}
-use mathlib.Core.Option.{none as absent, some}
+use mathlib.Core.Option.{Option, none as absent, some}
+use Rattle.std.specs.Prelude.{None, Some}
 use lib.Dec.{lit<}
 use lib.ListN.{length, get_or}
 use Rattle.words.specs.Word.{word_of, kind_of, pay_of}
@@ -14,8 +15,8 @@ use Rattle.tree.specs.Sorts.{TypeRef as TypeSort, opt, nil, ◌&◌}
 use Rattle.tree.specs.Tree.{Tree, one, word, part, this, that, done, cons, words_t, Right}
 use Rattle.tree.specs.Stands.{Stands, SomeTree}
 use Rattle.views.specs.View.{TypeRef, Integer, Long, Single, Double, FixedString, Record, head, arg, head_of, arg_of, optional, type_ref, as_type}
-use Rattle.parts.specs.Parts.{TypeIs, AsTypeIs}
-use Rattle.parts.specs.declared.TypeAt.{TypeAt}
+use Rattle.lookup.specs.declared.Typed.{Typed}
+use Rattle.parts.specs.Parts.{TypeIs, AsTypeIs, written, written_if, head_word, arg_word}
 
 -- the head alone up to 43, with an argument from 44 on
 pub record Here (ws : List ℕ) (at : ℕ) (t : TypeRef) (end : ℕ) : Type 0 where
@@ -49,6 +50,10 @@ module _ {ws : List ℕ} {at end : ℕ} where
   here (that (that (that (that (that (this (cons (word x) done))))))) s = pair 45 2 x (Record x) refl refl (λ h. omega arith) s.valid.0.1 s.wrote
   here {ns = ns} {n = n} (that (that (that (that (that (that x)))))) s = elim x [ ]
 
+-- a type by its head and its argument
+made_of : {h a : ℕ} (t : TypeRef) → h ≡ head t → a ≡ arg t → ◌≡◌ {A = Typed} (record { head = h; arg = a }) (written t)
+made_of t e f = rw (e, f) refl
+
 -- what `type_ref` tells
 module _ {ws : List ℕ} {at : ℕ} where
   -- a head from 44 on has a word after it
@@ -56,12 +61,21 @@ module _ {ws : List ℕ} {at : ℕ} where
   type_second h S = ((here S.tree S.stands).long h).0
 
   -- a head below 44 is all
-  pub type_short : kind_of (get_or ws at 0) < 44 → TypeIs ws at (record { head = kind_of (get_or ws at 0); arg = 0; next = at + 1 })
-  type_short h = record { is = λ ns n v end s. let p = here v s in (p.head_is_lem, sym (p.short h).0, (p.short h).1); small = lit< tt }
+  pub type_short : kind_of (get_or ws at 0) < 44 → TypeIs ws at (record { head = kind_of (get_or ws at 0); arg = 0 }) (at + 1)
+  type_short h = record { is = λ ns n v end s. let p = here v s in (made_of (type_ref v) p.head_is_lem (sym (p.short h).0), (p.short h).1); small = lit< tt }
 
   -- one from 44 on has its argument after it
-  pub type_long : 44 ≤ kind_of (get_or ws at 0) → TypeIs ws at (record { head = kind_of (get_or ws at 0); arg = pay_of (get_or ws (at + 1) 0); next = at + 2 })
-  type_long h = record { is = λ ns n v end s. let p = here v s in (p.head_is_lem, (p.long h).1, (p.long h).2); small = omega arith }
+  pub type_long : 44 ≤ kind_of (get_or ws at 0) → TypeIs ws at (record { head = kind_of (get_or ws at 0); arg = pay_of (get_or ws (at + 1) 0) }) (at + 2)
+  type_long h = record { is = λ ns n v end s. let p = here v s in (made_of (type_ref v) p.head_is_lem (p.long h).1, (p.long h).2); small = omega arith }
+
+-- the words of a type in a row are its head and its argument
+pub head_written : (o : Option TypeRef) → head_word (written_if o) ≡ head_of o
+head_written absent = refl
+head_written (some t) = refl
+
+pub arg_written : (o : Option TypeRef) → arg_word (written_if o) ≡ arg_of o
+arg_written absent = refl
+arg_written (some t) = refl
 
 -- an AS clause is the word 0, or a type, whose head is never 0
 pub head_some : (t : TypeRef) → 0 < head t
@@ -107,17 +121,17 @@ module _ {ws : List ℕ} {at : ℕ} where
       let p = as_present S.tree z S.stands in
       record { names = S.names; strings = S.strings; tree = p.inner; end = S.end; stands = p.there }
 
-  -- the word 0: head and argument 0
-  pub as_none : get_or ws at 0 ≡ 0 → AsTypeIs ws at (record { head = 0; arg = 0; next = at + 1 })
-  as_none z = record { is = λ ns n v end s. let p = as_absent v z s in (ap head_of (sym p.0), ap arg_of (sym p.0), p.1); small = lit< tt }
+  -- the word 0: no type
+  pub as_none : get_or ws at 0 ≡ 0 → AsTypeIs ws at None (at + 1)
+  as_none z = record { is = λ ns n v end s. let p = as_absent v z s in (ap written_if (sym p.0), p.1); small = lit< tt }
 
   -- any other: what `type_ref` tells
-  pub as_some : {r : TypeAt} → (get_or ws at 0 ≡ 0 → ⊥) → TypeIs ws at r → AsTypeIs ws at r
+  pub as_some : {t : Typed} {next : ℕ} → (get_or ws at 0 ≡ 0 → ⊥) → TypeIs ws at t next → AsTypeIs ws at (Some t) next
   as_some z T =
       record {
         is = λ ns n v end s.
             let p = as_present v z s in
-            let t = T.is ns n p.inner end p.there in
-            (t.0 ∙ ap head_of (sym p.is), t.1 ∙ ap arg_of (sym p.is), t.2);
+            let q = T.is ns n p.inner end p.there in
+            (ap Some q.0 ∙ ap written_if (sym p.is), q.1);
         small = T.small;
       }

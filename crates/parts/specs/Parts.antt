@@ -1,24 +1,42 @@
 -- What readers of parts tell, of whatever tree stands at the place. Definitions only.
-use Rattle.std.specs.Prelude.{ℕ, ◌<◌, ◌≡◌, true, List, eqb, get_or}
+use Rattle.std.specs.Prelude.{ℕ, ◌<◌, ◌≡◌, true, List, eqb, get_or, Option as RustOption, None, Some}
+use Rattle.std.proofs.Math.Option.{Option, none, some}
 use Rattle.strings.specs.Table.{sound, names_of}
 use Rattle.expr.specs.Expr.{Expr}
 use Rattle.tree.specs.Sorts.{TypeRef as TypeSort, opt, nil, ◌&◌}
 use Rattle.tree.specs.Tree.{Tree, one}
 use Rattle.tree.specs.Stands.{Stands}
-use Rattle.views.specs.View.{head, arg, head_of, arg_of, optional, type_ref, as_type}
-use Rattle.parts.specs.declared.TypeAt.{TypeAt}
+use Rattle.lookup.specs.declared.Typed.{Typed}
+use Rattle.views.specs.View.{TypeRef, head, arg, optional, type_ref, as_type}
+
+-- a type as a row has it
+abbrev pub written : TypeRef → Typed
+written t = record { head = head t; arg = arg t }
+
+-- or none
+abbrev pub written_if : Option TypeRef → RustOption Typed
+written_if none = None
+written_if (some t) = Some (written t)
+
+-- its two words in a row, 0 where there is none
+abbrev pub head_word : RustOption Typed → ℕ
+head_word None = 0
+head_word (Some t) = t.head
+
+-- the argument
+abbrev pub arg_word : RustOption Typed → ℕ
+arg_word None = 0
+arg_word (Some t) = t.arg
 
 -- the type there, and the place past it
-pub record TypeIs (ws : List ℕ) (at : ℕ) (r : TypeAt) : Type 0 where
-  pub is : (ns : List ℕ) (n : ℕ) (v : Tree Expr (one TypeSort)) (end : ℕ) → Stands ws ns n at v end
-      → (r.head ≡ head (type_ref v)) × (r.arg ≡ arg (type_ref v)) × (r.next ≡ end)
-  pub small : r.arg < 16777216
+pub record TypeIs (ws : List ℕ) (at : ℕ) (t : Typed) (next : ℕ) : Type 0 where
+  pub is : (ns : List ℕ) (n : ℕ) (v : Tree Expr (one TypeSort)) (end : ℕ) → Stands ws ns n at v end → (t ≡ written (type_ref v)) × (next ≡ end)
+  pub small : t.arg < 16777216
 
 -- the AS clause there, if any
-pub record AsTypeIs (ws : List ℕ) (at : ℕ) (r : TypeAt) : Type 0 where
-  pub is : (ns : List ℕ) (n : ℕ) (v : Tree Expr (one (opt (TypeSort & nil)))) (end : ℕ) → Stands ws ns n at v end
-      → (r.head ≡ head_of (optional as_type v)) × (r.arg ≡ arg_of (optional as_type v)) × (r.next ≡ end)
-  pub small : r.arg < 16777216
+pub record AsTypeIs (ws : List ℕ) (at : ℕ) (t : RustOption Typed) (next : ℕ) : Type 0 where
+  pub is : (ns : List ℕ) (n : ℕ) (v : Tree Expr (one (opt (TypeSort & nil)))) (end : ℕ) → Stands ws ns n at v end → (t ≡ written_if (optional as_type v)) × (next ≡ end)
+  pub small : arg_word t < 16777216
 
 -- the string of that number is a name, and the strings are sound
 pub record NameAt (bytes ends : List ℕ) (name : ℕ) : Type 0 where

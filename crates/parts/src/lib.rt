@@ -9,62 +9,52 @@ ghost use Rattle.tree.specs.Tree.{one};
 ghost use Rattle.tree.specs.Stands.{SomeTree};
 ghost use Rattle.views.specs.View.{TypeRef, head as head_of_type};
 ghost use Rattle.collect.specs.Collect.{last_of, disagrees};
-ghost use Rattle.parts.specs.Parts.{TypeIs, AsTypeIs, NameAt};
+ghost use Rattle.parts.specs.Parts.{TypeIs, AsTypeIs, NameAt, head_word, arg_word};
 
-// A type as a row has it: its head's kind and its argument, 0 if it has none, and the place past it. Head 0, argument 0: there is none.
-#[derive(Clone, Copy)]
-pub struct TypeAt {
-    pub head: u32,
-    pub arg: u32,
-    pub next: usize,
-}
+use lookup::Typed;
 
-// The type at a place. Strings of a fixed length and records have an argument.
-pub fn type_ref(words: &[u32], at: usize) -> TypeAt
+// The type at a place, and the place past it. Strings of a fixed length and records have an argument; any other type has 0.
+pub fn type_ref(words: &[u32], at: usize) -> (Typed, usize)
     requires { SomeTree (one TypeSort) words.now at }
-    ensures { TypeIs words.now at result }
+    ensures { TypeIs words.now at result.0 result.1 }
 {
-    let k = words[at] / 16777216;
-    if k < 44 {
-        return TypeAt {
-            head: k,
-            arg: 0,
-            next: at + 1,
-        };
+    let head = words[at] / 16777216;
+    if head < 44 {
+        return (Typed { head, arg: 0 }, at + 1);
     }
-    TypeAt {
-        head: k,
-        arg: words[at + 1] % 16777216,
-        next: at + 2,
-    }
+    let arg = words[at + 1] % 16777216;
+    (Typed { head, arg }, at + 2)
 }
 
-// The AS clause at a place, where there is one: the word 0 where not.
-pub fn as_type(words: &[u32], at: usize) -> TypeAt
+// The type of the AS clause at a place, if one stands there, and the place past it. The word 0 stands for none.
+pub fn as_type(words: &[u32], at: usize) -> (Option<Typed>, usize)
     requires { SomeTree (one (opt (TypeSort & nil))) words.now at }
-    ensures { AsTypeIs words.now at result }
+    ensures { AsTypeIs words.now at result.0 result.1 }
 {
     if words[at] == 0 {
-        return TypeAt {
-            head: 0,
-            arg: 0,
-            next: at + 1,
-        };
+        return (None, at + 1);
     }
-    type_ref(words, at)
+    let (ty, next) = type_ref(words, at);
+    (Some(ty), next)
 }
 
-// One of % & ! # $.
+// A type's two words in a row: both are 0 where there is none.
+pub fn row_words(ty: Option<Typed>) -> (u32, u32)
+    ensures head { result.0 ≡ head_word ty }
+    ensures arg { result.1 ≡ arg_word ty }
+{
+    match ty {
+        Some(t) => (t.head, t.arg),
+        None => (0, 0),
+    }
+}
+
+// One of % & ! # $. Crate `strings` has the same test for itself alone: a public one would be one more promise, for a test of one line.
+#[tactic(auto, unfolding(strings::specs::Name::suffix, strings::specs::Name::between))]
 fn is_suffix(b: u8) -> bool
     ensures { result ≡ suffix b }
 {
-    if b == 33 {
-        return true;
-    }
-    if b < 35 {
-        return false;
-    }
-    b <= 38
+    matches!(b, b'!' | b'#'..=b'&')
 }
 
 // Whether a name ends in a suffix of another type than the one with this head. A record counts as a double.
@@ -73,8 +63,5 @@ pub fn differs(bytes: &[u8], ends: &[u32], name: u32, head: u32) -> bool
     ensures { (ty : TypeRef) → head ≡ head_of_type ty → result ≡ disagrees (last_of (string_at bytes.now ends.now name)) ty }
 {
     let last = leaves::last_byte(bytes, ends, name);
-    if !is_suffix(last) {
-        return false;
-    }
-    lookup::from_type_ref(head) != lookup::from_suffix(last)
+    is_suffix(last) && lookup::from_type_ref(head) != lookup::from_suffix(last)
 }

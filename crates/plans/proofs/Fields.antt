@@ -224,10 +224,6 @@ clear_opt r L h =
     let e : r + 16 - 16 ≡ r = omega arith in
     ap clear (sym (sort_opt (r + 16) (omega arith) (omega arith) ∙ ap (λ (x : ℕ). opt (row_of x)) e)) ∙ clear_listed L
 
--- the number of an option's row, from the option's
-pub relisted : {k r : ℕ} → 16 ≤ k → r ≡ k - 16 → Listed k → Listed (r + 16)
-relisted {k} {r} h q L = let e : r + 16 ≡ k = omega arith in record { row = L.row; place = L.place; is = e ∙ L.is }
-
 -- one less
 pub down : (k : ℕ) {n : ℕ} → n < suc k → (n ≡ k → ⊥) → n < k
 down k h f = omega arith

@@ -1,6 +1,6 @@
 -- Rows of so many words each, in which neither an expression nor a statement stands: a list of them is nothing but words. Assumes nothing.
-use Prim.Native.Nat.{ℕ, ◌+◌, ◌*◌, ◌%◌, ◌≤◌, max}
-use native.Mathlib.Nat.{mul-le-mul_left, add-mul, one-mul, zero-mul}
+use Prim.Native.Nat.{ℕ, ◌+◌, ◌*◌, ◌<◌, ◌≤◌, max}
+use native.Mathlib.Nat.{add-mul, one-mul, zero-mul}
 use native.Mathlib.Omega.{arith}
 use mathlib.Core.Path.{◌≡◌, refl, sym, ap, ap₂, subst, ◌∙◌}
 use mathlib.Core.List.{List, ◌∷◌, ◌++◌, append-nil}
@@ -17,13 +17,15 @@ use Rattle.tree.specs.Codes.{parts, all_rows, row_of}
 use Rattle.tree.proofs.Steps.{small_row}
 use Rattle.plans.specs.Pieces.{pieces, written}
 use Rattle.plans.specs.Plans.{Opened, Planned, Plain, Flat}
+use mathlib.Core.Logic.{⊎_elim}
+use Rattle.expr.proofs.Steps.{either}
 
 -- ---- the rows that are flat, by their numbers
 
 -- a name
 pub flat_names : {r : ℕ} → r ≡ 2 → Flat r 1
 unfolding row_of all_rows parts words_t pieces written depth_t
-flat_names q = subst (λ (x : ℕ). Flat x 1) (sym q) (record { small = omega arith; plain = λ h v. go v })
+flat_names q = subst (λ (x : ℕ). Flat x 1) (sym q) (record { small = omega arith; plain = go })
   where
     go : (v : Tree Expr (row (row_of 2))) → Plain 1 v
     go (cons (word x) done) = record { wide = refl; is = refl; same = λ g. refl; deep = refl }
@@ -31,7 +33,7 @@ flat_names q = subst (λ (x : ℕ). Flat x 1) (sym q) (record { small = omega ar
 -- a target of ON GOTO: a head, then a line's number or a label
 pub flat_targets : {r : ℕ} → r ≡ 7 → Flat r 2
 unfolding row_of all_rows parts words_t pieces written depth_t
-flat_targets q = subst (λ (x : ℕ). Flat x 2) (sym q) (record { small = omega arith; plain = λ h v. go v })
+flat_targets q = subst (λ (x : ℕ). Flat x 2) (sym q) (record { small = omega arith; plain = go })
   where
     go : (v : Tree Expr (row (row_of 7))) → Plain 2 v
     go (cons (this (cons (word x) done)) done) = record { wide = refl; is = refl; same = λ g. refl; deep = refl }
@@ -41,7 +43,7 @@ flat_targets q = subst (λ (x : ℕ). Flat x 2) (sym q) (record { small = omega 
 -- an item of DATA
 pub flat_items : {r : ℕ} → r ≡ 15 → Flat r 2
 unfolding row_of all_rows parts words_t pieces written depth_t
-flat_items q = subst (λ (x : ℕ). Flat x 2) (sym q) (record { small = omega arith; plain = λ h v. go v })
+flat_items q = subst (λ (x : ℕ). Flat x 2) (sym q) (record { small = omega arith; plain = go })
   where
     go : (v : Tree Expr (row (row_of 15))) → Plain 2 v
     go (cons (word x) (cons (word y) done)) = record { wide = refl; is = refl; same = λ g. refl; deep = refl }
@@ -49,14 +51,14 @@ flat_items q = subst (λ (x : ℕ). Flat x 2) (sym q) (record { small = omega ar
 -- a range of letters
 pub flat_ranges : {r : ℕ} → r ≡ 16 → Flat r 2
 unfolding row_of all_rows parts words_t pieces written depth_t
-flat_ranges q = subst (λ (x : ℕ). Flat x 2) (sym q) (record { small = omega arith; plain = λ h v. go v })
+flat_ranges q = subst (λ (x : ℕ). Flat x 2) (sym q) (record { small = omega arith; plain = go })
   where
     go : (v : Tree Expr (row (row_of 16))) → Plain 2 v
     go (cons (word x) (cons (word y) done)) = record { wide = refl; is = refl; same = λ g. refl; deep = refl }
 
--- of all others nothing is told
-pub not_flat : (r : ℕ) → Flat r 0
-not_flat r = record { small = omega arith; plain = λ h v. absurd (h refl) }
+-- 15 and 16
+pub flat_pairs : {r : ℕ} → 15 ≤ r → r < 17 → Flat r 2
+flat_pairs {r} a b = ⊎_elim flat_items flat_ranges (either 15 r a b)
 
 -- ---- several such rows
 
@@ -79,14 +81,14 @@ words_there : {ws xs : List ℕ} {at end c : ℕ} → Wrote ws at xs end → len
 words_there {ws} {xs} {at} {end} {c} w q = ap (λ (l : List ℕ). take c l) w.is ∙ ap (λ (i : ℕ). take i (xs ++ drop end ws)) (sym q) ∙ take-append_seam xs (drop end ws)
 
 -- a list of them is its words
-pub plan_flat : (ws : List ℕ) (at r w : ℕ) → Flat r w → (w ≡ 0 → ⊥) → Planned (many (row_of r)) ws at (1 + pay_of (get_or ws at 0) * w) 0 0
+pub plan_flat : (ws : List ℕ) (at r w : ℕ) → Flat r w → Planned (many (row_of r)) ws at (1 + pay_of (get_or ws at 0) * w) 0 0
 unfolding words_t pieces written depth_t count Right
-plan_flat ws at r w F h = record { opens = λ ns n v end s. go ns n v end s; falls = omega (arith, small_row 0) }
+plan_flat ws at r w F = record { opens = λ ns n v end s. go ns n v end s; falls = omega (arith, small_row 0) }
   where
     go : (ns : List ℕ) (n : ℕ) (v : Tree Expr (one (many (row_of r)))) (end : ℕ) → Stands ws ns n at v end → Opened ws ns n at end v (1 + pay_of (get_or ws at 0) * w) 0 0
     go ns n (list rs) end s =
         let f = wrote_first s.wrote in
-        let p = plain_rows w (F.plain h) rs in
+        let p = plain_rows w F.plain rs in
         let k : count rs * w ≡ pay_of (get_or ws at 0) * w = ap (λ (x : ℕ). x * w) (sym (ap pay_of f.is ∙ pay_is 1 (count rs) s.valid.0)) in
         let c : length (words_t (list rs)) ≡ 1 + pay_of (get_or ws at 0) * w = omega (arith, p.wide, k) in
         let e : end ≡ at + (1 + pay_of (get_or ws at 0) * w) = omega (arith, s.wrote.span, c) in
@@ -98,7 +100,3 @@ plan_flat ws at r w F h = record { opens = λ ns n v end s. go ns n v end s; fal
           after = λ g. ap (λ (l : List ℕ). word_of 1 (count rs) ∷ l) (p.same g) ∙ sym (append-nil (take (1 + pay_of (get_or ws at 0) * w) (drop at ws)) ∙ words_there s.wrote c);
           deep = p.deep;
         }
-
--- and they are few enough to be counted
-pub flat_fits : {r w : ℕ} (x : ℕ) → Flat r w → x % 16777216 * w ≤ 33554432
-flat_fits x F = omega (arith, mul-le-mul_left (x % 16777216) F.small)

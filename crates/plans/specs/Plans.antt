@@ -31,10 +31,10 @@ pub record Plain (w : ℕ) {i : Shape} (v : Tree Expr i) : Type 0 where
   pub same : (g : Piece Expr → List ℕ) → written g v ≡ words_t v
   pub deep : depth_t v ≡ 0
 
--- w is 0, or every tree of the row is plain and has w words
+-- every tree of the row is plain and has w words, at most two
 pub record Flat (r w : ℕ) : Type 0 where
   pub small : w ≤ 2
-  pub plain : (w ≡ 0 → ⊥) → (v : Tree Expr (row (row_of r))) → Plain w v
+  pub plain : (v : Tree Expr (row (row_of r))) → Plain w v
 
 -- a sort of the table of fields
 pub record Listed (sort : ℕ) : Type 0 where

@@ -1,7 +1,7 @@
 // What a field of a statement is, by its sort: some words and then rows of fields; and the scope of its bodies. A walk over statements of all kinds goes by it.
 #![tactic(auto)]
 
-ghost use Rattle.std.specs.Prelude.{◌+◌, ◌≤◌, ◌<◌, ◌≢◌, take, drop};
+ghost use Rattle.std.specs.Prelude.{◌+◌, ◌≤◌, ◌<◌, ◌≢◌, take, drop, IfSome};
 ghost use Rattle.tree.specs.Sorts.{stmt as stmt_sort, many, opt};
 ghost use Rattle.tree.specs.Tree.{one};
 ghost use Rattle.tree.specs.Codes.{sort_at, row_of, chain, all_rows};
@@ -34,32 +34,29 @@ fn optional(words: &[u32], at: usize, r: usize) -> Plan
     requires { Listed (r + 16) × (r < 48) }
     ensures { Planned (opt (row_of r)) words.now at result.same result.row result.times }
 {
-    if at < words.len() {
-        if words[at] == 0 {
-            return Plan {
-                same: 1,
-                row: 0,
-                times: 0,
-            };
+    if words.get(at) == Some(&0) {
+        Plan {
+            same: 1,
+            row: 0,
+            times: 0,
         }
-    }
-    Plan {
-        same: 0,
-        row: r,
-        times: 1,
+    } else {
+        Plan {
+            same: 0,
+            row: r,
+            times: 1,
+        }
     }
 }
 
-// How many words each row of a list has where all have as many, and neither an expression nor a statement stands in them; else 0.
-fn flat(r: usize) -> usize
-    ensures { Flat r result }
+// How many words each row of a list has where all have as many, and neither an expression nor a statement stands in them.
+fn flat(r: usize) -> Option<usize>
+    ensures { IfSome result (λ w. Flat r w) }
 {
     match r {
-        2 => 1,
-        7 => 2,
-        15 => 2,
-        16 => 2,
-        _ => 0,
+        2 => Some(1),
+        7 | 15 | 16 => Some(2),
+        _ => None,
     }
 }
 
@@ -69,22 +66,22 @@ fn listed(words: &[u32], at: usize, r: usize) -> Plan
     ensures { Planned (many (row_of r)) words.now at result.same result.row result.times }
 {
     let times = words[at] % 16777216;
-    let width = flat(r);
-    if width == 0 {
-        return Plan {
+    match flat(r) {
+        Some(width) => Plan {
+            same: 1 + times as usize * width,
+            row: 0,
+            times: 0,
+        },
+        None => Plan {
             same: 1,
             row: r,
             times,
-        };
-    }
-    Plan {
-        same: 1 + times as usize * width,
-        row: 0,
-        times: 0,
+        },
     }
 }
 
-// What the field at `at` is, by its sort: neither an expression nor a statement.
+// What the field at `at` is, by its sort: neither an expression nor a statement. The sorts are the numbers of the tables. `tree::look` has the same numbers for heads and
+// rows: it tests the words and makes frames, where the words are known to be right here and nothing is tested.
 pub fn plan_for(words: &[u32], at: usize, sort: u8) -> Plan
     requires { SomeTree (one (sort_at sort)) words.now at × Listed sort × (sort ≢ 9) × (sort ≢ 10) }
     ensures { Planned (sort_at sort) words.now at result.same result.row result.times }
@@ -115,9 +112,10 @@ pub fn inside(words: &[u32], at: usize, scope: u32) -> u32
     requires { SomeTree (one stmt_sort) words.now at × (scope ≤ 16777216) }
     ensures { InsideAt words.now at scope result }
 {
-    match words[at] / 16777216 {
-        84 => words[at + 1] % 16777216 + 1,
-        85 => words[at + 1] % 16777216 + 1,
-        _ => scope,
+    let kind = words[at] / 16777216;
+    if kind == 84 || kind == 85 {
+        words[at + 1] % 16777216 + 1
+    } else {
+        scope
     }
 }

@@ -7,7 +7,6 @@ use mathlib.Core.List.{List, [], ◌∷◌, ◌++◌}
 use mathlib.Core.Option.{Option, none, some}
 use lib.Dec.{eqb}
 use lib.ListN.{length}
-use Rattle.words.specs.Word.{pick}
 use Rattle.strings.specs.Table.{string_at}
 use Rattle.expr.specs.Expr.{Expr}
 use Rattle.tree.specs.Sorts.{body as body_sort, Kind, sorts}
@@ -25,13 +24,15 @@ use Rattle.subscripts.specs.Subscripts.{in_expr, subscript_count}
 use Rattle.tree.specs.Stands.{Stands}
 use Rattle.collect.specs.SeenLaws.{seen_count}
 use Rattle.subscripts.specs.Code.{use_of}
-use Rattle.subscripts.specs.declared.Use.{Use}
 use Rattle.collect.specs.Seen.{Seen, see}
 use Rattle.collect.specs.Diagnostics.{proc_inside, proc_defined, suffix_differs, fixed_param, fixed_result, param_undefined}
 use Rattle.collect.specs.Collect.{given, Proc, param_rows, fixed_length, last_of, disagrees, differs, result_type, param_string, check_variable_length_strings, ranked, array_param, undefined, param_type, typed_param, procedure, statement}
 use Rattle.collect.specs.Code.{Collects}
 use Rattle.parts.specs.Over.{rows_length}
-use Rattle.parts.proofs.Types.{head_some}
+use Rattle.std.specs.Prelude.{Option as RustOption, None, Some}
+use Rattle.lookup.specs.declared.Typed.{Typed}
+use Rattle.parts.specs.Parts.{written_if, head_word, arg_word}
+use Rattle.parts.proofs.Types.{head_written, arg_written}
 use Rattle.procedures.specs.Post.{plain, ParamOf, ParamsAt, BodyAt, ProcOf, ProcIs, Says, Enters, Acts, defined_before, before_entry, with_params, with_marks}
 use Rattle.procedures.specs.declared.ParamAt.{ParamAt}
 use Rattle.procedures.specs.declared.ProcAt.{ProcAt}
@@ -62,43 +63,46 @@ module _ {A : Type 0} {R : A → Type 0} {f : A → Sized} where
 -- ---- types
 
 -- a type with the head 44 is a fixed string, and its argument is its length
-pub fixed_yes : {h a : ℕ} → h ≡ 44 → (ty : Option TypeRef) → h ≡ head_of ty → a ≡ arg_of ty → a ≡ fixed_length ty
+fixed_words : {h a : ℕ} → h ≡ 44 → (ty : Option TypeRef) → h ≡ head_of ty → a ≡ arg_of ty → a ≡ fixed_length ty
 unfolding fixed_length
-fixed_yes z none e f = absurd (omega arith)
-fixed_yes z (some Integer) e f = absurd (omega arith)
-fixed_yes z (some Long) e f = absurd (omega arith)
-fixed_yes z (some Single) e f = absurd (omega arith)
-fixed_yes z (some Double) e f = absurd (omega arith)
-fixed_yes z (some (FixedString n)) e f = f
-fixed_yes z (some (Record x)) e f = absurd (omega arith)
+fixed_words z none e f = absurd (omega arith)
+fixed_words z (some Integer) e f = absurd (omega arith)
+fixed_words z (some Long) e f = absurd (omega arith)
+fixed_words z (some Single) e f = absurd (omega arith)
+fixed_words z (some Double) e f = absurd (omega arith)
+fixed_words z (some (FixedString n)) e f = f
+fixed_words z (some (Record x)) e f = absurd (omega arith)
+
+pub fixed_yes : {t : Typed} → t.head ≡ 44 → (o : Option TypeRef) → Some t ≡ written_if o → t.arg ≡ fixed_length o
+fixed_yes z o e = fixed_words z o (ap head_word e ∙ head_written o) (ap arg_word e ∙ arg_written o)
 
 -- any other type, or none, has the length 0
-pub fixed_no : {h a : ℕ} → (h ≡ 44 → ⊥) → (ty : Option TypeRef) → h ≡ head_of ty → a ≡ arg_of ty → 0 ≡ fixed_length ty
+pub fixed_no : {y : RustOption Typed} → (head_word y ≡ 44 → ⊥) → (o : Option TypeRef) → y ≡ written_if o → 0 ≡ fixed_length o
 unfolding fixed_length
-fixed_no z none e f = refl
-fixed_no z (some Integer) e f = refl
-fixed_no z (some Long) e f = refl
-fixed_no z (some Single) e f = refl
-fixed_no z (some Double) e f = refl
-fixed_no z (some (FixedString n)) e f = absurd (z e)
-fixed_no z (some (Record x)) e f = refl
+fixed_no z none e = refl
+fixed_no z (some Integer) e = refl
+fixed_no z (some Long) e = refl
+fixed_no z (some Single) e = refl
+fixed_no z (some Double) e = refl
+fixed_no z (some (FixedString n)) e = absurd (z (ap head_word e))
+fixed_no z (some (Record x)) e = refl
 
 -- ---- what is said
 
 -- of its result's type
-module _ (bytes ends : List ℕ) (line name : ℕ) {h : ℕ} where
+module _ (bytes ends : List ℕ) (line name : ℕ) where
   -- nothing where it has none
-  pub result_none : h ≡ 0 → (ty : Option TypeRef) → h ≡ head_of ty → (N D : ℕ) (st : State) → st ≡ result_type (given (some N) (some D) bytes ends []) line name ty st
+  pub result_none : (o : Option TypeRef) → None ≡ written_if o → (N D : ℕ) (st : State) → st ≡ result_type (given (some N) (some D) bytes ends []) line name o st
   unfolding result_type
-  result_none z none e N D st = refl
-  result_none z (some t) e N D st = absurd (omega (arith, head_some t))
+  result_none none e N D st = refl
+  result_none (some t) e N D st = let z : ◌≡◌ {A = ℕ} 0 1 = cc in absurd (omega arith)
 
   -- 15 where it isn't the one that the name's suffix says
-  pub result_some : {yes : Bool} → (h ≡ 0 → ⊥) → ((t : TypeRef) → h ≡ head t → yes ≡ disagrees (last_of (string_at bytes ends name)) t) → (ty : Option TypeRef) → h ≡ head_of ty
-      → (N D : ℕ) (st : State) → noting yes (15 ∷ line ∷ (name + 1) ∷ 0 ∷ 0 ∷ 0 ∷ []) N D st ≡ result_type (given (some N) (some D) bytes ends []) line name ty st
+  pub result_some : {y : Typed} {yes : Bool} → ((t : TypeRef) → y.head ≡ head t → yes ≡ disagrees (last_of (string_at bytes ends name)) t) → (o : Option TypeRef) → Some y ≡ written_if o
+      → (N D : ℕ) (st : State) → noting yes (15 ∷ line ∷ (name + 1) ∷ 0 ∷ 0 ∷ 0 ∷ []) N D st ≡ result_type (given (some N) (some D) bytes ends []) line name o st
   unfolding result_type noting differs
-  result_some z told none e N D st = absurd (z e)
-  result_some z told (some t) e N D st = ap (λ (b : Bool). when b (push (some D) (suffix_differs line name)) st) (told t e)
+  result_some told none e N D st = let z : ◌≡◌ {A = ℕ} 0 1 = cc in absurd (omega arith)
+  result_some told (some t) e N D st = ap (λ (b : Bool). when b (push (some D) (suffix_differs line name)) st) (told t (ap head_word e))
 
 -- of a parameter
 pub param_said : (line name : ℕ) {n : ℕ} {r : ParamAt} (q : Param) → ParamOf r q → n ≡ fixed_length q.ty
@@ -119,7 +123,7 @@ strings_said line f o e N D st =
 -- 22 of each parameter that is a fixed string, then 23 of such a result
 pub strings_says : (line n : ℕ) {p : ProcAt} {ws : List ℕ} {s t r : Counts} {d d' d'' : List ℕ}
     → Says (ParamsAt ws p.params p.count) (λ ps N D. each (param_string (plain N D) line p.name) ps) s t d d'
-    → ((ty : Option TypeRef) → p.head ≡ head_of ty → p.arg ≡ arg_of ty → n ≡ fixed_length ty)
+    → ((o : Option TypeRef) → p.ty ≡ written_if o → n ≡ fixed_length o)
     → Notes (noting (not (eqb n 0)) (23 ∷ line ∷ (p.name + 1) ∷ 0 ∷ n ∷ 0 ∷ [])) t r d' d''
     → Says (ProcOf ws p) (λ f N D. check_variable_length_strings (plain N D) line f) s r d d''
 strings_says line n {p} {ws} {s} {t} {r} {d} {d'} {d''} F told G =
@@ -127,7 +131,7 @@ strings_says line n {p} {ws} {s} {t} {r} {d} {d'} {d''} F told G =
       kept = G.kept ∙ F.kept;
       fit = G.fit;
       does = λ f o b k.
-          same (λ N D. check_variable_length_strings (plain N D) line f) (strings_said line f o (told f.ret_ty o.head o.arg))
+          same (λ N D. check_variable_length_strings (plain N D) line f) (strings_said line f o (told f.ret_ty o.ty))
           (then (F.does f.params o.params b k) (notes_does G b (subst (λ (m : ℕ). m * width ≤ length b) (sym F.kept) k)));
     }
 
@@ -159,7 +163,7 @@ module _ (line name prev : ℕ) (yes : Bool) {s r : Counts} {b d d' : List ℕ} 
 -- all of it
 pub before_acts : (bytes ends : List ℕ) (scope line : ℕ) {ws : List ℕ} {p : ProcAt} {s s1 s2 s3 r : Counts} {b d d1 d2 d3 d' : List ℕ}
     → s.rows * width ≤ length b
-    → Says (λ ty. p.head ≡ head_of ty) (λ ty N D. result_type (given (some N) (some D) bytes ends []) line p.name ty) s s1 d d1
+    → Says (λ ty. p.ty ≡ written_if ty) (λ ty N D. result_type (given (some N) (some D) bytes ends []) line p.name ty) s s1 d d1
     → Says (ProcOf ws p) (λ f N D. check_variable_length_strings (plain N D) line f) s1 s2 d1 d2
     → Notes (noting (not (eqb scope 0)) (24 ∷ line ∷ (p.name + 1) ∷ 0 ∷ 0 ∷ 0 ∷ [])) s2 s3 d2 d3
     → Acts (λ x. p.name ≡ x) (λ x N D. defined_before (plain N D) line x) s3 r b d3 b d'
@@ -178,7 +182,7 @@ before_acts bytes ends scope line {ws} {p} {s} {s1} {s2} {s3} {r} {b} {d} {d1} {
         ⨾ check_variable_length_strings (plain N D) line f
         ⨾ when (not (eqb scope 0)) (push (some D) (proc_inside line x))
         ⨾ defined_before (plain N D) line f.name) st) o.name)
-        (then (then (then (F1.does f.ret_ty o.head b k) (F2.does f o b k1)) (notes_does F3 b k2)) (F4.does f.name o.name))
+        (then (then (then (F1.does f.ret_ty o.ty b k) (F2.does f o b k1)) (notes_does F3 b k2)) (F4.does f.name o.name))
 
 -- ---- its rows
 
@@ -224,24 +228,30 @@ rows_snoc name j (q ∷ done) p =
     (rows_snoc name (j + 1) done p
     ∙ ap (λ (m : ℕ). param_rows name (j + 1) done ++ (param_row name m p.name p.byval p.array (head_of p.ty) (arg_of p.ty) ∷ [])) e)
 
-row_of_lem : (name i m : ℕ) {r : ParamAt} (p : Param) → ParamOf r p → m ≡ bit r.byval + 2 * bit r.array
-    → row 136 name (i ∷ r.name ∷ m ∷ r.head ∷ r.arg ∷ []) ≡ param_row name i p.name p.byval p.array (head_of p.ty) (arg_of p.ty)
-row_of_lem name i m {r} p o e = rw (e, o.name, o.byval, o.array, o.head, o.arg)
+-- the words of a type
+type_words : {h a : ℕ} {y : RustOption Typed} (o : Option TypeRef) → h ≡ head_word y → a ≡ arg_word y → y ≡ written_if o → (h ≡ head_of o) × (a ≡ arg_of o)
+type_words o e f q = (e ∙ ap head_word q ∙ head_written o, f ∙ ap arg_word q ∙ arg_written o)
+
+row_of_lem : (name i m h a : ℕ) {r : ParamAt} (p : Param) → ParamOf r p → m ≡ bit r.byval + 2 * bit r.array → h ≡ head_word r.ty → a ≡ arg_word r.ty
+    → row 136 name (i ∷ r.name ∷ m ∷ h ∷ a ∷ []) ≡ param_row name i p.name p.byval p.array (head_of p.ty) (arg_of p.ty)
+row_of_lem name i m h a {r} p o e f g =
+    let w = type_words p.ty f g o.ty in
+    rw (e, o.name, o.byval, o.array, w.0, w.1)
 
 -- its row after those before
-pub params_next : (name : ℕ) {i m : ℕ} {q : ParamAt} {s c r : Counts} {b d b' b'' : List ℕ} → m ≡ bit q.byval + 2 * bit q.array
-    → Rows (entering (row 136 name (i ∷ q.name ∷ m ∷ q.head ∷ q.arg ∷ []))) c r b' b''
+pub params_next : (name : ℕ) {i m h a : ℕ} {q : ParamAt} {s c r : Counts} {b d b' b'' : List ℕ} → m ≡ bit q.byval + 2 * bit q.array → h ≡ head_word q.ty → a ≡ arg_word q.ty
+    → Rows (entering (row 136 name (i ∷ q.name ∷ m ∷ h ∷ a ∷ []))) c r b' b''
     → c.notes * note_width ≤ length d
     → (done : List Param) (p : Param) → length done ≡ i → ParamOf q p
     → Does (λ N D. each (enter (some N)) (param_rows name 0 done)) s c b d b' d
     → Does (λ N D. each (enter (some N)) (param_rows name 0 (done ++ (p ∷ [])))) s r b d b'' d
 unfolding entering
-params_next name {i} {m} {q} {s} {c} {r} {b} {d} {b'} {b''} e F k done p l o G =
+params_next name {i} {m} {h} {a} {q} {s} {c} {r} {b} {d} {b'} {b''} e eh ea F k done p l o G =
     let last : Row = param_row name i p.name p.byval p.array (head_of p.ty) (arg_of p.ty) in
     let nth : i ≡ 0 + length done = omega arith in
     let is : param_rows name 0 done ++ (last ∷ []) ≡ param_rows name 0 (done ++ (p ∷ [])) =
     ap (λ (j : ℕ). param_rows name 0 done ++ (param_row name j p.name p.byval p.array (head_of p.ty) (arg_of p.ty) ∷ [])) nth ∙ sym (rows_snoc name 0 done p) in
-    let one : Does (λ N D. enter (some N) last) c r b' d b'' d = subst (λ (x : Row). Does (λ N D. enter (some N) x) c r b' d b'' d) (row_of_lem name i m p o e) (rows_does F d k) in
+    let one : Does (λ N D. enter (some N) last) c r b' d b'' d = subst (λ (x : Row). Does (λ N D. enter (some N) x) c r b' d b'' d) (row_of_lem name i m h a p o e eh ea) (rows_does F d k) in
     subst (λ (l : List Row). Does (λ N D. each (enter (some N)) l) s r b d b'' d) is (each_next (λ x N D. enter (some N) x) (param_rows name 0 done) last G one)
 
 -- their rows have the ordinals in turn
@@ -258,27 +268,28 @@ params_count name i [] = refl
 params_count name i (p ∷ ps) = ap (λ (n : ℕ). suc n) (params_count name (i + 1) ps)
 
 -- the procedure and its parameters, in the place of the old ones
-pub with_params_lem : (line m : ℕ) {ws : List ℕ} {p : ProcAt} {s s1 s2 r : Counts} {b b1 b2 b' : List ℕ} → p.count < 4294967296 → m ≡ bit p.function
+pub with_params_lem : (line m h a : ℕ) {ws : List ℕ} {p : ProcAt} {s s1 s2 r : Counts} {b b1 b2 b' : List ℕ} → p.count < 4294967296 → m ≡ bit p.function → h ≡ head_word p.ty → a ≡ arg_word p.ty
     → Rows (changing (remove (entry_key 136 p.name p.count) (entry_key 136 (p.name + 1) 0))) s s1 b b1
-    → Rows (entering (row 135 p.name (0 ∷ m ∷ line ∷ p.head ∷ p.arg ∷ []))) s1 s2 b1 b2
+    → Rows (entering (row 135 p.name (0 ∷ m ∷ line ∷ h ∷ a ∷ []))) s1 s2 b1 b2
     → Enters (ParamsAt ws p.params p.count) (λ ps N D. each (enter (some N)) (param_rows p.name 0 ps)) s2 r b2 b'
     → Enters (ProcOf ws p) (λ f N D. with_params (plain N D) line f) s r b b'
 unfolding entering changing each key
-with_params_lem line m {ws} {p} {s} {s1} {s2} {r} {b} {b1} {b2} {b'} few e F G H =
+with_params_lem line m h a {ws} {p} {s} {s1} {s2} {r} {b} {b1} {b2} {b'} few e eh ea F G H =
     record { kept = H.kept ∙ G.kept ∙ F.kept; fit = H.fit; does = by }
   where
     by : (f : Proc) → ProcOf ws p f → (d : List ℕ) → s.notes * note_width ≤ length d → Does (λ N D. with_params (plain N D) line f) s r b d b' d
     by f o d k =
         let k1 : s1.notes * note_width ≤ length d = subst (λ (m : ℕ). m * note_width ≤ length d) (sym F.kept) k in
         let k2 : s2.notes * note_width ≤ length d = subst (λ (m : ℕ). m * note_width ≤ length d) (sym G.kept) k1 in
-        let top : Row = row 135 p.name (0 ∷ m ∷ line ∷ p.head ∷ p.arg ∷ []) in
+        let top : Row = row 135 p.name (0 ∷ m ∷ line ∷ h ∷ a ∷ []) in
         let new : List Row = param_rows p.name 0 f.params in
         let counted : p.count ≡ length new =
         sym o.params.counted ∙ sym (rows_length param o.params.tree) ∙ ap length o.params.are ∙ sym (params_count p.name 0 f.params) in
         let done =
         replaced 136 p.name p.count top new few counted refl (omega arith) (params_turn p.name 0 f.params)
         (then (rows_does F d k) (then (rows_does G d k1) (H.does f.params o.params d k2))) in
-        let is : top ∷ new ≡ proc_row p.name f.is_function line (head_of f.ret_ty) (arg_of f.ret_ty) ∷ param_rows p.name 0 f.params = rw (e, o.function, o.head, o.arg) in
+        let w = type_words f.ret_ty eh ea o.ty in
+        let is : top ∷ new ≡ proc_row p.name f.is_function line (head_of f.ret_ty) (arg_of f.ret_ty) ∷ param_rows p.name 0 f.params = rw (e, o.function, w.0, w.1) in
         same (λ N D. with_params (plain N D) line f)
         (λ N D st.
         ap (λ (l : List Row). change (some N) (replace (entry_key 136 p.name 0) (entry_key 136 (p.name + 1) 0) l) st) is
@@ -287,27 +298,25 @@ with_params_lem line m {ws} {p} {s} {s1} {s2} {r} {b} {b1} {b2} {b'} few e F G H
 
 -- ---- its parameters inside the body
 
-module _ (scope line name : ℕ) (u : Use) {s r : Counts} {b b' : List ℕ} where
+module _ (scope line name : ℕ) {u : RustOption ℕ} {s r : Counts} {b b' : List ℕ} where
   -- a use was found: the array's row with its count
-  pub ranked_some : u.found ≡ true → Rows (entering (row 133 name (scope ∷ u.count ∷ line ∷ 1 ∷ 0 ∷ []))) s r b b'
+  pub ranked_some : {n : ℕ} → u ≡ Some n → Rows (entering (row 133 name (scope ∷ n ∷ line ∷ 1 ∷ 0 ∷ []))) s r b b'
       → Enters (λ o. use_of u ≡ o) (λ o N D. ranked (plain N D) scope line name o) s r b b'
   unfolding entering ranked use_of
   ranked_some e F =
-      let is : some u.count ≡ use_of u = sym (ap (λ (t : Bool). pick t (some u.count) none) e) in
-      enters F (λ o q N D st. ap (λ (x : Option ℕ). ranked (plain N D) scope line name x st) (is ∙ q))
+      enters F (λ o q N D st. ap (λ (x : Option ℕ). ranked (plain N D) scope line name x st) (ap use_of (sym e) ∙ q))
 
   -- none was: a row of rank 1, and one that says so
-  pub ranked_none : {t : Counts} {b1 : List ℕ} → u.found ≡ false → Rows (entering (row 133 name (scope ∷ 1 ∷ line ∷ 1 ∷ 0 ∷ []))) s t b b1
+  pub ranked_none : {t : Counts} {b1 : List ℕ} → u ≡ None → Rows (entering (row 133 name (scope ∷ 1 ∷ line ∷ 1 ∷ 0 ∷ []))) s t b b1
       → Rows (entering (row 142 name (scope ∷ 0 ∷ 0 ∷ 0 ∷ 0 ∷ []))) t r b1 b'
       → Enters (λ o. use_of u ≡ o) (λ o N D. ranked (plain N D) scope line name o) s r b b'
   unfolding entering ranked use_of
   ranked_none {t} {b1} e F G =
-      let is : none ≡ use_of u = sym (ap (λ (t : Bool). pick t (some u.count) none) e) in
       record {
         kept = G.kept ∙ F.kept;
         fit = G.fit;
         does = λ o q d k.
-            same (λ N D. ranked (plain N D) scope line name o) (λ N D st. ap (λ (x : Option ℕ). ranked (plain N D) scope line name x st) (is ∙ q))
+            same (λ N D. ranked (plain N D) scope line name o) (λ N D st. ap (λ (x : Option ℕ). ranked (plain N D) scope line name x st) (ap use_of (sym e) ∙ q))
             (then (rows_does F d k) (rows_does G d (subst (λ (m : ℕ). m * note_width ≤ length d) (sym F.kept) k)));
       }
 
@@ -321,7 +330,7 @@ module _ (scope line : ℕ) {p : ParamAt} {s : Counts} {b : List ℕ} where
       ap (λ (y : Bool). when y (ranked (plain N D) scope line q.name (subscript_count (λ name (e : Seen). e.use_under name) q.name t)) st) (sym e ∙ o.array))
 
   -- one that is has the rank of its first use in the body
-  pub array_yes : (u : Use) {ws : List ℕ} {body past : ℕ} {r : Counts} {b' : List ℕ} → p.array ≡ true
+  pub array_yes : (u : RustOption ℕ) {ws : List ℕ} {body past : ℕ} {r : Counts} {b' : List ℕ} → p.array ≡ true
       → ((ns : List ℕ) (n : ℕ) (v : Tree Expr (one body_sort)) → Stands ws ns n body v past → use_of u ≡ subscript_count (λ name (e : Expr). in_expr name e) p.name v)
       → Enters (λ o. use_of u ≡ o) (λ o N D. ranked (plain N D) scope line p.name o) s r b b'
       → (t : Tree Seen (one body_sort)) → BodyAt ws body past t → Enters (ParamOf p) (λ q N D. array_param (plain N D) scope line t q) s r b b'
@@ -383,11 +392,11 @@ module _ (line name : ℕ) where
         record { fit = G.fit; does = λ ty q. record_does z G ty q.0 q.1 }
 
 -- a typed variable
-untyped : (scope line : ℕ) (y : Bool) (name : ℕ) (ty : Option TypeRef) → head_of ty ≡ 0 → (N D : ℕ) (st : State) → st ≡ when (not y) (param_type (plain N D) scope line name ty) st
+untyped : (scope line : ℕ) (y : Bool) (name : ℕ) (ty : Option TypeRef) → None ≡ written_if ty → (N D : ℕ) (st : State) → st ≡ when (not y) (param_type (plain N D) scope line name ty) st
 unfolding param_type
 untyped scope line true name ty e N D st = refl
 untyped scope line false name none e N D st = refl
-untyped scope line false name (some t) e N D st = absurd (omega (arith, head_some t))
+untyped scope line false name (some t) e N D st = let z : ◌≡◌ {A = ℕ} 0 1 = cc in absurd (omega arith)
 
 module _ (scope line : ℕ) (p : ParamAt) {s : Counts} {b d : List ℕ} where
   -- an array has no such row
@@ -396,20 +405,22 @@ module _ (scope line : ℕ) (p : ParamAt) {s : Counts} {b d : List ℕ} where
   typed_array e k = acts_nothing k (λ q o N D st. ap (λ (y : Bool). when (not y) (param_type (plain N D) scope line q.name q.ty) st) (sym e ∙ o.array))
 
   -- nor has a parameter without a type
-  pub typed_none : p.head ≡ 0 → Fit s (length b) (length d) → Acts (ParamOf p) (λ q N D. typed_param (plain N D) scope line q) s s b d b d
+  pub typed_none : p.ty ≡ None → Fit s (length b) (length d) → Acts (ParamOf p) (λ q N D. typed_param (plain N D) scope line q) s s b d b d
   unfolding typed_param
-  typed_none e k = acts_nothing k (λ q o N D st. untyped scope line q.array q.name q.ty (sym o.head ∙ e) N D st)
+  typed_none e k = acts_nothing k (λ q o N D st. untyped scope line q.array q.name q.ty (sym e ∙ o.ty) N D st)
 
-  module _ {t r : Counts} {b' d' : List ℕ} (z : p.head ≡ 0 → ⊥)
-      (F : Acts (λ ty. (p.head ≡ head ty) × (p.arg ≡ arg ty)) (λ ty N D. undefined (plain N D) ty (λ (x : ℕ). param_undefined line p.name x)) s t b d b d')
-      (G : Rows (entering (row 134 p.name (scope ∷ p.head ∷ p.arg ∷ 0 ∷ 0 ∷ []))) t r b b') where
-    type_does : (ty : Option TypeRef) → p.head ≡ head_of ty → p.arg ≡ arg_of ty → Does (λ N D. param_type (plain N D) scope line p.name ty) s r b d b' d'
+  module _ {y : Typed} {t r : Counts} {b' d' : List ℕ} (z : p.ty ≡ Some y)
+      (F : Acts (λ ty. (y.head ≡ head ty) × (y.arg ≡ arg ty)) (λ ty N D. undefined (plain N D) ty (λ (x : ℕ). param_undefined line p.name x)) s t b d b d')
+      (G : Rows (entering (row 134 p.name (scope ∷ y.head ∷ y.arg ∷ 0 ∷ 0 ∷ []))) t r b b') where
+    type_does : (ty : Option TypeRef) → Some y ≡ written_if ty → Does (λ N D. param_type (plain N D) scope line p.name ty) s r b d b' d'
     unfolding param_type entering
-    type_does none e f = absurd (z e)
-    type_does (some ty) e f =
+    type_does none e = let n : ◌≡◌ {A = ℕ} 0 1 = cc in absurd (omega arith)
+    type_does (some ty) e =
+        let h : y.head ≡ head ty = ap head_word e in
+        let a : y.arg ≡ arg ty = ap arg_word e in
         same (λ N D. param_type (plain N D) scope line p.name (some ty))
-        (λ N D st. ap₂ (λ (x y : ℕ). (undefined (plain N D) ty (λ (r : ℕ). param_undefined line p.name r) ⨾ enter (some N) (row 134 p.name (scope ∷ x ∷ y ∷ []))) st) e f)
-        (then (F.does ty (e, f)) (rows_does G d' F.fit.1))
+        (λ N D st. ap₂ (λ (x y : ℕ). (undefined (plain N D) ty (λ (r : ℕ). param_undefined line p.name r) ⨾ enter (some N) (row 134 p.name (scope ∷ x ∷ y ∷ []))) st) h a)
+        (then (F.does ty (h, a)) (rows_does G d' F.fit.1))
 
     -- any other: what is said of its TYPE, then its row
     pub typed_some : p.array ≡ false → Acts (ParamOf p) (λ q N D. typed_param (plain N D) scope line q) s r b d b' d'
@@ -420,7 +431,7 @@ module _ (scope line : ℕ) (p : ParamAt) {s : Counts} {b d : List ℕ} where
           does = λ q o.
               same (λ N D. typed_param (plain N D) scope line q)
               (λ N D st. ap₂ (λ (y : Bool) (x : ℕ). when (not y) (param_type (plain N D) scope line x q.ty) st) (sym e ∙ o.array) o.name)
-              (type_does q.ty o.head o.arg);
+              (type_does q.ty (sym z ∙ o.ty));
         }
 
 -- ---- the whole

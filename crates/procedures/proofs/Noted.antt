@@ -3,11 +3,12 @@ use Prim.Native.Nat.{ℕ, ◌+◌, ◌*◌, ◌<◌}
 use native.Mathlib.Omega.{arith}
 use mathlib.Core.Path.{◌≡◌}
 use mathlib.Core.Bool.{true}
-use mathlib.Core.List.{List}
+use mathlib.Core.List.{List, []}
 use lib.ListN.{length, replicate}
 use Rattle.tree.specs.Memo.{zero_at}
 use Rattle.subscripts.specs.Notes.{room, Blank}
-use Rattle.subscripts.proofs.Table.{room_there}
+use Rattle.subscripts.specs.Code.{Told}
+use Rattle.subscripts.proofs.Table.{room_there, room_inside}
 
 -- a name whose two words are in the notes has room there
 pub room_below : (t : List ℕ) (x : ℕ) → 2 * x + 1 < length t → room 0 t x ≡ true
@@ -16,3 +17,10 @@ room_below t x h = room_there 0 t x (omega arith) (omega (arith, h))
 -- zeros note no use
 pub blank : (k : ℕ) → Blank (replicate {A = ℕ} k 0)
 blank k = record { zero_at = zero_at k }
+
+no_room : (x : ℕ) → room 0 [] x ≡ true → ⊥
+no_room x h = omega (arith, room_inside 0 [] x h)
+
+-- no notes tell of no name
+pub told_nothing : (ws : List ℕ) (at : ℕ) → Told ws at 0 []
+told_nothing ws at = record { gives = λ ns n v end S x h. absurd (no_room x h) }

@@ -1,13 +1,13 @@
 -- A body in which no list stands right after a name never subscripts it. Laws by induction on the tree. Assumes nothing.
-use Prim.Native.Nat.{ℕ, ◌+◌, ◌-◌, ◌<◌}
+use Prim.Native.Nat.{ℕ, ◌+◌, ◌<◌}
 use native.Mathlib.Omega.{arith}
 use mathlib.Core.Path.{◌≡◌, refl, ap, ap₂, ◌∙◌}
-use mathlib.Core.Bool.{Bool, true, false}
+use mathlib.Core.Bool.{Bool, false}
 use mathlib.Core.List.{List, [], ◌∷◌, ◌++◌}
 use mathlib.Core.Option.{Option, none as nothing}
-use lib.Dec.{eqb, ltb}
+use lib.Dec.{eqb}
 use lib.ListN.{get_or}
-use borrow.Author.Tests.{ne_eqb, ltb-true, ltb-false}
+use borrow.Author.Tests.{ne_eqb}
 use Rattle.words.specs.Word.{word_of, kind_of, pick}
 use Rattle.words.specs.Each.{Each}
 use Rattle.expr.specs.Expr.{Strings, Expr, Exprs, Lit, Var, Elem, Unary, Binary, Call, Field, Paren, none, more, many, words, words_all, Valid, Valids}
@@ -48,23 +48,6 @@ apart_there {ws} {at} {end} w (x ∷ y ∷ xs) r q =
     let f = wrote_first r in
     let g = wrote_first f.rest in
     (λ e k. q at (omega arith) (omega (arith, r.span)) (f.is ∙ e) (ap kind_of g.is ∙ k), apart_there {at = at + 1} w (y ∷ xs) f.rest (λ i l h. q i (omega arith) h))
-
--- ---- the loop over them
-
--- before the first pair of words
-pub quiet_start : (ws : List ℕ) (from w : ℕ) → Quiet ws from (from + 1) w
-quiet_start ws from w i l h e k = absurd (omega arith)
-
--- one more word that is no list right after the name
-pub quiet_next : (ws : List ℕ) {from i w : ℕ} → from < i → Quiet ws from i w → (get_or ws (i - 1) 0 ≡ w → kind_of (get_or ws i 0) ≡ 1 → ⊥) → Quiet ws from (i + 1) w
-quiet_next ws {from} {i} {w} h q new j l m e k = go (ltb (j + 1) i) refl
-  where
-    go : (t : Bool) → ltb (j + 1) i ≡ t → ⊥
-    go true t = q j l (ltb-true (j + 1) i t) e k
-    go false t =
-        let last : i ≡ j + 1 = omega (arith, ltb-false (j + 1) i t) in
-        let before : i - 1 ≡ j = omega arith in
-        new (ap (λ (x : ℕ). get_or ws x 0) before ∙ e) (ap (λ (x : ℕ). kind_of (get_or ws x 0)) last ∙ k)
 
 -- ---- expressions
 

@@ -17,11 +17,12 @@ use Rattle.tree.specs.Tree.{one, row, rows, Tree, word, Stmt, list, done, cons, 
 use Rattle.tree.specs.Stands.{Stands, SomeTree}
 use Rattle.tree.proofs.Complete.{one_tree, clear}
 use Rattle.tree.proofs.Nodes.{cons_left, cons_right, stmt_line}
-use Rattle.views.specs.View.{TypeRef, Param, head_of, arg_of, optional, as_type, is_set, param, items, rows_of, view}
+use Rattle.views.specs.View.{TypeRef, Param, optional, as_type, is_set, param, items, rows_of, view}
 use Rattle.lent.specs.RuleLaws.{name_below as marked_below}
-use Rattle.parts.specs.Parts.{AsTypeIs}
+use Rattle.parts.specs.Parts.{AsTypeIs, written_if}
 use Rattle.parts.specs.Over.{set_over, as_over, param_rows_over}
-use Rattle.parts.specs.declared.TypeAt.{TypeAt}
+use Rattle.std.specs.Prelude.{Option as RustOption, None}
+use Rattle.lookup.specs.declared.Typed.{Typed}
 use Rattle.collect.specs.Seen.{see}
 use Rattle.collect.specs.Collect.{Given, statement, procedure}
 use Rattle.collect.specs.Code.{StmtAt, Named}
@@ -79,16 +80,16 @@ module _ {ws : List ℕ} {at : ℕ} where
       record { names = S.names; strings = S.strings; tree = p.clause; end = S.end; stands = p.there }
 
   -- so the parameter is read from these words
-  pub param_is : {byval array : Bool} {t : TypeAt} → byval ≡ eqb (pay_of (get_or ws (at + 1) 0)) 1 → array ≡ eqb (pay_of (get_or ws (at + 2) 0)) 1 → AsTypeIs ws (at + 3) t
-      → ParamIs ws at (record { name = pay_of (get_or ws at 0); byval = byval; array = array; head = t.head; arg = t.arg; next = t.next })
-  param_is {byval} {array} {t} e d T = record { is = by; name_small = omega arith; arg_small = T.small }
+  pub param_is : {byval array : Bool} {ty : RustOption Typed} {next : ℕ} → byval ≡ eqb (pay_of (get_or ws (at + 1) 0)) 1 → array ≡ eqb (pay_of (get_or ws (at + 2) 0)) 1 → AsTypeIs ws (at + 3) ty next
+      → ParamIs ws at (record { name = pay_of (get_or ws at 0); byval = byval; array = array; ty = ty; next = next })
+  param_is {byval} {array} {ty} {next} e d T = record { is = by; name_small = omega arith; arg_small = T.small }
     where
       by : (ns : List ℕ) (n : ℕ) (v : Tree Expr (row ParamRow)) (end : ℕ) → Stands ws ns n at v end
-          → ParamOf (record { name = pay_of (get_or ws at 0); byval = byval; array = array; head = t.head; arg = t.arg; next = t.next }) (param v) × (t.next ≡ end)
+          → ParamOf (record { name = pay_of (get_or ws at 0); byval = byval; array = array; ty = ty; next = next }) (param v) × (next ≡ end)
       by ns n v end s =
           let p = in_param v s in
           let q = T.is ns n p.clause end p.there in
-          (record { name = p.name; byval = e ∙ p.byval; array = d ∙ p.array; head = q.0 ∙ ap head_of p.type_is; arg = q.1 ∙ ap arg_of p.type_is }, q.2)
+          (record { name = p.name; byval = e ∙ p.byval; array = d ∙ p.array; ty = q.0 ∙ ap written_if p.type_is }, q.1)
 
 -- ---- a body: a list, so that it has a word
 
@@ -225,11 +226,11 @@ module _ {ws ns : List ℕ} {n at end : ℕ} (S : StmtTo ns n sub ws at end) whe
 
   -- so the SUB is read: its body after the parameters, its flag last
   pub sub_is : {m : ℕ} → ((ps : List Param) (T : ParamsAt ws (at + 3) (pay_of (get_or ws (at + 2) 0)) ps) → m ≡ T.end) → (keeps : Bool) → keeps ≡ eqb (pay_of (get_or ws (end - 1) 0)) 1
-      → ProcIs ns n sub ws at (record { line = pay_of (get_or ws at 0); name = pay_of (get_or ws (at + 1) 0); params = at + 3; count = pay_of (get_or ws (at + 2) 0); head = 0; arg = 0; body = m; past = end - 1; function = false; keeps = keeps; deffn = false })
+      → ProcIs ns n sub ws at (record { line = pay_of (get_or ws at 0); name = pay_of (get_or ws (at + 1) 0); params = at + 3; count = pay_of (get_or ws (at + 2) 0); ty = None; body = m; past = end - 1; function = false; keeps = keeps; deffn = false })
   sub_is {m} past_params keeps q = record { shows = by; named = name_marked here.head }
     where
       by : (line : ℕ) (r : Tree Expr (row (sorts sub))) (end' : ℕ) → Stands ws ns n at (Stmt sub line r) end'
-          → Shown ws sub (record { line = pay_of (get_or ws at 0); name = pay_of (get_or ws (at + 1) 0); params = at + 3; count = pay_of (get_or ws (at + 2) 0); head = 0; arg = 0; body = m; past = end - 1; function = false; keeps = keeps; deffn = false }) line r
+          → Shown ws sub (record { line = pay_of (get_or ws at 0); name = pay_of (get_or ws (at + 1) 0); params = at + 3; count = pay_of (get_or ws (at + 2) 0); ty = None; body = m; past = end - 1; function = false; keeps = keeps; deffn = false }) line r
       by line r end' s =
           let h = in_sub line r s in
           let p = past_params _ (params_at h.head) in
@@ -240,8 +241,7 @@ module _ {ws ns : List ℕ} {n at end : ℕ} (S : StmtTo ns n sub ws at end) whe
             of = record {
               name = h.head.name_is;
               params = params_at h.head;
-              head = refl;
-              arg = refl;
+              ty = refl;
               body = record { names = ns; strings = n; tree = h.body; stands = ends_at (sym p) (sym e) h.body_there; is = refl };
               function = refl;
               static = q ∙ ap (λ (x : ℕ). eqb (pay_of (get_or ws x 0)) 1) e ∙ h.flag_set;
@@ -328,12 +328,12 @@ module _ {ws ns : List ℕ} {n at end : ℕ} (S : StmtTo ns n function ws at end
     function_clause = record { names = ns; strings = n; tree = found.clause; end = found.next; stands = clause_at found }
 
     -- so the FUNCTION is read: its body after the clause, its two flags last
-    pub function_is : {t : TypeAt} → AsTypeIs ws m t → (keeps deffn : Bool) → keeps ≡ eqb (pay_of (get_or ws (end - 2) 0)) 1 → deffn ≡ eqb (pay_of (get_or ws (end - 1) 0)) 1
-        → ProcIs ns n function ws at (record { line = pay_of (get_or ws at 0); name = pay_of (get_or ws (at + 1) 0); params = at + 3; count = pay_of (get_or ws (at + 2) 0); head = t.head; arg = t.arg; body = t.next; past = end - 2; function = true; keeps = keeps; deffn = deffn })
-    function_is {t} T keeps deffn q d = record { shows = by; named = name_marked found.head }
+    pub function_is : {ty : RustOption Typed} {body : ℕ} → AsTypeIs ws m ty body → (keeps deffn : Bool) → keeps ≡ eqb (pay_of (get_or ws (end - 2) 0)) 1 → deffn ≡ eqb (pay_of (get_or ws (end - 1) 0)) 1
+        → ProcIs ns n function ws at (record { line = pay_of (get_or ws at 0); name = pay_of (get_or ws (at + 1) 0); params = at + 3; count = pay_of (get_or ws (at + 2) 0); ty = ty; body = body; past = end - 2; function = true; keeps = keeps; deffn = deffn })
+    function_is {ty} {body} T keeps deffn q d = record { shows = by; named = name_marked found.head }
       where
         by : (line : ℕ) (r : Tree Expr (row (sorts function))) (end' : ℕ) → Stands ws ns n at (Stmt function line r) end'
-            → Shown ws function (record { line = pay_of (get_or ws at 0); name = pay_of (get_or ws (at + 1) 0); params = at + 3; count = pay_of (get_or ws (at + 2) 0); head = t.head; arg = t.arg; body = t.next; past = end - 2; function = true; keeps = keeps; deffn = deffn }) line r
+            → Shown ws function (record { line = pay_of (get_or ws at 0); name = pay_of (get_or ws (at + 1) 0); params = at + 3; count = pay_of (get_or ws (at + 2) 0); ty = ty; body = body; past = end - 2; function = true; keeps = keeps; deffn = deffn }) line r
         by line r end' s =
             let h = in_function line r s in
             let c = T.is ns n h.clause h.next (clause_at h) in
@@ -345,9 +345,8 @@ module _ {ws ns : List ℕ} {n at end : ℕ} (S : StmtTo ns n function ws at end
               of = record {
                 name = h.head.name_is;
                 params = params_at h.head;
-                head = c.0;
-                arg = c.1;
-                body = record { names = ns; strings = n; tree = h.body; stands = ends_at (sym c.2) (sym e) h.body_there; is = refl };
+                ty = c.0;
+                body = record { names = ns; strings = n; tree = h.body; stands = ends_at (sym c.1) (sym e) h.body_there; is = refl };
                 function = refl;
                 static = q ∙ ap (λ (x : ℕ). eqb (pay_of (get_or ws x 0)) 1) e ∙ h.keeps_set;
                 def_fn = d ∙ ap (λ (x : ℕ). eqb (pay_of (get_or ws x 0)) 1) f ∙ h.deffn_set;

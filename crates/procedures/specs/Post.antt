@@ -16,6 +16,7 @@ use Rattle.collect.specs.Seen.{Seen, see}
 use Rattle.collect.specs.Diagnostics.{proc_inside, proc_defined}
 use Rattle.collect.specs.Collect.{Given, given, Proc, param_rows, error, entry, statement, procedure, result_type, check_variable_length_strings}
 use Rattle.collect.specs.Code.{StmtAt}
+use Rattle.parts.specs.Parts.{written_if, arg_word}
 use Rattle.procedures.specs.declared.ParamAt.{ParamAt}
 use Rattle.procedures.specs.declared.ProcAt.{ProcAt}
 
@@ -35,14 +36,13 @@ pub record ParamOf (r : ParamAt) (p : Param) : Type 0 where
   pub name : r.name ≡ p.name
   pub byval : r.byval ≡ p.byval
   pub array : r.array ≡ p.array
-  pub head : r.head ≡ head_of p.ty
-  pub arg : r.arg ≡ arg_of p.ty
+  pub ty : r.ty ≡ written_if p.ty
 
 -- the parameter there, and the place past it
 pub record ParamIs (ws : List ℕ) (at : ℕ) (r : ParamAt) : Type 0 where
   pub is : (ns : List ℕ) (n : ℕ) (v : Tree Expr (row ParamRow)) (end : ℕ) → Stands ws ns n at v end → ParamOf r (param v) × (r.next ≡ end)
   pub name_small : r.name < 16777216
-  pub arg_small : r.arg < 16777216
+  pub arg_small : arg_word r.ty < 16777216
 
 -- the k parameters that stand from a place on
 pub record ParamsAt (ws : List ℕ) (from k : ℕ) (ps : List Param) : Type 0 where
@@ -80,8 +80,7 @@ Quiet ws from to w = (i : ℕ) → from ≤ i → i + 1 < to → get_or ws i 0 �
 pub record ProcOf (ws : List ℕ) (r : ProcAt) (f : Proc) : Type 0 where
   pub name : r.name ≡ f.name
   pub params : ParamsAt ws r.params r.count f.params
-  pub head : r.head ≡ head_of f.ret_ty
-  pub arg : r.arg ≡ arg_of f.ret_ty
+  pub ty : r.ty ≡ written_if f.ret_ty
   pub body : BodyAt ws r.body r.past f.body
   pub function : r.function ≡ f.is_function
   pub static : r.keeps ≡ f.is_static

@@ -8,14 +8,13 @@ ghost use Rattle.expr.specs.Expr.{Expr};
 ghost use Rattle.tree.specs.Sorts.{Param as ParamRow, body as body_sort, sub as sub_kind, function as function_kind};
 ghost use Rattle.tree.specs.Tree.{one, row as row_shape, Tree};
 ghost use Rattle.tree.specs.Stands.{Stands, SomeTree};
-ghost use Rattle.views.specs.View.{TypeRef, Param, head as head_is, head_of, arg as arg_is, arg_of};
+ghost use Rattle.views.specs.View.{TypeRef, Param, head as head_is, arg as arg_is};
 ghost use Rattle.table.specs.Rows.{width, note_width};
 ghost use Rattle.steps.specs.State.{each, when, enter};
 ghost use Rattle.steps.specs.Held.{Fit};
 ghost use Rattle.subscripts.specs.Subscripts.{in_expr, subscript_count};
-ghost use Rattle.subscripts.specs.Notes.{Blank};
 ghost use Rattle.subscripts.specs.Code.{use_of, Told};
-ghost use Rattle.parts.specs.Parts.{NameAt};
+ghost use Rattle.parts.specs.Parts.{NameAt, written_if, arg_word};
 ghost use Rattle.collect.specs.Seen.{Seen};
 ghost use Rattle.entries.specs.Entries.{row};
 ghost use Rattle.collect.specs.Diagnostics.{param_undefined};
@@ -23,22 +22,21 @@ ghost use Rattle.collect.specs.Collect.{given, param_rows, fixed_length, result_
 ghost use Rattle.collect.specs.Code.{Collects, Named};
 ghost use Rattle.procedures.specs.Post.{StmtTo, plain, ParamOf, ParamIs, ParamsAt, SomeParams, BodyAt, SomeBody, Quiet, ProcOf, SomeProc, ProcIs, Says, Enters, Acts, defined_before, before_entry, with_params, with_marks};
 
+use lookup::Typed;
 use steps::Counts;
-use subscripts::Use;
-use table::Found;
+use table::Rows;
 
-// A parameter, as it was read: the head of its AS clause, 0 for none, and its argument; and the place past it.
+// A parameter, as it was read: its type is that of its AS clause. And the place past it.
 #[derive(Clone, Copy)]
 pub struct ParamAt {
     pub name: u32,
     pub byval: bool,
     pub array: bool,
-    pub head: u32,
-    pub arg: u32,
+    pub ty: Option<Typed>,
     pub next: usize,
 }
 
-// A procedure, as it was read: the places of its first parameter, of its body and past that, its result's type as a parameter's, and whether it is a FUNCTION,
+// A procedure, as it was read: the places of its first parameter, of its body and past that, its result's type, and whether it is a FUNCTION,
 // is STATIC and so keeps its variables, and is a DEF FN.
 #[derive(Clone, Copy)]
 pub struct ProcAt {
@@ -46,8 +44,7 @@ pub struct ProcAt {
     pub name: u32,
     pub params: usize,
     pub count: u32,
-    pub head: u32,
-    pub arg: u32,
+    pub ty: Option<Typed>,
     pub body: usize,
     pub past: usize,
     pub function: bool,
@@ -72,14 +69,13 @@ fn param(words: &[u32], at: usize) -> ParamAt
     let name = words[at] % 16777216;
     let byval = flag(words[at + 1]);
     let array = flag(words[at + 2]);
-    let t = parts::as_type(words, at + 3);
+    let (ty, next) = parts::as_type(words, at + 3);
     ParamAt {
-        name: name,
-        byval: byval,
-        array: array,
-        head: t.head,
-        arg: t.arg,
-        next: t.next,
+        name,
+        byval,
+        array,
+        ty,
+        next,
     }
 }
 
@@ -89,11 +85,8 @@ fn past_params(words: &[u32], from: usize, count: u32) -> usize
     ensures { (ps : List Param) (T : ParamsAt words.now from count ps) → result ≡ T.end }
 {
     let mut at = from;
-    let mut i = 0;
-    while i < count {
-        let p = param(words, at);
-        at = p.next;
-        i += 1;
+    for _ in 0..count {
+        at = param(words, at).next;
     }
     at
 }
@@ -109,21 +102,21 @@ fn sub_at(words: &[u32], names: &[u8], n: u32, at: usize, end: usize) -> ProcAt
     let body = past_params(words, at + 3, count);
     let keeps = flag(words[end - 1]);
     ProcAt {
-        line: line,
-        name: name,
+        line,
+        name,
         params: at + 3,
-        count: count,
-        head: 0,
-        arg: 0,
-        body: body,
+        count,
+        ty: None,
+        body,
         past: end - 1,
         function: false,
-        keeps: keeps,
+        keeps,
         deffn: false,
     }
 }
 
-// The FUNCTION at a place: of the last two words before its end the first says whether it is STATIC, the second whether it is a DEF FN.
+// The FUNCTION at a place: of the last two words before its end the first says whether it is STATIC, the second whether it is a DEF FN. It differs from `sub_at` in what
+// words stand there, and each is said of its own sort of statement.
 fn function_at(words: &[u32], names: &[u8], n: u32, at: usize, end: usize) -> ProcAt
     requires { StmtTo names.now n function_kind words.now at end }
     ensures { ProcIs names.now n function_kind words.now at result }
@@ -132,21 +125,20 @@ fn function_at(words: &[u32], names: &[u8], n: u32, at: usize, end: usize) -> Pr
     let name = words[at + 1] % 16777216;
     let count = words[at + 2] % 16777216;
     let m = past_params(words, at + 3, count);
-    let t = parts::as_type(words, m);
+    let (ty, body) = parts::as_type(words, m);
     let keeps = flag(words[end - 2]);
     let deffn = flag(words[end - 1]);
     ProcAt {
-        line: line,
-        name: name,
+        line,
+        name,
         params: at + 3,
-        count: count,
-        head: t.head,
-        arg: t.arg,
-        body: t.next,
+        count,
+        ty,
+        body,
         past: end - 2,
         function: true,
-        keeps: keeps,
-        deffn: deffn,
+        keeps,
+        deffn,
     }
 }
 
@@ -160,23 +152,26 @@ fn result_type(
     s: Counts,
     line: u32,
     name: u32,
-    head: u32,
+    ty: Option<Typed>,
 ) -> Counts
     requires { NameAt bytes.now ends.now name × (name < 1024) × (s.notes * note_width ≤ length d.old) }
-    ensures { Says (λ ty. head ≡ head_of ty) (λ ty N D. result_type (given (some N) (some D) bytes.now ends.now []) line name ty) s result d.old d.new }
+    ensures { Says (λ o. ty ≡ written_if o) (λ o N D. result_type (given (some N) (some D) bytes.now ends.now []) line name o) s result d.old d.new }
 {
-    if head == 0 {
+    let Some(t) = ty else {
         return s;
-    }
-    let yes = parts::differs(bytes, ends, name, head);
+    };
+    let yes = parts::differs(bytes, ends, name, t.head);
     steps::push_if(d, s, yes, 15, line, name + 1, 0, 0, 0)
 }
 
-// The length of a fixed string, else 0.
-fn fixed_length(head: u32, arg: u32) -> u32
-    ensures { (ty : Option TypeRef) → head ≡ head_of ty → arg ≡ arg_of ty → result ≡ fixed_length ty }
+// The length of a fixed string, else 0, as the definition has it: of a length of 0 nothing is said either.
+fn fixed_length(ty: Option<Typed>) -> u32
+    ensures { (o : Option TypeRef) → ty ≡ written_if o → result ≡ fixed_length o }
 {
-    if head == 44 { arg } else { 0 }
+    match ty {
+        Some(t) => if t.head == 44 { t.arg } else { 0 },
+        None => 0,
+    }
 }
 
 // A parameter may not be a fixed string.
@@ -184,7 +179,7 @@ fn param_string(d: &mut [u32], s: Counts, line: u32, name: u32, p: ParamAt) -> C
     requires { (name < 16777216) × (p.name < 16777216) × (s.notes * note_width ≤ length d.old) }
     ensures { Says (ParamOf p) (λ q N D. param_string (plain N D) line name q) s result d.old d.new }
 {
-    let n = fixed_length(p.head, p.arg);
+    let n = fixed_length(p.ty);
     steps::push_if(d, s, n != 0, 22, line, p.name + 1, name + 1, n, 0)
 }
 
@@ -203,12 +198,10 @@ fn param_strings(
 {
     let mut c = s;
     let mut at = from;
-    let mut i = 0;
-    while i < count {
+    for _ in 0..count {
         let p = param(words, at);
         c = param_string(d, c, line, name, p);
         at = p.next;
-        i += 1;
     }
     c
 }
@@ -219,7 +212,7 @@ fn check_variable_length_strings(words: &[u32], d: &mut [u32], s: Counts, p: Pro
     ensures { Says (ProcOf words.now p) (λ f N D. check_variable_length_strings (plain N D) p.line f) s result d.old d.new }
 {
     let t = param_strings(words, d, s, p.line, p.name, p.params, p.count);
-    let n = fixed_length(p.head, p.arg);
+    let n = fixed_length(p.ty);
     steps::push_if(d, t, n != 0, 23, p.line, p.name + 1, 0, n, 0)
 }
 
@@ -228,7 +221,11 @@ fn defined_before(b: &[u32], d: &mut [u32], s: Counts, line: u32, name: u32) -> 
     requires { (name < 1024) × Fit s (length b.now) (length d.old) }
     ensures { Acts (λ x. name ≡ x) (λ x N D. defined_before (plain N D) line x) s result b.now d.old b.now d.new }
 {
-    let Found::At(i) = lookup::find_entry(b, s.rows, 135, name, 0) else {
+    let rows = Rows {
+        words: b,
+        count: s.rows,
+    };
+    let Some(i) = lookup::find_entry(&rows, 135, name, 0) else {
         return s;
     };
     let prev = b[i * table::WIDTH + 3];
@@ -249,7 +246,7 @@ fn before_entry(
     requires { SomeProc words.now p × NameAt bytes.now ends.now p.name × (p.name < 1024) × Fit s (length b.now) (length d.old) }
     ensures { Acts (ProcOf words.now p) (λ f N D. before_entry (given (some N) (some D) bytes.now ends.now []) scope p.line f) s result b.now d.old b.now d.new }
 {
-    let s1 = result_type(bytes, ends, d, s, p.line, p.name, p.head);
+    let s1 = result_type(bytes, ends, d, s, p.line, p.name, p.ty);
     let s2 = check_variable_length_strings(words, d, s1, p);
     let s3 = steps::push_if(d, s2, scope != 0, 24, p.line, p.name + 1, 0, 0, 0);
     defined_before(b, d, s3, p.line, p.name)
@@ -264,13 +261,12 @@ fn param_rows(words: &[u32], b: &mut [u32], s: Counts, name: u32, from: usize, c
 {
     let mut c = s;
     let mut at = from;
-    let mut i = 0;
-    while i < count {
+    for i in 0..count {
         let p = param(words, at);
         let m = entries::bit(p.byval) + 2 * entries::bit(p.array);
-        c = steps::enter(b, c, 136, name, i, p.name, m, p.head, p.arg);
+        let (head, arg) = parts::row_words(p.ty);
+        c = steps::enter(b, c, 136, name, i, p.name, m, head, arg);
         at = p.next;
-        i += 1;
     }
     c
 }
@@ -282,7 +278,8 @@ fn with_params(words: &[u32], b: &mut [u32], s: Counts, p: ProcAt) -> Counts
 {
     let s1 = steps::remove_under(b, s, 136, p.name, p.count);
     let f = entries::bit(p.function);
-    let s2 = steps::enter(b, s1, 135, p.name, 0, f, p.line, p.head, p.arg);
+    let (head, arg) = parts::row_words(p.ty);
+    let s2 = steps::enter(b, s1, 135, p.name, 0, f, p.line, head, arg);
     param_rows(words, b, s2, p.name, p.params, p.count)
 }
 
@@ -309,12 +306,12 @@ fn with_marks(b: &mut [u32], s: Counts, p: ProcAt) -> Counts
 // ---- its parameters inside the body
 
 // An array with the rank of its first use; without one its rank is 1, and that is marked.
-fn ranked(b: &mut [u32], s: Counts, scope: u32, line: u32, name: u32, u: Use) -> Counts
+fn ranked(b: &mut [u32], s: Counts, scope: u32, line: u32, name: u32, u: Option<u32>) -> Counts
     requires { (name < 16777216) × (s.rows * width ≤ length b.old) }
     ensures { Enters (λ o. use_of u ≡ o) (λ o N D. ranked_step (plain N D) scope line name o) s result b.old b.new }
 {
-    if u.found {
-        return steps::enter(b, s, 133, name, scope, u.count, line, 1, 0);
+    if let Some(n) = u {
+        return steps::enter(b, s, 133, name, scope, n, line, 1, 0);
     }
     let t = steps::enter(b, s, 133, name, scope, 1, line, 1, 0);
     steps::enter(b, t, 142, name, scope, 0, 0, 0, 0)
@@ -325,10 +322,7 @@ fn follows(words: &[u32], i: usize, w: u32) -> bool
     requires { (0 < i) × (i < length words.now) }
     ensures { result ≡ false → get_or words.now (i - 1) 0 ≡ w → kind_of (get_or words.now i 0) ≡ 1 → ⊥ }
 {
-    if words[i - 1] != w {
-        return false;
-    }
-    words[i] / 16777216 == 1
+    words[i - 1] == w && words[i] / 16777216 == 1
 }
 
 // Whether one does so somewhere.
@@ -336,91 +330,26 @@ fn listed(words: &[u32], from: usize, to: usize, w: u32) -> bool
     requires { (from < to) × (to ≤ length words.now) }
     ensures { result ≡ false → Quiet words.now from to w }
 {
-    let mut i = from + 1;
-    while i < to {
-        if follows(words, i, w) {
-            return true;
-        }
-        i += 1;
-    }
-    false
+    (from + 1..to).any(|i| follows(words, i, w))
 }
 
-// The first use of a name in a body. Where no list stands after the name there is none, and to see that is much less than to walk the body.
-fn used(words: &[u32], body: usize, past: usize, name: u32) -> Use
-    requires { SomeBody words.now body past × (name < 16777216) }
-    ensures { (ns : List ℕ) (n : ℕ) (v : Tree Expr (one body_sort)) → Stands words.now ns n body v past → use_of result ≡ subscript_count (λ name (e : Expr). in_expr name e) name v }
-{
-    if listed(words, body, past, 33554432 + name) {
-        return subscripts::subscript_count(words, body, name);
-    }
-    Use {
-        found: false,
-        count: 0,
-    }
-}
-
-// An array parameter has as many dimensions as the body subscripts it with: its declaration does not say.
-fn array_param(
-    words: &[u32],
-    b: &mut [u32],
-    s: Counts,
-    scope: u32,
-    line: u32,
-    body: usize,
-    past: usize,
-    p: ParamAt,
-) -> Counts
-    requires { SomeBody words.now body past × (p.name < 16777216) × (s.rows * width ≤ length b.old) }
-    ensures { (t : Tree Seen (one body_sort)) → BodyAt words.now body past t → Enters (ParamOf p) (λ q N D. array_param (plain N D) scope line t q) s result b.old b.new }
-{
-    if !p.array {
-        return s;
-    }
-    let u = used(words, body, past, p.name);
-    ranked(b, s, scope, line, p.name, u)
-}
-
-// All of them, each by a walk of its own; those that are no arrays are passed over.
-fn arrays_alone(
-    words: &[u32],
-    b: &mut [u32],
-    s: Counts,
-    scope: u32,
-    line: u32,
-    body: usize,
-    past: usize,
-    from: usize,
-    count: u32,
-) -> Counts
-    requires { SomeBody words.now body past × SomeParams words.now from count × (s.rows * width ≤ length b.old) }
-    ensures { (t : Tree Seen (one body_sort)) → BodyAt words.now body past t → Enters (ParamsAt words.now from count) (λ ps N D. each (array_param (plain N D) scope line t) ps) s result b.old b.new }
-{
-    let mut c = s;
-    let mut at = from;
-    let mut i = 0;
-    while i < count {
-        let p = param(words, at);
-        c = array_param(words, b, c, scope, line, body, past, p);
-        at = p.next;
-        i += 1;
-    }
-    c
-}
-
-// The first use of a name in a body, from the notes of its uses where they have room for it.
-fn used_noted(words: &[u32], body: usize, past: usize, uses: &[usize], name: u32) -> Use
+// The first use of a name in a body: from the notes of its uses where they have room for it. Where not, and no list stands after the name, there is none, and to
+// see that is much less than to walk the body.
+fn used(words: &[u32], body: usize, past: usize, uses: &[usize], name: u32) -> Option<u32>
     requires { SomeBody words.now body past × Told words.now body 0 uses.now × (name < 16777216) }
     ensures { (ns : List ℕ) (n : ℕ) (v : Tree Expr (one body_sort)) → Stands words.now ns n body v past → use_of result ≡ subscript_count (λ name (e : Expr). in_expr name e) name v }
 {
     if 2 * name as usize + 1 < uses.len() {
         return subscripts::first_use(uses, 0, name);
     }
-    used(words, body, past, name)
+    if listed(words, body, past, 33554432 + name) {
+        return subscripts::subscript_count(words, body, name);
+    }
+    None
 }
 
-// An array parameter by the notes.
-fn array_noted(
+// An array parameter has as many dimensions as the body subscripts it with: its declaration does not say.
+fn array_param(
     words: &[u32],
     b: &mut [u32],
     s: Counts,
@@ -437,12 +366,12 @@ fn array_noted(
     if !p.array {
         return s;
     }
-    let u = used_noted(words, body, past, uses, p.name);
+    let u = used(words, body, past, uses, p.name);
     ranked(b, s, scope, line, p.name, u)
 }
 
-// All of them by one walk of the body, which notes the first uses of all names.
-fn arrays_noted(
+// All of them by notes of the first uses in the body; those that are no arrays are passed over.
+fn arrays_by(
     words: &[u32],
     b: &mut [u32],
     s: Counts,
@@ -452,26 +381,23 @@ fn arrays_noted(
     past: usize,
     from: usize,
     count: u32,
-    uses: &mut [usize],
+    uses: &[usize],
 ) -> Counts
-    requires { SomeBody words.now body past × SomeParams words.now from count × (s.rows * width ≤ length b.old) × Blank uses.old }
+    requires { SomeBody words.now body past × SomeParams words.now from count × (s.rows * width ≤ length b.old) × Told words.now body 0 uses.now }
     ensures { (t : Tree Seen (one body_sort)) → BodyAt words.now body past t → Enters (ParamsAt words.now from count) (λ ps N D. each (array_param (plain N D) scope line t) ps) s result b.old b.new }
 {
-    subscripts::first_uses(words, body, uses, 0);
     let mut c = s;
     let mut at = from;
-    let mut i = 0;
-    while i < count {
+    for _ in 0..count {
         let p = param(words, at);
-        c = array_noted(words, b, c, scope, line, body, past, uses, p);
+        c = array_param(words, b, c, scope, line, body, past, uses, p);
         at = p.next;
-        i += 1;
     }
     c
 }
 
-// With room for the uses of 64 names, for a program of at most 64 strings: its names have numbers below 64.
-fn few_names(
+// The same by one walk of the body, which notes the first uses of as many names as N words have room for.
+fn arrays_noted<const N: usize>(
     words: &[u32],
     b: &mut [u32],
     s: Counts,
@@ -482,30 +408,12 @@ fn few_names(
     from: usize,
     count: u32,
 ) -> Counts
-    requires { SomeBody words.now body past × SomeParams words.now from count × (s.rows * width ≤ length b.old) }
+    requires { SomeBody words.now body past × SomeParams words.now from count × (s.rows * width ≤ length b.old) × (N ≤ 2048) }
     ensures { (t : Tree Seen (one body_sort)) → BodyAt words.now body past t → Enters (ParamsAt words.now from count) (λ ps N D. each (array_param (plain N D) scope line t) ps) s result b.old b.new }
 {
-    let mut uses = [0usize; 128];
-    arrays_noted(words, b, s, scope, line, body, past, from, count, &mut uses)
-}
-
-// With room for the uses of 1,024 names, as many as a table of strings may have.
-fn many_names(
-    words: &[u32],
-    b: &mut [u32],
-    s: Counts,
-    scope: u32,
-    line: u32,
-    body: usize,
-    past: usize,
-    from: usize,
-    count: u32,
-) -> Counts
-    requires { SomeBody words.now body past × SomeParams words.now from count × (s.rows * width ≤ length b.old) }
-    ensures { (t : Tree Seen (one body_sort)) → BodyAt words.now body past t → Enters (ParamsAt words.now from count) (λ ps N D. each (array_param (plain N D) scope line t) ps) s result b.old b.new }
-{
-    let mut uses = [0usize; 2048];
-    arrays_noted(words, b, s, scope, line, body, past, from, count, &mut uses)
+    let mut uses = [0usize; N];
+    subscripts::first_uses(words, body, &mut uses, 0);
+    arrays_by(words, b, s, scope, line, body, past, from, count, &uses)
 }
 
 // How many of the parameters are arrays.
@@ -514,17 +422,16 @@ fn arrays(words: &[u32], from: usize, count: u32) -> u32
 {
     let mut n = 0;
     let mut at = from;
-    let mut i = 0;
-    while i < count {
+    for _ in 0..count {
         let p = param(words, at);
         n += entries::bit(p.array);
         at = p.next;
-        i += 1;
     }
     n
 }
 
-// The array parameters: one walk for two or more, since the body may be long; `few` says that there are at most 64 strings.
+// The array parameters: one walk for two or more, since the body may be long. `few` says that there are at most 64 strings, so that their names have numbers
+// below 64; a table of strings has at most 1,024, and a name has two words in the notes.
 fn array_params(
     words: &[u32],
     b: &mut [u32],
@@ -541,47 +448,43 @@ fn array_params(
     ensures { (t : Tree Seen (one body_sort)) → BodyAt words.now body past t → Enters (ParamsAt words.now from count) (λ ps N D. each (array_param (plain N D) scope line t) ps) s result b.old b.new }
 {
     if arrays(words, from, count) < 2 {
-        return arrays_alone(words, b, s, scope, line, body, past, from, count);
+        return arrays_by(words, b, s, scope, line, body, past, from, count, &[]);
     }
     if few {
-        return few_names(words, b, s, scope, line, body, past, from, count);
+        return arrays_noted::<128>(words, b, s, scope, line, body, past, from, count);
     }
-    many_names(words, b, s, scope, line, body, past, from, count)
+    arrays_noted::<2048>(words, b, s, scope, line, body, past, from, count)
 }
 
 // A record's TYPE must be there.
-fn undefined(
-    b: &[u32],
-    d: &mut [u32],
-    s: Counts,
-    line: u32,
-    name: u32,
-    head: u32,
-    arg: u32,
-) -> Counts
-    requires { (name < 16777216) × (arg < 16777216) × Fit s (length b.now) (length d.old) }
-    ensures { Acts (λ ty. (head ≡ head_is ty) × (arg ≡ arg_is ty)) (λ ty N D. undefined_step (plain N D) ty (λ x. param_undefined line name x)) s result b.now d.old b.now d.new }
+fn undefined(b: &[u32], d: &mut [u32], s: Counts, line: u32, name: u32, ty: Typed) -> Counts
+    requires { (name < 16777216) × (ty.arg < 16777216) × Fit s (length b.now) (length d.old) }
+    ensures { Acts (λ t. (ty.head ≡ head_is t) × (ty.arg ≡ arg_is t)) (λ t N D. undefined_step (plain N D) t (λ x. param_undefined line name x)) s result b.now d.old b.now d.new }
 {
-    if head != 45 {
+    if ty.head != 45 {
         return s;
     }
-    let known = lookup::has(b, s.rows, 130, arg, 0);
-    steps::push_if(d, s, !known, 26, line, name + 1, arg + 1, 0, 0)
+    let rows = Rows {
+        words: b,
+        count: s.rows,
+    };
+    let known = lookup::has(&rows, 130, ty.arg, 0);
+    steps::push_if(d, s, !known, 26, line, name + 1, ty.arg + 1, 0, 0)
 }
 
 // A parameter with an AS clause is a typed variable.
 fn typed_param(b: &mut [u32], d: &mut [u32], s: Counts, scope: u32, line: u32, p: ParamAt) -> Counts
-    requires { (p.name < 16777216) × (p.arg < 16777216) × Fit s (length b.old) (length d.old) }
+    requires { (p.name < 16777216) × (arg_word p.ty < 16777216) × Fit s (length b.old) (length d.old) }
     ensures { Acts (ParamOf p) (λ q N D. typed_param (plain N D) scope line q) s result b.old d.old b.new d.new }
 {
     if p.array {
         return s;
     }
-    if p.head == 0 {
+    let Some(ty) = p.ty else {
         return s;
-    }
-    let t = undefined(b, d, s, line, p.name, p.head, p.arg);
-    steps::enter(b, t, 134, p.name, scope, p.head, p.arg, 0, 0)
+    };
+    let t = undefined(b, d, s, line, p.name, ty);
+    steps::enter(b, t, 134, p.name, scope, ty.head, ty.arg, 0, 0)
 }
 
 // All of them, after all arrays.
@@ -600,12 +503,10 @@ fn typed_params(
 {
     let mut c = s;
     let mut at = from;
-    let mut i = 0;
-    while i < count {
+    for _ in 0..count {
         let p = param(words, at);
         c = typed_param(b, d, c, scope, line, p);
         at = p.next;
-        i += 1;
     }
     c
 }
@@ -665,7 +566,7 @@ pub fn sub(
     procedure(words, bytes, ends, b, d, s, scope, p)
 }
 
-// A FUNCTION, or a DEF FN.
+// A FUNCTION, or a DEF FN. It differs from `sub` in how it is read, which is all that either has to say.
 pub fn function(
     words: &[u32],
     names: &[u8],

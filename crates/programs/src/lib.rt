@@ -7,18 +7,11 @@ ghost use Rattle.std.specs.Io.{ReadsAtMost};
 use std::io;
 use std::io::Read;
 
-// Room for the longest listing: a function's result, of which the length alone is known, so that no proof counts a million bytes.
-pub fn room() -> [u8; 1048576]
-    ensures { 1048576 ≡ length result }
+// Room for a listing or a file: a function's result, of which the length alone is known, so that no proof counts a million bytes.
+pub fn room<T: Copy, const N: usize>(fill: T) -> [T; N]
+    ensures { N ≡ length result }
 {
-    [0; 1048576]
-}
-
-// Room for a file of which the first 65,536 bytes are wanted.
-pub fn file_room() -> [u8; 65536]
-    ensures { 65536 ≡ length result }
-{
-    [0; 65536]
+    [fill; N]
 }
 
 // The input into the buffer's beginning, until the buffer is full or the input ends: how many bytes.
@@ -26,6 +19,7 @@ pub fn read_full<R: Read>(input: &mut R, b: &mut [u8]) -> io::Result<usize>
     ensures { ReadsAtMost result b.new }
 {
     let mut done = 0;
+    // A `while`: it counts bytes, of which one read may give any number.
     while done < b.len() {
         let n = input.read(&mut b[done..])?;
         if n == 0 {

@@ -4,6 +4,7 @@ use mathlib.Core.Path.{◌≡◌, refl, sym, ap, ◌∙◌}
 use mathlib.Core.Bool.{Bool, true, false, ◌&&◌}
 use mathlib.Mathlib.Data.Bool.Basic.{and_elim_left, and_elim_right}
 use mathlib.Core.List.{List}
+use mathlib.Core.Logic.{◌⊎◌, inl, inr}
 use native.Mathlib.Omega.{arith}
 use native.Mathlib.Numerals.{add-one}
 use lib.ListN.{length, get_or, take, drop, drop_of_length-le}
@@ -16,19 +17,28 @@ use Rattle.words.specs.Told.{stops, gives, after, unless}
 use Rattle.strings.proofs.Laws.{and_true, and_false}
 use Rattle.strings.specs.Table.{Names}
 use Rattle.expr.specs.Got.{Got, got, wrong, deep}
-use Rattle.expr.specs.Answer.{step_of}
-use Rattle.expr.specs.declared.Step.{Step}
+use Rattle.expr.specs.Answer.{step_of, refusal_of, Step}
+use Rattle.expr.specs.declared.Cursor.{Cursor}
+use Rattle.expr.specs.declared.Misread.{Misread}
+use Rattle.expr.specs.declared.Misread.TheVariants.{Wrong, Deep}
+use Rattle.std.specs.Prelude.{Ok, Err}
+use Rattle.words.specs.Refusals.{refused}
+use Rattle.reader.specs.Answered.{answer_read, answer_wrong, answer_deep}
 use Rattle.tree.specs.Reader.{program_at}
 use Rattle.reader.specs.Sized.{sized_strings, sized_tree, sized_program}
-use Rattle.reader.specs.Reading.{node_of, node_of_step}
+use Rattle.reader.specs.Reading.{node_of}
 use Rattle.reader.specs.Program.{whole_of, erased_from, program_of, accepted_of, verdict, end_of, step_told}
 
--- the node of the code's step is that of the reading
-pub node_is : {A : Type 0} (ws : List ℕ) (at : ℕ) (g : Got A) {s : Step} → s ≡ step_of g → node_of_step ws at s ≡ node_of ws at g
-unfolding node_of_step node_of step_of
-node_is ws at (got a m) e = rw e refl
-node_is ws at (wrong p) e = rw e refl
-node_is ws at (deep p) e = rw e refl
+-- the node that was read
+pub node_ok : {A : Type 0} (ws : List ℕ) (at : ℕ) (g : Got A) {s : Step} {c : Cursor} → s ≡ step_of g → s ≡ Ok c → gives (record { head = get_or ws at 0; first = at; end = c.at }) ≡ node_of ws at g
+unfolding node_of
+node_ok ws at g e q = let r = answer_read g e q in rw r.is refl
+
+-- where none was read: the refusal that a `?` makes of what was wrong
+pub node_err : {A : Type 0} (ws : List ℕ) (at : ℕ) (g : Got A) {s : Step} {m : Misread} → s ≡ step_of g → s ≡ Err m → refused (refusal_of m) ≡ node_of ws at g
+unfolding node_of refused
+node_err ws at g {m = Wrong p} e q = rw (answer_wrong g e q) refl
+node_err ws at g {m = Deep p} e q = rw (answer_deep g e q) refl
 
 -- ---- sizes
 
@@ -47,6 +57,11 @@ module _ (bytes ends ws : List ℕ) where
   pub words_are : length bytes ≤ 16384 → length ends ≤ 1024 → sized_tree bytes ends ws ≡ leb (length ws) 8192
   unfolding sized_tree sized_strings
   words_are p q = and_true _ _ (and_true _ _ (le-leb (length bytes) 16384 p) ∙ le-leb (length ends) 1024 q)
+
+  -- too many bytes or too many strings
+  pub strings_over : (length bytes ≤ 16384) × (1024 < length ends) ⊎ (16384 < length bytes) → sized_tree bytes ends ws ≡ false
+  strings_over (inl p) = ends_over p.0 p.1
+  strings_over (inr p) = bytes_over p
 
   -- within the sizes there are at most 1,024 strings
   pub few_strings : sized_tree bytes ends ws ≡ true → length ends ≤ max_strings
@@ -116,6 +131,17 @@ module _ (ns ws erased : List ℕ) where
   pub program_told : {s : Step} → s ≡ step_of (program_at ws ns (length ns)) → step_told ns ws erased s ≡ verdict (accepted_of ns ws erased)
   unfolding accepted_of program_of
   program_told e = ap (step_told ns ws erased) e ∙ by_got (program_at ws ns (length ns))
+
+  -- it came to a place: what is asked there
+  pub program_ok : {s : Step} {c : Cursor} → s ≡ step_of (program_at ws ns (length ns)) → s ≡ Ok c → end_of ns ws erased c.at ≡ verdict (accepted_of ns ws erased)
+  unfolding step_told
+  program_ok e q = ap (step_told ns ws erased) (sym q) ∙ program_told e
+
+  -- it did not: the refusal that a `?` makes of what was wrong
+  pub program_err : {s : Step} {m : Misread} → s ≡ step_of (program_at ws ns (length ns)) → s ≡ Err m → refused (refusal_of m) ≡ verdict (accepted_of ns ws erased)
+  unfolding step_told refused
+  program_err {m = Wrong p} e q = ap (step_told ns ws erased) (sym q) ∙ program_told e
+  program_err {m = Deep p} e q = ap (step_told ns ws erased) (sym q) ∙ program_told e
 
 -- ---- erased names
 

@@ -1,15 +1,14 @@
 -- A whole program: one list of statements and no word over, and the erased names.
-use Rattle.std.specs.Prelude.{ℕ, ◌+◌, Bool, true, ◌&&◌, List, [], ◌∷◌, length, get_or, leb, eqb}
+use Rattle.std.specs.Prelude.{ℕ, ◌+◌, Bool, true, ◌&&◌, List, [], ◌∷◌, length, get_or, leb, eqb, Ok, Err, Result}
 use Rattle.words.specs.Word.{pick}
 use Rattle.words.specs.Told.{Told, stops, gives, after, unless}
 use Rattle.words.specs.Refusals.{refused}
 use Rattle.expr.specs.Got.{Got, got, wrong, deep}
 use Rattle.tree.specs.Tree.{Program}
 use Rattle.tree.specs.Reader.{program_at}
-use Rattle.expr.specs.declared.Step.{Step}
-use Rattle.expr.specs.declared.Step.TheVariants.{Read, Wrong, Deep}
-use Rattle.reader.specs.declared.Accepted.{Accepted}
-use Rattle.reader.specs.declared.Accepted.TheVariants.{Fine, Refused}
+use Rattle.expr.specs.Answer.{Step}
+use Rattle.expr.specs.declared.Misread.TheVariants.{Wrong, Deep}
+use Rattle.words.specs.declared.Refusal.{Refusal}
 
 -- all words are the tree's, else number 2 at the first word over (`whole_of` of numbers/specs/Numbers.antt rounds a float)
 unfoldable pub whole_of : {A : Type 0} → List ℕ → Got A → Told A
@@ -40,9 +39,9 @@ verdict (stops n p) = stops n p
 verdict (gives a) = gives tt
 
 -- document 01's number and values for each case of the answer
-unfoldable pub told : Accepted → Told (Unit {0})
-told Fine = gives tt
-told (Refused r) = refused r
+unfoldable pub told : Result (Unit {0}) Refusal → Told (Unit {0})
+told (Ok tt) = gives tt
+told (Err r) = refused r
 
 -- what is left to ask of a tree that was read up to `at`
 unfoldable pub end_of : List ℕ → List ℕ → List ℕ → ℕ → Told (Unit {0})
@@ -52,6 +51,6 @@ end_of ns ws erased at = pick (eqb at (length ws)) (unless (erased_from ns 0 era
 -- and where reading stopped
 unfoldable pub step_told : List ℕ → List ℕ → List ℕ → Step → Told (Unit {0})
 unfolding end_of
-step_told ns ws erased (Read c) = end_of ns ws erased c.at
-step_told ns ws erased (Wrong p) = stops 2 p
-step_told ns ws erased (Deep p) = stops 3 p
+step_told ns ws erased (Ok c) = end_of ns ws erased c.at
+step_told ns ws erased (Err (Wrong p)) = stops 2 p
+step_told ns ws erased (Err (Deep p)) = stops 3 p

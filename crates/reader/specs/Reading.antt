@@ -1,17 +1,16 @@
 -- One statement or one expression at a place: the node, or the number and the place that stop the call.
-use Rattle.std.specs.Prelude.{ℕ, List, length, get_or}
+use Rattle.std.specs.Prelude.{ℕ, List, length, get_or, Ok, Err, Result}
 use Rattle.words.specs.Sizes.{max_depth}
 use Rattle.words.specs.Told.{Told, stops, gives}
 use Rattle.words.specs.Refusals.{refused}
 use Rattle.expr.specs.Got.{Got, got, wrong, deep}
 use Rattle.expr.specs.Reader.{expr_at}
-use Rattle.expr.specs.declared.Step.{Step}
-use Rattle.expr.specs.declared.Step.TheVariants.{Read as Passed, Wrong, Deep}
 use Rattle.tree.specs.Tree.{strings}
 use Rattle.tree.specs.Reader.{stmt_at}
 use Rattle.reader.specs.declared.Node.{Node}
-use Rattle.reader.specs.declared.Reading.{Reading}
-use Rattle.reader.specs.declared.Reading.TheVariants.{Read, Refused}
+use Rattle.expr.specs.Answer.{Step}
+use Rattle.expr.specs.declared.Misread.TheVariants.{Wrong, Deep}
+use Rattle.words.specs.declared.Refusal.{Refusal}
 
 -- what was read from `at`: its head word, its place, and the place past it
 unfoldable pub node_of : {A : Type 0} → List ℕ → ℕ → Got A → Told Node
@@ -21,9 +20,9 @@ node_of ws at (deep p) = stops 3 p
 
 -- the same of the code's answer, which leaves the tree out
 unfoldable pub node_of_step : List ℕ → ℕ → Step → Told Node
-node_of_step ws at (Passed c) = gives (record { head = get_or ws at 0; first = at; end = c.at })
-node_of_step ws at (Wrong p) = stops 2 p
-node_of_step ws at (Deep p) = stops 3 p
+node_of_step ws at (Ok c) = gives (record { head = get_or ws at 0; first = at; end = c.at })
+node_of_step ws at (Err (Wrong p)) = stops 2 p
+node_of_step ws at (Err (Deep p)) = stops 3 p
 
 -- ns: for each string 1 where it is a name. The node there has depth 1, and words may follow it.
 unfoldable pub statement_of : List ℕ → List ℕ → ℕ → Told Node
@@ -36,9 +35,9 @@ unfolding node_of
 expression_of ns ws at = node_of ws at (expr_at ws (strings ns (length ns)) max_depth at)
 
 -- document 01's number and values for each case of the answer
-unfoldable pub told : Reading → Told Node
-told (Read n) = gives n
-told (Refused r) = refused r
+unfoldable pub told : Result Node Refusal → Told Node
+told (Ok n) = gives n
+told (Err r) = refused r
 
 -- the place afterwards: past the node, or as it came
 unfoldable pub moved_of : ℕ → Told Node → ℕ

@@ -2,11 +2,10 @@
 // list was made). A record is the image's length, the image, the listing's length, the listing; lengths are 32 bits, little-endian.
 #![tactic(auto)]
 
-ghost use Rattle.std.specs.Prelude.{◌≤◌, length, IfOk};
+ghost use Rattle.std.specs.Prelude.{◌≤◌, length, IfOk, IfSome};
 
 use std::io;
 use std::io::Read;
-use strings::Order;
 
 // No more records are read than this.
 const MOST: u64 = 1000000;
@@ -16,32 +15,17 @@ fn length_of(b: &[u8], most: usize) -> usize
     requires { 4 ≤ length b.now }
     ensures { result ≤ most }
 {
-    let n = image::word(b, 0) as usize;
-    if most < n {
-        return most;
-    }
-    n
+    (image::word(b, 0) as usize).min(most)
 }
 
-// The next length of the input, 0 where it ends.
-fn read_length<R: Read>(input: &mut R, b: &mut [u8], most: usize) -> io::Result<usize>
-    ensures { IfOk result (λ n. n ≤ most) }
+// The next length of the input, at most `most`, or none where it ends.
+fn read_length<R: Read>(input: &mut R, b: &mut [u8], most: usize) -> io::Result<Option<usize>>
+    ensures { IfOk result (λ n. IfSome n (λ n. n ≤ most)) }
 {
-    if b.len() < 4 {
-        return Ok(0);
+    if b.len() < 4 || !programs::read_part(input, b, 4)? {
+        return Ok(None);
     }
-    let four = &mut b[..4];
-    if programs::read_full(input, four)? < 4 {
-        return Ok(0);
-    }
-    Ok(length_of(b, most))
-}
-
-fn same(a: &[u8], b: &[u8]) -> bool {
-    match strings::compare(a, b) {
-        Order::Equal => true,
-        _ => false,
-    }
+    Ok(Some(length_of(b, most)))
 }
 
 // How many records were read, and how many of them came out alike.
@@ -51,42 +35,33 @@ struct Score {
     right: u64,
 }
 
-// What came of one record.
-#[derive(Clone, Copy)]
-enum Record {
-    None,
-    Alike,
-    Other,
-}
-
-// The listing of the image in `image` beside the one in `kept`.
-fn judge(image: &[u8], kept: &[u8], out: &mut [u8]) -> Record {
+// Whether the listing of the image in `image` is the one in `kept`.
+fn judge(image: &[u8], kept: &[u8], out: &mut [u8]) -> bool {
     let k = listing::patskneli_listing(image, out);
-    if same(&out[..k], kept) {
-        return Record::Alike;
-    }
-    Record::Other
+    &out[..k] == kept
 }
 
-// The next record, read and judged.
+// The next record, read and judged: whether it came out alike, or none where the input ends.
 fn next<R: Read>(
     input: &mut R,
     image: &mut [u8],
     kept: &mut [u8],
     out: &mut [u8],
-) -> io::Result<Record> {
-    let n = read_length(input, image, image.len())?;
+) -> io::Result<Option<bool>> {
+    let Some(n) = read_length(input, image, image.len())? else {
+        return Ok(None);
+    };
     if !programs::read_part(input, image, n)? {
-        return Ok(Record::None);
+        return Ok(None);
     }
-    let m = read_length(input, kept, kept.len())?;
-    if m == 0 {
-        return Ok(Record::None);
+    let Some(m) = read_length(input, kept, kept.len())? else {
+        return Ok(None);
+    };
+    // no listing is empty: such a record ends the list
+    if m == 0 || !programs::read_part(input, kept, m)? {
+        return Ok(None);
     }
-    if !programs::read_part(input, kept, m)? {
-        return Ok(Record::None);
-    }
-    Ok(judge(&image[..n], &kept[..m], out))
+    Ok(Some(judge(&image[..n], &kept[..m], out)))
 }
 
 fn replay<R: Read>(
@@ -95,29 +70,20 @@ fn replay<R: Read>(
     kept: &mut [u8],
     out: &mut [u8],
 ) -> io::Result<Score> {
-    let mut left = MOST;
-    let mut all: u64 = 0;
-    let mut good: u64 = 0;
-    while 0 < left {
-        match next(input, image, kept, out)? {
-            Record::None => {
-                return Ok(Score { all, right: good });
-            }
-            Record::Alike => {
-                good = std::num::wrapping_add_u64(good, 1);
-            }
-            Record::Other => {}
-        }
-        all = std::num::wrapping_add_u64(all, 1);
-        left -= 1;
+    let mut right = 0;
+    for all in 0..MOST {
+        let Some(alike) = next(input, image, kept, out)? else {
+            return Ok(Score { all, right });
+        };
+        right += u64::from(alike);
     }
-    Ok(Score { all, right: good })
+    Ok(Score { all: MOST, right })
 }
 
 fn main(rt: HostRuntime) -> io::Result<()> {
-    let mut image = programs::file_room();
-    let mut kept = programs::room();
-    let mut out = programs::room();
+    let mut image: [u8; 65536] = programs::room(0);
+    let mut kept: [u8; 1048576] = programs::room(0);
+    let mut out: [u8; 1048576] = programs::room(0);
     let s = replay(&mut rt.stdin(), &mut image, &mut kept, &mut out)?;
     println!(rt; "{} of {}", s.right, s.all)
 }

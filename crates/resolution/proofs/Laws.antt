@@ -1,6 +1,6 @@
 -- The steps of an entry: what was read, the rules of rows, scope and room, the run on the part of the words that was read, and what that
 -- comes to. Assumes nothing.
-use Prim.Native.Nat.{ℕ, zero, suc, ◌-◌, ◌≤◌, ◌<◌}
+use Prim.Native.Nat.{ℕ, zero, suc, ◌-◌, ◌*◌, ◌≤◌, ◌<◌}
 use native.Mathlib.Omega.{arith}
 use mathlib.Core.Path.{◌≡◌, refl, sym, ap, subst, ◌∙◌}
 use mathlib.Core.Bool.{Bool, true, false, ◌&&◌, and-eq-true_iff}
@@ -13,27 +13,24 @@ use Rattle.words.specs.Sizes.{max_strings, max_depth}
 use Rattle.words.specs.Told.{Told, gives, after, unless}
 use Rattle.words.specs.Refusals.{refused}
 use Rattle.words.specs.declared.Refusal.{Refusal}
-use Rattle.words.specs.declared.Refusal.TheVariants.{Word, Depth, Rows as NoRows, Lookup, Output}
+use Rattle.words.specs.declared.Refusal.TheVariants.{Word, Rows as NoRows, Lookup, Output}
 use Rattle.strings.specs.Open.{Answers}
 use Rattle.expr.specs.Expr.{Strings, Exprs, many, words, words_all}
 use Rattle.expr.specs.Got.{Got}
 use Rattle.expr.specs.Reader.{expr_at, list_at}
-use Rattle.expr.specs.Answer.{step_of}
+use Rattle.expr.specs.Answer.{step_of, refusal_of, Step}
 use Rattle.expr.specs.Stands.{Wrote, Stands, StandsAll}
-use Rattle.expr.specs.declared.Step.{Step}
-use Rattle.expr.specs.declared.Step.TheVariants.{Read as Passed-by, Wrong, Deep}
 use Rattle.expr.proofs.Parts.{wrote_first, pay_is}
 use Rattle.expr.proofs.Sound.{sound, list_sound}
 use Rattle.tree.specs.Tree.{strings, words_t, Program}
 use Rattle.tree.specs.Reader.{program_at}
 use Rattle.tree.proofs.Sound.{program_sound}
 use Rattle.reader.specs.Program.{whole_of, program_of}
-use Rattle.table.specs.Rows.{rows_of, Holds}
+use Rattle.table.specs.Rows.{rows_of, width, Holds}
 use Rattle.table.specs.Images.{holds_fits}
 use Rattle.lent.specs.Rules.{is_marked, scope_ok}
 use Rattle.lent.specs.Lent.{checked, lent_rows}
 use Rattle.lent.specs.LentLaws.{checked_sound}
-use Rattle.lent.specs.declared.Checked.TheVariants.{Bad, Rows}
 use Rattle.lent.specs.RuleLaws.{name_below, scope_below}
 use Rattle.resolve.specs.Tables.{Tables, places}
 use Rattle.resolve.specs.FromRows.{tables_of}
@@ -43,18 +40,21 @@ use Rattle.accesses.specs.Post.{ReadyProgram, ResolvedProgram}
 use Rattle.resolution.specs.Entries.{Written, taken_of, ruling, rewritten, resolve_expr_at, resolve_args_at, resolve_all, told, counted, written, Tells, Rewrites}
 use Rattle.reader.specs.Answered.{ReadTo, answer_read, answer_wrong, answer_deep}
 use Rattle.resolution.specs.Inner.{Passed}
-use Rattle.resolution.specs.declared.Resolution.TheVariants.{Wrote as Did, Refused}
-use Rattle.resolution.specs.declared.Resolution.{Resolution}
+use Rattle.std.specs.Prelude.{Option as RustOption, Ok, Err, None, Some, Result}
+use Rattle.std.specs.Option.{ok_or}
+use Rattle.expr.specs.declared.Misread.{Misread}
+use Rattle.expr.specs.declared.Misread.TheVariants.{Wrong, Deep}
+use Rattle.resolution.specs.declared.Reached.{Reached}
 
 -- ---- 6, 11, 10
 
 module _ (names rows : List ℕ) (right : Bool) (size room : ℕ) where
   -- rows that are no lent table: 6
-  pub ruled_bad : checked names rows ≡ Bad → ruling names rows right size room ≡ refused NoRows
+  pub ruled_bad : checked names rows ≡ None → ruling names rows right size room ≡ refused NoRows
   unfolding ruling lent_rows after refused
   ruled_bad e = rw e
 
-  module _ (n : ℕ) (e : checked names rows ≡ Rows n) where
+  module _ (n : ℕ) (e : checked names rows ≡ Some n) where
     -- a scope or a name that is not right: 11
     pub ruled_no : right ≡ false → ruling names rows right size room ≡ refused Lookup
     unfolding ruling lent_rows after refused unless
@@ -69,6 +69,20 @@ module _ (names rows : List ℕ) (right : Bool) (size room : ℕ) where
   unfolding ruling lent_rows after unless
   ruled_yes p = rw (p.rows_are, p.admitted, le-leb size room p.roomy)
 
+-- the rows' count, or why there is none
+refusal_in : Result ℕ Refusal → Refusal
+refusal_in (Ok n) = NoRows
+refusal_in (Err f) = f
+
+pub rows_counted : {o : RustOption ℕ} {v : Result ℕ Refusal} {n : ℕ} → v ≡ ok_or o NoRows → v ≡ Ok n → o ≡ Some n
+rows_counted {o = Some m} e q = cc
+rows_counted {o = None} e q = cc
+
+pub rows_missing : {o : RustOption ℕ} {v : Result ℕ Refusal} {f : Refusal} → v ≡ ok_or o NoRows → v ≡ Err f → (o ≡ None) × (f ≡ NoRows)
+unfolding refusal_in
+rows_missing {o = Some m} e q = absurd (cc)
+rows_missing {o = None} e q = (refl, ap refusal_in (sym q ∙ e))
+
 -- the code's test in the place of the definition's
 pub ruled_as : (names rows : List ℕ) (size room : ℕ) {b t : Bool} (s : Refusal) → b ≡ t → ruling names rows b size room ≡ refused s → ruling names rows t size room ≡ refused s
 ruled_as names rows size room s e = subst (λ (x : Bool). ruling names rows x size room ≡ refused s) e
@@ -80,12 +94,12 @@ passed_as {names} {rows} {size} {room} {n} e = subst (λ (x : Bool). Passed name
 -- ---- what was read
 
 -- a refusal leaves the output as it came
-pub stopped : (f : Refusal) (out : List ℕ) {u : Told Written} → u ≡ refused f → Tells (Refused f) out out u
+pub stopped : (f : Refusal) (out : List ℕ) {u : Told Written} → u ≡ refused f → Tells (Err f) out out u
 unfolding told counted written refused
 stopped f out e = rw e (record { answer = refl; output = refl })
 
 -- what was written is told, with its count and the place past what was read
-pub said : {out last : List ℕ} {end count : ℕ} {w : List ℕ} {u : Told Written} → u ≡ gives (record { words' = w; end = end }) → count ≡ length w → last ≡ sets out 0 w → Tells (Did (record { end = end; count = count })) out last u
+pub said : {out last : List ℕ} {end count : ℕ} {w : List ℕ} {u : Told Written} → u ≡ gives (record { words' = w; end = end }) → count ≡ length w → last ≡ sets out 0 w → Tells (Ok (record { end = end; count = count })) out last u
 unfolding told counted written
 said e c o = rw (e, c) (record { answer = refl; output = o })
 
@@ -93,15 +107,11 @@ module _ {A : Type 0} (names rows : List ℕ) (right : Bool) (at room : ℕ) (f 
   abbrev all : Told Written
   all = after (taken_of g) (rewritten names rows right at room f)
 
-  -- a wrong word: 2
-  pub at_wrong : {s : Step} {p : ℕ} → s ≡ step_of g → s ≡ Wrong p → all ≡ refused (Word p)
+  -- it was not read: the refusal that a `?` makes of what was wrong
+  pub at_misread : {s : Step} {m : Misread} → s ≡ step_of g → s ≡ Err m → all ≡ refused (refusal_of m)
   unfolding taken_of after refused
-  at_wrong e q = rw (answer_wrong g e q)
-
-  -- one too deep: 3
-  pub at_deep : {s : Step} {p : ℕ} → s ≡ step_of g → s ≡ Deep p → all ≡ refused (Depth p)
-  unfolding taken_of after refused
-  at_deep e q = rw (answer_deep g e q)
+  at_misread {m = Wrong p} e q = rw (answer_wrong g e q)
+  at_misread {m = Deep p} e q = rw (answer_deep g e q)
 
   module _ {end : ℕ} (r : ReadTo g end) where
     -- one of these rules refuses
@@ -123,11 +133,15 @@ wrote_part {ws} {at} {end} {xs} w =
     let e : take (end - at) (drop at ws) ≡ xs = ap (λ (k : ℕ). take k (drop at ws)) l ∙ ap (take (length xs)) w.is ∙ take-append_seam xs (drop end ws) in
     rw (e, l) (record { span = omega arith; inside = omega arith; is = sym (append-nil xs) ∙ ap (λ (y : List ℕ). xs ++ y) (sym (drop-length xs)) })
 
+-- the rows that were checked fit the buffer
+pub checked_fit : (names rows : List ℕ) {n : ℕ} → checked names rows ≡ Some n → n * width ≤ length rows
+checked_fit names rows {n} e = holds_fits (checked_sound names n rows e).holds.filled
+
 -- room for a run that begins where the part does
 room_for : {names rows : List ℕ} {right : Bool} {size room n scope : ℕ} (ws : List ℕ) → Passed names rows right size room n → length ws ≤ size → scope ≤ 16777216 → (at : ℕ) → Room ws rows n scope at at room
 room_for {names} {rows} {n = n} ws p l s at =
     let L = checked_sound names n rows p.rows_are in
-    record { rows = rows_of n rows; holds = L.holds; held = holds_fits L.holds.filled; scoped = s; behind = omega arith; fits = omega (arith, p.roomy) }
+    record { rows = rows_of n rows; holds = L.holds; held = checked_fit names rows p.rows_are; scoped = s; behind = omega arith; fits = omega (arith, p.roomy) }
 
 -- the buffer holds the rows that passed
 pub holds_of : {names rows : List ℕ} {right : Bool} {size room n : ℕ} → Passed names rows right size room n → Holds (rows_of n rows) n rows
@@ -165,7 +179,7 @@ module _ (names ws rows : List ℕ) (room scope at end : ℕ) (few : length name
   expr_shut s q = at_shut names rows (scope_ok names scope) at room (λ T x. words (resolve_expr T scope x)) _ r s q
 
   -- it was resolved: that is what the entry tells
-  pub expr_told : {n a t : ℕ} {out last : List ℕ} → room ≡ length out → Passed names rows (scope_ok names scope) (end - at) room n → Resolved (take (end - at) (drop at ws)) rows out last n scope 0 0 a t → Tells (Did (record { end = end; count = t })) out last (resolve_expr_at names ws rows room scope at)
+  pub expr_told : {n a t : ℕ} {out last : List ℕ} → room ≡ length out → Passed names rows (scope_ok names scope) (end - at) room n → Resolved (take (end - at) (drop at ws)) rows out last n scope 0 0 a t → Tells (Ok (record { end = end; count = t })) out last (resolve_expr_at names ws rows room scope at)
   unfolding resolve_expr_at
   expr_told {n} q p d =
       let e = d.gives (rows_of n rows) (holds_of p) (strings names (length names)) r.tree (end - at) part in
@@ -228,7 +242,7 @@ module _ (names ws rows : List ℕ) (room scope name at end : ℕ) (few : length
   args_shut s q = at_shut names rows right at room (λ T es. word_of 1 (many es) ∷ words_all (resolve_args T scope (places T name) es)) _ r s q
 
   -- the head copied and the arguments resolved: that is what the entry tells
-  pub args_told : {n a t : ℕ} {out last : List ℕ} → Passed names rows right (end - at) room n → ResolvedArgs name (pay_of (get_or ws at 0)) (take (end - at) (drop at ws)) rows (set out 0 (get_or ws at 0)) last n scope 1 1 a t → Tells (Did (record { end = end; count = t })) out last (resolve_args_at names ws rows room scope name at)
+  pub args_told : {n a t : ℕ} {out last : List ℕ} → Passed names rows right (end - at) room n → ResolvedArgs name (pay_of (get_or ws at 0)) (take (end - at) (drop at ws)) rows (set out 0 (get_or ws at 0)) last n scope 1 1 a t → Tells (Ok (record { end = end; count = t })) out last (resolve_args_at names ws rows room scope name at)
   unfolding resolve_args_at
   args_told {n} {out = out} {last} p d =
       let T : Tables = tables_of (rows_of n rows) in
@@ -266,7 +280,7 @@ module _ (names ws rows : List ℕ) (room : ℕ) (r : ReadTo (program_at ws name
       record { room = room_for ws p (omega arith) (omega arith) 0; few = few; program = r.tree; stands = record { wrote = S.wrote; valid = S.valid }; shallow = S.deep }
 
   -- it was resolved: that is what the entry tells
-  pub all_told : {n t : ℕ} {out last : List ℕ} → Passed names rows true (length ws) room n → ResolvedProgram names ws rows out last n t → Tells (Did (record { end = length ws; count = t })) out last (resolve_all names ws rows room)
+  pub all_told : {n t : ℕ} {out last : List ℕ} → Passed names rows true (length ws) room n → ResolvedProgram names ws rows out last n t → Tells (Ok (record { end = length ws; count = t })) out last (resolve_all names ws rows room)
   unfolding resolve_array_accesses
   all_told {n} p d =
       let S = program_sound ws names (length names) r.tree (length ws) r.is in
@@ -278,46 +292,32 @@ module _ (names ws rows : List ℕ) (room : ℕ) where
   abbrev S₀ : Strings
   S₀ = strings names (length names)
 
-  -- an expression with a wrong word: 2
-  pub expr_wrong : (scope at : ℕ) {s : Step} {p : ℕ} → s ≡ step_of (expr_at ws S₀ max_depth at) → s ≡ Wrong p → resolve_expr_at names ws rows room scope at ≡ refused (Word p)
+  -- an expression that was not read
+  pub expr_misread : (scope at : ℕ) {s : Step} {m : Misread} → s ≡ step_of (expr_at ws S₀ max_depth at) → s ≡ Err m → resolve_expr_at names ws rows room scope at ≡ refused (refusal_of m)
   unfolding resolve_expr_at
-  expr_wrong scope at e q = at_wrong names rows (scope_ok names scope) at room (λ T x. words (resolve_expr T scope x)) (expr_at ws S₀ max_depth at) e q
-
-  -- one too deep: 3
-  pub expr_deep : (scope at : ℕ) {s : Step} {p : ℕ} → s ≡ step_of (expr_at ws S₀ max_depth at) → s ≡ Deep p → resolve_expr_at names ws rows room scope at ≡ refused (Depth p)
-  unfolding resolve_expr_at
-  expr_deep scope at e q = at_deep names rows (scope_ok names scope) at room (λ T x. words (resolve_expr T scope x)) (expr_at ws S₀ max_depth at) e q
+  expr_misread scope at e q = at_misread names rows (scope_ok names scope) at room (λ T x. words (resolve_expr T scope x)) (expr_at ws S₀ max_depth at) e q
 
   abbrev listed_at : ℕ → Got Exprs
   listed_at at = list_at ws S₀ (λ x. expr_at ws S₀ max_depth x) at
 
-  -- a list with a wrong word: 2
-  pub args_wrong : (scope name at : ℕ) {s : Step} {p : ℕ} → s ≡ step_of (listed_at at) → s ≡ Wrong p → resolve_args_at names ws rows room scope name at ≡ refused (Word p)
+  -- a list that was not read
+  pub args_misread : (scope name at : ℕ) {s : Step} {m : Misread} → s ≡ step_of (listed_at at) → s ≡ Err m → resolve_args_at names ws rows room scope name at ≡ refused (refusal_of m)
   unfolding resolve_args_at
-  args_wrong scope name at e q = at_wrong names rows (scope_ok names scope && is_marked names name) at room (λ T es. word_of 1 (many es) ∷ words_all (resolve_args T scope (places T name) es)) (listed_at at) e q
-
-  -- one too deep: 3
-  pub args_deep : (scope name at : ℕ) {s : Step} {p : ℕ} → s ≡ step_of (listed_at at) → s ≡ Deep p → resolve_args_at names ws rows room scope name at ≡ refused (Depth p)
-  unfolding resolve_args_at
-  args_deep scope name at e q = at_deep names rows (scope_ok names scope && is_marked names name) at room (λ T es. word_of 1 (many es) ∷ words_all (resolve_args T scope (places T name) es)) (listed_at at) e q
+  args_misread scope name at e q = at_misread names rows (scope_ok names scope && is_marked names name) at room (λ T es. word_of 1 (many es) ∷ words_all (resolve_args T scope (places T name) es)) (listed_at at) e q
 
   -- a program with words over: 2 at the first of them
-  pub all_over : {s : Step} {m : ℕ} → s ≡ step_of (program_at ws names (length names)) → s ≡ Passed-by (record { at = m }) → (m ≡ length ws → ⊥) → resolve_all names ws rows room ≡ refused (Word m)
+  pub all_over : {s : Step} {m : ℕ} → s ≡ step_of (program_at ws names (length names)) → s ≡ Ok (record { at = m }) → (m ≡ length ws → ⊥) → resolve_all names ws rows room ≡ refused (Word m)
   unfolding resolve_all program_of whole_of after refused
   all_over {m = m} e q f = let r = answer_read (program_at ws names (length names)) e q in rw (r.is, ne_eqb m (length ws) f)
 
-  -- one with a wrong word: 2
-  pub all_wrong : {s : Step} {p : ℕ} → s ≡ step_of (program_at ws names (length names)) → s ≡ Wrong p → resolve_all names ws rows room ≡ refused (Word p)
+  -- one that was not read
+  pub all_misread : {s : Step} {m : Misread} → s ≡ step_of (program_at ws names (length names)) → s ≡ Err m → resolve_all names ws rows room ≡ refused (refusal_of m)
   unfolding resolve_all program_of whole_of after refused
-  all_wrong e q = rw (answer_wrong (program_at ws names (length names)) e q)
-
-  -- one too deep: 3
-  pub all_deep : {s : Step} {p : ℕ} → s ≡ step_of (program_at ws names (length names)) → s ≡ Deep p → resolve_all names ws rows room ≡ refused (Depth p)
-  unfolding resolve_all program_of whole_of after refused
-  all_deep e q = rw (answer_deep (program_at ws names (length names)) e q)
+  all_misread {m = Wrong p} e q = rw (answer_wrong (program_at ws names (length names)) e q)
+  all_misread {m = Deep p} e q = rw (answer_deep (program_at ws names (length names)) e q)
 
 -- ---- 5 and 1 before
 
 -- what is told behind 5 and 1 is told by the entry
-pub rewrites : {sized : Bool} {bytes ends : List ℕ} {r : Resolution} {out last : List ℕ} {t u : Told Written} → Answers sized bytes ends t u → Tells r out last t → Rewrites sized bytes ends r out last u
+pub rewrites : {sized : Bool} {bytes ends : List ℕ} {r : Result Reached Refusal} {out last : List ℕ} {t u : Told Written} → Answers sized bytes ends t u → Tells r out last t → Rewrites sized bytes ends r out last u
 rewrites {r = r} {out} {last} a w = record { at = a.at; place = a.place; is = subst (λ (t : Told Written). Tells r out last t) a.is w }

@@ -1,6 +1,6 @@
 -- The three functions as entries over lent strings, words and rows, into a lent output: 5 and 1, then 2 or 3, 6, 11, 10, and then the words.
 -- These are definitions.
-use Rattle.std.specs.Prelude.{ℕ, ◌-◌, Bool, ◌&&◌, ◌≡◌, List, ◌∷◌, leb}
+use Rattle.std.specs.Prelude.{ℕ, ◌-◌, Bool, ◌&&◌, ◌≡◌, List, ◌∷◌, leb, Result, Ok, Err}
 use Rattle.std.proofs.Math.Bool.{true}
 use Rattle.std.proofs.Math.ListN.{length}
 use Rattle.std.proofs.lemmas.List.Edits.{sets}
@@ -21,8 +21,7 @@ use Rattle.resolve.specs.Tables.{Tables, places}
 use Rattle.resolve.specs.FromRows.{tables_of}
 use Rattle.resolve.specs.Resolve.{resolve_expr, resolve_args, resolve_array_accesses}
 use Rattle.resolution.specs.declared.Reached.{Reached}
-use Rattle.resolution.specs.declared.Resolution.{Resolution}
-use Rattle.resolution.specs.declared.Resolution.TheVariants.{Wrote, Refused}
+use Rattle.words.specs.declared.Refusal.{Refusal}
 
 -- what is read at a place, and the place past it
 pub record Taken (A : Type 0) : Type 0 where
@@ -74,9 +73,9 @@ module _ (names ws rows : List ℕ) (room : ℕ) where
 -- ---- answers
 
 -- document 01's number and place, or where reading and writing ended
-unfoldable pub told : Resolution → Told Reached
-told (Wrote r) = gives r
-told (Refused f) = refused f
+unfoldable pub told : Result Reached Refusal → Told Reached
+told (Ok r) = gives r
+told (Err f) = refused f
 
 -- the same of what the definition tells
 unfoldable pub counted : Told Written → Told Reached
@@ -89,12 +88,12 @@ written out (stops n p) = out
 written out (gives w) = sets out 0 w.words'
 
 -- the answer and the output are what the definition u gives
-pub record Tells (r : Resolution) (out last : List ℕ) (u : Told Written) : Type 0 where
+pub record Tells (r : Result Reached Refusal) (out last : List ℕ) (u : Told Written) : Type 0 where
   pub answer : told r ≡ counted u
   pub output : last ≡ written out u
 
 -- and before it, 5 and 1
-pub record Rewrites (sized : Bool) (bytes ends : List ℕ) (r : Resolution) (out last : List ℕ) (u : Told Written) : Type 0 where
+pub record Rewrites (sized : Bool) (bytes ends : List ℕ) (r : Result Reached Refusal) (out last : List ℕ) (u : Told Written) : Type 0 where
   pub at : ℕ
   pub place : Place bytes ends at
   pub is : Tells r out last (entry_of sized at bytes ends u)

@@ -11,11 +11,10 @@ ghost use Rattle.lent.specs.Rules.{scope_ok, is_marked};
 ghost use Rattle.reader.specs.Sized.{sized_tree};
 ghost use Rattle.resolution.specs.Entries.{Rewrites, Tells, resolve_expr_at, resolve_args_at, resolve_all};
 ghost use Rattle.reader.specs.Answered.{ReadTo};
-ghost use Rattle.resolution.specs.Inner.{Ruled, asked};
+ghost use Rattle.resolution.specs.Inner.{Ruled};
 
-use expr::{Cursor, Step};
-use lent::Checked;
-use strings::Verdict;
+use expr::Cursor;
+use table::Rows;
 use words::Refusal;
 
 // The reading place past what was read, and how many words were written.
@@ -25,46 +24,31 @@ pub struct Reached {
     pub count: usize,
 }
 
-#[derive(Clone, Copy)]
-pub enum Resolution {
-    Wrote(Reached),
-    Refused(Refusal),
-}
-
-// Why nothing is to be written, or how many rows there are.
-#[derive(Clone, Copy)]
-pub enum Opened {
-    Shut(Refusal),
-    Table(usize),
-}
-
-// Numbers 6, 11 and 10.
-fn ruled(rows: &[u32], names: &[u8], right: bool, size: usize, room: usize) -> Opened
+// Numbers 6, 11 and 10; else the rows.
+fn ruled<'a>(
+    rows: &'a [u32],
+    names: &[u8],
+    right: bool,
+    size: usize,
+    room: usize,
+) -> Result<Rows<'a>, Refusal>
     ensures { Ruled names.now rows.now right size room result }
 {
-    match lent::check_rows(rows, names) {
-        Checked::Bad => Opened::Shut(Refusal::Rows),
-        Checked::Rows(n) => {
-            if !right {
-                return Opened::Shut(Refusal::Lookup);
-            }
-            if room < size {
-                return Opened::Shut(Refusal::Output);
-            }
-            Opened::Table(n)
-        }
+    let count = lent::check_rows(rows, names).ok_or(Refusal::Rows)?;
+    if !right {
+        return Err(Refusal::Lookup);
     }
+    if room < size {
+        return Err(Refusal::Output);
+    }
+    Ok(Rows { words: rows, count })
 }
 
 // Whether a scope and a name are right.
 fn admits(names: &[u8], scope: u32, name: u32) -> bool
     ensures { result ≡ (scope_ok names.now scope && is_marked names.now name) }
 {
-    if lent::scope_ok(names, scope) {
-        lent::is_name(names, name)
-    } else {
-        false
-    }
+    lent::scope_ok(names, scope) && lent::is_name(names, name)
 }
 
 // The expression from `at` to `end`.
@@ -76,24 +60,17 @@ fn expression(
     at: usize,
     end: usize,
     out: &mut [u32],
-) -> Resolution
+) -> Result<Reached, Refusal>
     requires { ReadTo (expr_at words.now (strings_of names.now (length names.now)) max_depth at) end × (length names.now ≤ max_strings) }
     ensures { Tells result out.old out.new (resolve_expr_at names.now words.now rows.now (length out.old) scope at) }
 {
-    match ruled(
-        rows,
-        names,
-        lent::scope_ok(names, scope),
-        end - at,
-        out.len(),
-    ) {
-        Opened::Shut(f) => Resolution::Refused(f),
-        Opened::Table(n) => {
-            let s = resolver::resolve_expr(&words[at..end], rows, n, scope, out, 0, 0);
-            let count = s.to;
-            Resolution::Wrote(Reached { end, count })
-        }
-    }
+    let right = lent::scope_ok(names, scope);
+    let held = ruled(rows, names, right, end - at, out.len())?;
+    let past = resolver::resolve_expr(&words[at..end], &held, scope, out, 0, 0);
+    Ok(Reached {
+        end,
+        count: past.to,
+    })
 }
 
 // The list of expressions from `at` to `end`, as the arguments of a name.
@@ -106,47 +83,32 @@ fn arguments(
     at: usize,
     end: usize,
     out: &mut [u32],
-) -> Resolution
+) -> Result<Reached, Refusal>
     requires { ReadTo (list_at words.now (strings_of names.now (length names.now)) (λ (x : ℕ). expr_at words.now (strings_of names.now (length names.now)) max_depth x) at) end × (length names.now ≤ max_strings) }
     ensures { Tells result out.old out.new (resolve_args_at names.now words.now rows.now (length out.old) scope name at) }
 {
-    match ruled(rows, names, admits(names, scope, name), end - at, out.len()) {
-        Opened::Shut(f) => Resolution::Refused(f),
-        Opened::Table(n) => {
-            let w = words[at];
-            out[0] = w;
-            let s = resolver::resolve_args(
-                &words[at..end],
-                rows,
-                n,
-                scope,
-                out,
-                1,
-                1,
-                name,
-                w % 16777216,
-            );
-            let count = s.to;
-            Resolution::Wrote(Reached { end, count })
-        }
-    }
+    let right = admits(names, scope, name);
+    let held = ruled(rows, names, right, end - at, out.len())?;
+    let w = words[at];
+    out[0] = w;
+    let past = resolver::resolve_args(&words[at..end], &held, scope, out, 1, 1, name, w % 16777216);
+    Ok(Reached {
+        end,
+        count: past.to,
+    })
 }
 
 // The whole tree, which ends with the words.
-fn program(words: &[u32], names: &[u8], rows: &[u32], out: &mut [u32]) -> Resolution
+fn program(words: &[u32], names: &[u8], rows: &[u32], out: &mut [u32]) -> Result<Reached, Refusal>
     requires { ReadTo (program_at words.now names.now (length names.now)) (length words.now) × (length names.now ≤ max_strings) }
     ensures { Tells result out.old out.new (resolve_all names.now words.now rows.now (length out.old)) }
 {
-    match ruled(rows, names, true, words.len(), out.len()) {
-        Opened::Shut(f) => Resolution::Refused(f),
-        Opened::Table(n) => {
-            let count = accesses::resolve_array_accesses(words, names, rows, n, out);
-            Resolution::Wrote(Reached {
-                end: words.len(),
-                count,
-            })
-        }
-    }
+    let held = ruled(rows, names, true, words.len(), out.len())?;
+    let count = accesses::resolve_array_accesses(words, names, &held, out);
+    Ok(Reached {
+        end: words.len(),
+        count,
+    })
 }
 
 // The expression at `at`.
@@ -157,21 +119,12 @@ fn expression_at(
     scope: u32,
     at: usize,
     out: &mut [u32],
-) -> Resolution
+) -> Result<Reached, Refusal>
     requires { length names.now ≤ max_strings }
     ensures { Tells result out.old out.new (resolve_expr_at names.now words.now rows.now (length out.old) scope at) }
 {
-    let n = names.len() as u32;
-    let c = Cursor { at };
-    let s = c.expr(words, names, n, words::MAX_DEPTH);
-    match s {
-        Step::Read(d) => {
-            let end = d.at;
-            expression(words, names, rows, scope, at, end, out)
-        }
-        Step::Wrong(p) => Resolution::Refused(Refusal::Word(p)),
-        Step::Deep(p) => Resolution::Refused(Refusal::Depth(p)),
-    }
+    let past = Cursor { at }.expr(words, names, names.len() as u32, words::MAX_DEPTH)?;
+    expression(words, names, rows, scope, at, past.at, out)
 }
 
 // The list of expressions at `at`, as the arguments of a name.
@@ -183,86 +136,29 @@ fn arguments_at(
     name: u32,
     at: usize,
     out: &mut [u32],
-) -> Resolution
+) -> Result<Reached, Refusal>
     requires { length names.now ≤ max_strings }
     ensures { Tells result out.old out.new (resolve_args_at names.now words.now rows.now (length out.old) scope name at) }
 {
-    let n = names.len() as u32;
-    let c = Cursor { at };
-    let s = c.list(words, names, n, words::MAX_DEPTH);
-    match s {
-        Step::Read(d) => {
-            let end = d.at;
-            arguments(words, names, rows, scope, name, at, end, out)
-        }
-        Step::Wrong(p) => Resolution::Refused(Refusal::Word(p)),
-        Step::Deep(p) => Resolution::Refused(Refusal::Depth(p)),
-    }
+    let past = Cursor { at }.list(words, names, names.len() as u32, words::MAX_DEPTH)?;
+    arguments(words, names, rows, scope, name, at, past.at, out)
 }
 
 // The whole tree.
-fn program_at(words: &[u32], names: &[u8], rows: &[u32], out: &mut [u32]) -> Resolution
+fn program_at(
+    words: &[u32],
+    names: &[u8],
+    rows: &[u32],
+    out: &mut [u32],
+) -> Result<Reached, Refusal>
     requires { length names.now ≤ max_strings }
     ensures { Tells result out.old out.new (resolve_all names.now words.now rows.now (length out.old)) }
 {
-    let n = names.len() as u32;
-    let s = tree::program(words, names, n);
-    match s {
-        Step::Read(c) => {
-            let at = c.at;
-            if at != words.len() {
-                return Resolution::Refused(Refusal::Word(at));
-            }
-            program(words, names, rows, out)
-        }
-        Step::Wrong(p) => Resolution::Refused(Refusal::Word(p)),
-        Step::Deep(p) => Resolution::Refused(Refusal::Depth(p)),
+    let past = tree::program(words, names, names.len() as u32)?;
+    if past.at != words.len() {
+        return Err(Refusal::Word(past.at));
     }
-}
-
-// What is asked.
-#[derive(Clone, Copy)]
-pub enum Ask {
-    Expression { scope: u32, at: usize },
-    Arguments { scope: u32, name: u32, at: usize },
-    Program,
-}
-
-// Behind the checks of sizes and strings.
-fn answer(words: &[u32], names: &[u8], rows: &[u32], ask: Ask, out: &mut [u32]) -> Resolution
-    requires { length names.now ≤ max_strings }
-    ensures { Tells result out.old out.new (asked names.now words.now rows.now (length out.old) ask) }
-{
-    match ask {
-        Ask::Expression { scope, at } => expression_at(words, names, rows, scope, at, out),
-        Ask::Arguments { scope, name, at } => {
-            arguments_at(words, names, rows, scope, name, at, out)
-        }
-        Ask::Program => program_at(words, names, rows, out),
-    }
-}
-
-// Sizes and strings, and then what is asked.
-fn entry(
-    bytes: &[u8],
-    ends: &[u32],
-    words: &[u32],
-    rows: &[u32],
-    ask: Ask,
-    out: &mut [u32],
-) -> Resolution
-    ensures { Rewrites (sized_tree bytes.now ends.now words.now) bytes.now ends.now result out.old out.new (asked (names_of bytes.now ends.now) words.now rows.now (length out.old) ask) }
-{
-    if !reader::sized_tree(bytes, ends, words) {
-        return Resolution::Refused(Refusal::Size);
-    }
-    let v = strings::check(bytes, ends);
-    if let Verdict::Breaks(p) = v {
-        return Resolution::Refused(Refusal::Strings(p));
-    }
-    let names = strings::names_of(bytes, ends);
-    let n = ends.len();
-    answer(words, &names[..n], rows, ask, out)
+    program(words, names, rows, out)
 }
 
 // Resolves the expression at a place, in a scope.
@@ -274,10 +170,11 @@ pub fn resolve_expr(
     scope: u32,
     at: usize,
     out: &mut [u32],
-) -> Resolution
+) -> Result<Reached, Refusal>
     ensures { Rewrites (sized_tree bytes.now ends.now words.now) bytes.now ends.now result out.old out.new (resolve_expr_at (names_of bytes.now ends.now) words.now rows.now (length out.old) scope at) }
 {
-    entry(bytes, ends, words, rows, Ask::Expression { scope, at }, out)
+    let names = reader::marks(reader::sized_tree(bytes, ends, words), bytes, ends)?;
+    expression_at(words, &names[..ends.len()], rows, scope, at, out)
 }
 
 // Resolves the list of expressions at a place, as the arguments of a name.
@@ -290,17 +187,11 @@ pub fn resolve_args(
     name: u32,
     at: usize,
     out: &mut [u32],
-) -> Resolution
+) -> Result<Reached, Refusal>
     ensures { Rewrites (sized_tree bytes.now ends.now words.now) bytes.now ends.now result out.old out.new (resolve_args_at (names_of bytes.now ends.now) words.now rows.now (length out.old) scope name at) }
 {
-    entry(
-        bytes,
-        ends,
-        words,
-        rows,
-        Ask::Arguments { scope, name, at },
-        out,
-    )
+    let names = reader::marks(reader::sized_tree(bytes, ends, words), bytes, ends)?;
+    arguments_at(words, &names[..ends.len()], rows, scope, name, at, out)
 }
 
 // Resolves the whole tree.
@@ -310,8 +201,9 @@ pub fn resolve_array_accesses(
     words: &[u32],
     rows: &[u32],
     out: &mut [u32],
-) -> Resolution
+) -> Result<Reached, Refusal>
     ensures { Rewrites (sized_tree bytes.now ends.now words.now) bytes.now ends.now result out.old out.new (resolve_all (names_of bytes.now ends.now) words.now rows.now (length out.old)) }
 {
-    entry(bytes, ends, words, rows, Ask::Program, out)
+    let names = reader::marks(reader::sized_tree(bytes, ends, words), bytes, ends)?;
+    program_at(words, &names[..ends.len()], rows, out)
 }

@@ -1,5 +1,5 @@
 -- The arrays of a name, by the row at the place of the module's; and whether one is visible, by the rows that there are. Assumes nothing.
-use Prim.Native.Nat.{ℕ, ◌+◌, ◌-◌, ◌*◌, ◌≤◌, ◌<◌}
+use Prim.Native.Nat.{ℕ, ◌+◌, ◌-◌, ◌*◌, ◌/◌, ◌%◌, ◌≤◌, ◌<◌}
 use native.Mathlib.Omega.{arith}
 use mathlib.Core.Path.{◌≡◌, refl, sym, ap, ◌∙◌}
 use mathlib.Core.Bool.{Bool, true, false, ◌&&◌, ◌||◌}
@@ -10,13 +10,14 @@ use lib.Dec.{eqb}
 use lib.ListN.{length, get_or}
 use borrow.Author.Tests.{eqb-true, eqb-false, ne_eqb}
 use Rattle.words.specs.Word.{word_of, pick}
-use Rattle.table.specs.Rows.{Row, width, key, rank, find, Table, Holds}
+use Rattle.table.specs.Rows.{Row, width, key, key_of, rank, find, Table, Holds}
 use Rattle.table.specs.Laws.{order, ne_lt, rank_low, rank_mono, rank_high, find_hit, find_miss}
 use Rattle.table.specs.Images.{key_of_row}
 use Rattle.entries.specs.Entries.{entry_key, has_row, has}
 use Rattle.lookup.specs.Lookup.{shares, array_of, or_else, visible, lookup_array}
 use Rattle.resolve.specs.FromRows.{is_some, tables_of}
-use Rattle.resolve.specs.Scopes.{FirstScope}
+use Rattle.resolve.specs.Scopes.{FirstScope, scope_of}
+use Rattle.std.specs.Prelude.{Option as RustOption, Some, None}
 
 -- ---- a key j, by the row at the place of a key k that is no larger
 
@@ -45,34 +46,34 @@ at_least rows t k l = go (order (key (get_or rows (rank k rows) [])) k)
     go (inl q) = absurd (omega (arith, rank_high 0 k rows t (rank k rows) l q))
     go (inr q) = q
 
--- ---- the least scope, by the two first words of the row at the place p of the module's key
+-- ---- the least scope, by the key k of the row at the place p of the module's key
 
 module _ {rows : List Row} {n : ℕ} {buf : List ℕ} (H : Holds rows n buf) (f p : ℕ) (e : p ≡ rank (entry_key 133 f 0) rows) where
-  key_there : p < n → get_or buf (p * width) 0 * 4294967296 + get_or buf (p * width + 1) 0 ≡ key (get_or rows (rank (entry_key 133 f 0) rows) [])
-  key_there l = key_of_row H.filled p l ∙ ap (λ (i : ℕ). key (get_or rows i [])) e
+  module _ (k : ℕ) (is : k ≡ key_of (get_or buf (p * width) 0) (get_or buf (p * width + 1) 0)) (l : p < n) where
+    there_row : rank (entry_key 133 f 0) rows < length rows
+    there_row = omega (arith, l, e, H.filled.count)
 
-  -- the row is an array of the name: its scope
-  pub first_there : p < n → get_or buf (p * width) 0 ≡ word_of 133 f → FirstScope rows f (get_or buf (p * width + 1) 0)
-  first_there l w =
-      let s : ℕ = get_or buf (p * width + 1) 0 in
-      let q : key (get_or rows (rank (entry_key 133 f 0) rows) []) ≡ entry_key 133 f s = omega (arith, key_there l, w) in
-      let m : rank (entry_key 133 f 0) rows < length rows = omega (arith, l, e, H.filled.count) in
-      record {
-        below = λ σ h. ap has_row (miss rows H.table (entry_key 133 f 0) (entry_key 133 f σ) (omega arith) (λ _. omega (arith, q, h)));
-        there = λ _. ap has_row (hit rows H.table (entry_key 133 f 0) (entry_key 133 f s) (omega arith) m q);
-      }
+    key_there : k ≡ key (get_or rows (rank (entry_key 133 f 0) rows) [])
+    key_there = is ∙ key_of_row H.filled p l ∙ ap (λ (i : ℕ). key (get_or rows i [])) e
 
-  -- the row is of another name or kind, or there is none
-  pub first_other : p < n → (get_or buf (p * width) 0 ≡ word_of 133 f → ⊥) → get_or buf (p * width + 1) 0 < 4294967296 → FirstScope rows f 4294967295
-  first_other l w b =
-      let m : rank (entry_key 133 f 0) rows < length rows = omega (arith, l, e, H.filled.count) in
-      let q : entry_key 133 f 0 ≤ key (get_or rows (rank (entry_key 133 f 0) rows) []) = at_least rows H.table (entry_key 133 f 0) m in
-      let above : word_of 133 f ≤ get_or buf (p * width) 0 = omega (arith, q, key_there l, b) in
-      let past : word_of 133 f < get_or buf (p * width) 0 = omega (arith, above, w) in
-      record {
-        below = λ σ h. ap has_row (miss rows H.table (entry_key 133 f 0) (entry_key 133 f σ) (omega arith) (λ _. omega (arith, key_there l, past, h)));
-        there = λ h. absurd (omega (arith, h));
-      }
+    -- the row is an array of the name: its scope
+    pub first_there : k / 4294967296 ≡ word_of 133 f → FirstScope rows f (k % 4294967296)
+    first_there w =
+        let q : key (get_or rows (rank (entry_key 133 f 0) rows) []) ≡ entry_key 133 f (k % 4294967296) = omega (arith, key_there, w) in
+        record {
+          below = λ σ h. ap has_row (miss rows H.table (entry_key 133 f 0) (entry_key 133 f σ) (omega arith) (λ _. omega (arith, q, h)));
+          there = λ _. ap has_row (hit rows H.table (entry_key 133 f 0) (entry_key 133 f (k % 4294967296)) (omega arith) there_row q);
+        }
+
+    -- the row is of another name or kind, or there is none
+    pub first_other : (k / 4294967296 ≡ word_of 133 f → ⊥) → FirstScope rows f 4294967295
+    first_other w =
+        let q : entry_key 133 f 0 ≤ key (get_or rows (rank (entry_key 133 f 0) rows) []) = at_least rows H.table (entry_key 133 f 0) there_row in
+        let past : word_of 133 f < k / 4294967296 = omega (arith, q, key_there, w) in
+        record {
+          below = λ σ h. ap has_row (miss rows H.table (entry_key 133 f 0) (entry_key 133 f σ) (omega arith) (λ _. omega (arith, key_there, past, h)));
+          there = λ h. absurd (omega (arith, h));
+        }
 
   -- past the last row there is none
   pub first_end : n ≤ p → FirstScope rows f 4294967295
@@ -80,6 +81,15 @@ module _ {rows : List Row} {n : ℕ} {buf : List ℕ} (H : Holds rows n buf) (f 
     below = λ σ h. ap has_row (miss rows H.table (entry_key 133 f 0) (entry_key 133 f σ) (omega arith) (λ m. absurd (omega (arith, m, l, e, H.filled.count))));
     there = λ h. absurd (omega (arith, h));
   }
+
+-- what is told of a least scope that there is, and where there is none
+pub first_some : {rows : List Row} {f s : ℕ} {o : RustOption ℕ} → FirstScope rows f (scope_of o) → o ≡ Some s → FirstScope rows f s
+unfolding scope_of
+first_some F e = rw e at F
+
+pub first_none : {rows : List Row} {f : ℕ} {o : RustOption ℕ} → FirstScope rows f (scope_of o) → o ≡ None → FirstScope rows f 4294967295
+unfolding scope_of
+first_none F e = rw e at F
 
 -- ---- a visible array
 

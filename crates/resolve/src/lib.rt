@@ -1,94 +1,80 @@
 // What resolving asks of the rows: whether an argument keeps its pair of parentheses, and whether a call is an element.
 #![tactic(auto)]
 
-ghost use Rattle.std.specs.Prelude.{◌≡◌, List, ◌*◌, ◌≤◌, ◌<◌, length};
-ghost use Rattle.table.specs.Rows.{Row, width, Holds};
-ghost use Rattle.table.specs.Answers.{Within};
+ghost use Rattle.std.specs.Prelude.{◌≡◌, List, ◌≤◌, ◌<◌};
+ghost use Rattle.table.specs.Rows.{Row};
+ghost use Rattle.table.specs.Answers.{Within, HeldIn};
 ghost use Rattle.runs.specs.Runs.{row_in};
 ghost use Rattle.resolve.specs.Tables.{places, element};
 ghost use Rattle.resolve.specs.FromRows.{is_scalar, by_ref, tables_of};
-ghost use Rattle.resolve.specs.Scopes.{FirstScope};
+ghost use Rattle.resolve.specs.Scopes.{FirstScope, scope_of};
 
-use table::Found;
+use table::Rows;
 
 // Whether a parameter with these marks and this type is by reference, and neither an array nor a record.
+#[tactic(auto, using(std::proofs::lemmas::Bool::Decides::nat_tests))]
 fn is_scalar(marks: u32, head: u32) -> bool
     ensures { result ≡ is_scalar marks head }
 {
-    if marks % 2 == 1 {
-        return false;
-    }
-    if 2 <= marks {
-        return false;
-    }
-    head != 45
+    marks % 2 != 1 && marks < 2 && head != 45
 }
 
 // Whether the argument at position i of f is for such a parameter. A procedure without a row of its own is not known.
-pub fn by_ref(b: &[u32], count: usize, f: u32, i: u32) -> bool
-    requires { (count * width ≤ length b.now) × (f < 16777216) }
-    ensures { (rows : List Row) → Holds rows count b.now → result ≡ places (tables_of rows) f i }
+pub fn by_ref(rows: &Rows<'_>, f: u32, i: u32) -> bool
+    requires { f < 16777216 }
+    ensures { (rs : List Row) → HeldIn rs rows.now → result ≡ places (tables_of rs) f i }
 {
-    if lookup::has(b, count, 135, f, 0) {
-        return takes(b, count, lookup::find_entry(b, count, 136, f, i));
-    }
-    false
+    lookup::has(rows, 135, f, 0) && takes(rows, lookup::find_entry(rows, 136, f, i))
 }
 
-// Whether a parameter's row was found, and it is such a parameter's.
-fn takes(b: &[u32], count: usize, found: Found) -> bool
-    requires { (count * width ≤ length b.now) × Within count found }
-    ensures { result ≡ by_ref (row_in b.now found) }
+// Whether a parameter's row was found, and it is such a parameter's. (A closure for `is_some_and` would have to state again that the row is in the table.)
+#[tactic(auto, using(runs::specs::Places::row_word_lem))]
+fn takes(rows: &Rows<'_>, found: Option<usize>) -> bool
+    requires { Within rows.now.count found }
+    ensures { result ≡ by_ref (row_in rows.now.words.now found) }
 {
     match found {
-        Found::At(j) => {
+        Some(j) => {
             let at = j * table::WIDTH;
-            is_scalar(b[at + 3], b[at + 4])
+            is_scalar(rows.words[at + 3], rows.words[at + 4])
         }
-        Found::Nothing => false,
+        None => false,
     }
 }
 
-// The least scope that has an array f, or more than any scope. The rows of f stand together, in the order of their scopes.
-fn first_scope(b: &[u32], count: usize, f: u32) -> u32
-    requires { (count * width ≤ length b.now) × (f < 16777216) }
-    ensures { (rows : List Row) → Holds rows count b.now → FirstScope rows f result }
+// The least scope that has an array f, if any has. The rows of f stand together, in the order of their scopes.
+fn first_scope(rows: &Rows<'_>, f: u32) -> Option<u32>
+    requires { f < 16777216 }
+    ensures { (rs : List Row) → HeldIn rs rows.now → FirstScope rs f (scope_of result) }
 {
-    let p = table::lower_bound(b, count, entries::entry_key(133, f, 0));
-    if p < count {
-        let at = p * table::WIDTH;
-        if b[at] == 133 * 16777216 + f {
-            return b[at + 1];
+    let p = rows.lower_bound(entries::entry_key(133, f, 0));
+    if p < rows.count {
+        let k = rows.key(p);
+        if k / 4294967296 == u64::from(133 * 16777216 + f) {
+            return Some((k % 4294967296) as u32);
         }
     }
-    4294967295
+    None
 }
 
 // Whether f is a visible array from the scope. For a name that is no array anywhere one search is enough.
-pub fn is_array(b: &[u32], count: usize, scope: u32, f: u32) -> bool
-    requires { (count * width ≤ length b.now) × (scope ≤ 16777216) × (f < 16777216) }
-    ensures { (rows : List Row) → Holds rows count b.now → result ≡ (tables_of rows).array scope f }
+pub fn is_array(rows: &Rows<'_>, scope: u32, f: u32) -> bool
+    requires { (scope ≤ 16777216) × (f < 16777216) }
+    ensures { (rs : List Row) → HeldIn rs rows.now → result ≡ (tables_of rs).array scope f }
 {
-    let s = first_scope(b, count, f);
-    if scope <= s {
-        return scope == s;
+    let Some(first) = first_scope(rows, f) else {
+        return false;
+    };
+    if scope <= first {
+        return scope == first;
     }
-    if lookup::has(b, count, 133, f, scope) {
-        return true;
-    }
-    if s == 0 {
-        return lookup::shares(b, count, scope - 1, f, true);
-    }
-    false
+    lookup::has(rows, 133, f, scope) || first == 0 && lookup::shares(rows, scope - 1, f, true)
 }
 
 // Whether a call of f from the scope is an element: a visible array, and no procedure.
-pub fn is_element(b: &[u32], count: usize, scope: u32, f: u32) -> bool
-    requires { (count * width ≤ length b.now) × (scope ≤ 16777216) × (f < 16777216) }
-    ensures { (rows : List Row) → Holds rows count b.now → result ≡ element (tables_of rows) scope f }
+pub fn is_element(rows: &Rows<'_>, scope: u32, f: u32) -> bool
+    requires { (scope ≤ 16777216) × (f < 16777216) }
+    ensures { (rs : List Row) → HeldIn rs rows.now → result ≡ element (tables_of rs) scope f }
 {
-    if lookup::has(b, count, 135, f, 0) {
-        return false;
-    }
-    is_array(b, count, scope, f)
+    !lookup::has(rows, 135, f, 0) && is_array(rows, scope, f)
 }

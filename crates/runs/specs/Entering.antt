@@ -1,6 +1,6 @@
 -- A row put into a buffer that has two runs: in the place of one with its key, or into the late run, which is joined to the first when it has 32
 -- rows. Assumes nothing.
-use Rattle.std.specs.Prelude.{◌≡◌, refl, true, false, ◌⊎◌, List, [], ◌∷◌, ◌++◌, ℕ, suc, ◌+◌, ◌-◌, ◌*◌, ◌≤◌, ◌<◌, length, take, drop, get_or, ltb}
+use Rattle.std.specs.Prelude.{◌≡◌, refl, true, false, ◌⊎◌, List, [], ◌∷◌, ◌++◌, ℕ, suc, ◌+◌, ◌-◌, ◌*◌, ◌≤◌, ◌<◌, length, take, drop, get_or, ltb, Option as RustOption, Some, None}
 use Rattle.std.proofs.Common.{sym, ap, ◌∙◌, subst, inl, inr, append_assoc, append-nil, zero-le, arith, le_of_eq, length-append, length-drop, drop_of_length-le, length-take-le, le-leb, leb-false, ltb-false}
 use Rattle.std.proofs.Math.Option.{Option, none, some}
 use Rattle.std.proofs.lemmas.List.{take-append-le, drop-append-le}
@@ -12,10 +12,6 @@ use Rattle.table.specs.Each.{find_key}
 use Rattle.table.specs.Answers.{Fits, Fit, Within, Inserted, Removed}
 use Rattle.table.specs.Images.{table_wide, take_rows, drop_rows, length_image, image_splice, holds_fits}
 use Rattle.table.specs.Buffers.{inserted_holds, room_full, removed_holds}
-use Rattle.table.specs.declared.Found.{Found}
-use Rattle.table.specs.declared.Found.TheVariants.{At, Nothing}
-use Rattle.table.specs.declared.Put.{Put}
-use Rattle.table.specs.declared.Put.TheVariants.{Full, Done}
 use Rattle.merge.specs.Laws.{count_more, insert_first, apart_insert}
 use Rattle.runs.specs.Runs.{row_of, row_in, Runs, Parted, Near, Keeps, PutIn, Old, TakenOut}
 use Rattle.runs.specs.Union.{apart_none, none_apart, insert_late, insert_at, insert_at_length, insert_most, find_at, apart_other, remove_none, remove_both, apart_remove}
@@ -39,7 +35,7 @@ pub rest_kept : (l tail : List ℕ) (at : ℕ) → at ≤ length l → length ta
 rest_kept l tail at h e = ap length (rest_back l tail at) ∙ length-append (take at l) tail ∙ omega (arith, length-take-le at l h, rest_length l at)
 
 -- what fits there fits
-pub rest_fit : (l : List ℕ) (m n : ℕ) → n * width ≤ length l → m ≤ n → (r : Put) (c : ℕ) → r ≡ Done c → Fit width (length (rest_of l (m * width))) r → (m + c) * width ≤ length l
+pub rest_fit : (l : List ℕ) (m n : ℕ) → n * width ≤ length l → m ≤ n → (r : RustOption ℕ) (c : ℕ) → r ≡ Some c → Fit width (length (rest_of l (m * width))) r → (m + c) * width ≤ length l
 rest_fit l m n h k r c q f =
     let g : c * width ≤ length (rest_of l (m * width)) = subst (Fit width (length (rest_of l (m * width)))) q f in
     omega (arith, rest_length l (m * width))
@@ -104,21 +100,21 @@ module _ {first late : List Row} {m n : ℕ} {buf : List ℕ} (R : Runs first la
 -- ---- what `insert` answers
 
 -- the rows are in
-pub put_done : {new : List Row} {k : ℕ} {after : List ℕ} (n : ℕ) → length after ≡ n → Keeps new k after → PutIn new n (Done k) after
+pub put_done : {new : List Row} {k : ℕ} {after : List ℕ} (n : ℕ) → length after ≡ n → Keeps new k after → PutIn new n (Some k) after
 put_done {new} {k} {after} n l K =
     let c : length new ≡ k = keeps_count K in
     let fit : Fits n new ≡ true = le-leb (length new * width) n (omega (arith, keeps_fits K)) in
     record {
-      answer = ap Done (sym c) ∙ sym (pick_true (Done (length new)) Full fit);
+      answer = ap Some (sym c) ∙ sym (pick_true (Some (length new)) None fit);
       after = λ _. subst (λ (j : ℕ). Keeps new j after) (sym c) K;
     }
 
 -- they do not fit
-pub put_full : {new : List Row} (n : ℕ) (after : List ℕ) → n < length new * width → PutIn new n Full after
+pub put_full : {new : List Row} (n : ℕ) (after : List ℕ) → n < length new * width → PutIn new n None after
 put_full {new} n after h =
     let no : Fits n new ≡ false = lt-leb (length new * width) n h in
     record {
-      answer = sym (pick_false (Done (length new)) Full no);
+      answer = sym (pick_false (Some (length new)) None no);
       after = λ (yes : Fits n new ≡ true).
           let z : ◌≡◌ {A = ℕ} 0 1 = cc in
           absurd (omega arith);
@@ -130,9 +126,9 @@ unfolding key
 key_words row k e = e
 
 -- where no row has the key, none of the first run has
-pub old_is : {rows : List Row} {m n : ℕ} {buf : List ℕ} (P : Parted rows m n buf) (k : ℕ) (r : Found) → row_in buf r ≡ find k rows → Old k rows P.first buf r
-old_is P k (At i) f = f
-old_is {rows} P k Nothing f = go (find k P.first) refl
+pub old_is : {rows : List Row} {m n : ℕ} {buf : List ℕ} (P : Parted rows m n buf) (k : ℕ) (r : RustOption ℕ) → row_in buf r ≡ find k rows → Old k rows P.first buf r
+old_is P k (Some i) f = f
+old_is {rows} P k None f = go (find k P.first) refl
   where
     go : (o : Option Row) → find k P.first ≡ o → find k P.first ≡ none
     go none p = p
@@ -181,8 +177,8 @@ module _ {rows : List Row} {n : ℕ} {buf : List ℕ} (K : Keeps rows n buf) (ro
           }
 
   -- as the code finds it, and writes over it
-  pub put_set : (k : ℕ) → k ≡ key row → (r : Found) (i : ℕ) → r ≡ At i → Within n r → Old k rows K.parted.first buf r → (after : List ℕ)
-      → after ≡ take (i * width) buf ++ (row ++ drop (i * width + length row) buf) → length after ≡ length buf → PutIn (insert row rows) (length buf) (Done n) after
+  pub put_set : (k : ℕ) → k ≡ key row → (r : RustOption ℕ) (i : ℕ) → r ≡ Some i → Within n r → Old k rows K.parted.first buf r → (after : List ℕ)
+      → after ≡ take (i * width) buf ++ (row ++ drop (i * width + length row) buf) → length after ≡ length buf → PutIn (insert row rows) (length buf) (Some n) after
   put_set k e r i q h f after a l =
       let g : some (row_of buf i) ≡ find (key row) rows = subst (Old k rows K.parted.first buf) q f ∙ ap (λ (j : ℕ). find j rows) e in
       let b : take (i * width) buf ++ (row ++ drop (i * width + width) buf) ≡ after = ap (λ (j : ℕ). take (i * width) buf ++ (row ++ drop (i * width + j) buf)) (sym w) ∙ sym a in
@@ -202,25 +198,25 @@ module _ {rows : List Row} {n : ℕ} {buf : List ℕ} (m : ℕ) (P : Parted rows
         ∙ omega (arith, P.runs.split)
 
     -- the late run was joined to the first
-    pub late_joined : (k : ℕ) (after : List ℕ) → length after ≡ length buf → Holds (insert_all (insert row P.late) P.first) k after → PutIn (insert row rows) (length buf) (Done k) after
+    pub late_joined : (k : ℕ) (after : List ℕ) → length after ≡ length buf → Holds (insert_all (insert row P.late) P.first) k after → PutIn (insert row rows) (length buf) (Some k) after
     late_joined k after l H = put_done (length buf) l (holds_keeps (subst (λ (x : List Row). Holds x k after) (sym new_is) H))
 
     -- what was done to the late run, as a table of its own
-    module _ (r : Put) (tail : List ℕ) (I : (rs : List Row) → Holds rs (n - m) (rest_of buf (m * width)) → Inserted row rs (length (rest_of buf (m * width))) r tail) where
+    module _ (r : RustOption ℕ) (tail : List ℕ) (I : (rs : List Row) → Holds rs (n - m) (rest_of buf (m * width)) → Inserted row rs (length (rest_of buf (m * width))) r tail) where
       done : Inserted row P.late (length (rest_of buf (m * width))) r tail
       done = I P.late (late_part P.runs)
 
       -- the row is in
-      pub late_runs : (c : ℕ) → r ≡ Done c → Runs P.first (insert row P.late) m (m + c) (put_rest buf (m * width) tail)
+      pub late_runs : (c : ℕ) → r ≡ Some c → Runs P.first (insert row P.late) m (m + c) (put_rest buf (m * width) tail)
       late_runs c q =
           let R : Runs P.first P.late m n buf = P.runs in
-          let D : Inserted row P.late (length (rest_of buf (m * width))) (Done c) tail = subst (λ (x : Put). Inserted row P.late (length (rest_of buf (m * width))) x tail) q done in
+          let D : Inserted row P.late (length (rest_of buf (m * width))) (Some c) tail = subst (λ (x : RustOption ℕ). Inserted row P.late (length (rest_of buf (m * width))) x tail) q done in
           let H : Holds (insert row P.late) c tail = inserted_holds P.late (n - m) (rest_of buf (m * width)) (late_part R) row w c tail D in
           subst (Runs P.first (insert row P.late) m (m + c)) (sym (rest_back buf tail (m * width))) (
           runs_parts (first_holds R) (length-take-le (m * width) buf (omega (arith, holds_fits P.runs.filled))) H (apart_insert P.first P.late row f P.runs.apart))
 
       -- and the late run has fewer than 32 rows
-      pub late_kept : (c : ℕ) → r ≡ Done c → length (put_rest buf (m * width) tail) ≡ length buf → (c ≡ 32 → ⊥) → PutIn (insert row rows) (length buf) (Done (m + c)) (put_rest buf (m * width) tail)
+      pub late_kept : (c : ℕ) → r ≡ Some c → length (put_rest buf (m * width) tail) ≡ length buf → (c ≡ 32 → ⊥) → PutIn (insert row rows) (length buf) (Some (m + c)) (put_rest buf (m * width) tail)
       late_kept c q l h =
           let R : Runs P.first (insert row P.late) m (m + c) (put_rest buf (m * width) tail) = late_runs c q in
           let s : m + c < m + 32 = omega (arith, h, b.2, insert_most row P.late, runs_count R, runs_count P.runs) in
@@ -231,10 +227,10 @@ module _ {rows : List Row} {n : ℕ} {buf : List ℕ} (m : ℕ) (P : Parted rows
           })
 
       -- it has no room
-      pub late_full : r ≡ Full → (after : List ℕ) → PutIn (insert row rows) (length buf) Full after
+      pub late_full : r ≡ None → (after : List ℕ) → PutIn (insert row rows) (length buf) None after
       late_full q after =
           let part : List ℕ = rest_of buf (m * width) in
-          let D : Inserted row P.late (length part) Full tail = subst (λ (x : Put). Inserted row P.late (length part) x tail) q done in
+          let D : Inserted row P.late (length part) None tail = subst (λ (x : RustOption ℕ). Inserted row P.late (length part) x tail) q done in
           let over : length part < length (insert row P.late) * width = leb-false (length (insert row P.late) * width) (length part) (room_full (length part) row P.late tail D) in
           put_full (length buf) after (omega (arith, rest_length buf (m * width), new_count))
 

@@ -3,6 +3,7 @@ pub mod Runs
 pub mod Union
 pub mod Ordinals
 pub mod Places
+pub mod Cases
 pub mod Parts
 pub mod Laws
 pub mod Entering

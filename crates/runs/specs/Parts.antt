@@ -1,5 +1,5 @@
 -- Laws of a buffer that has two runs of rows: each run by itself, both made one, and what is put into one of them. Assumes nothing.
-use Rattle.std.specs.Prelude.{◌≡◌, refl, true, false, ◌⊎◌, ℕ, ◌+◌, ◌-◌, ◌*◌, ◌≤◌, ◌<◌, ltb, take, get_or}
+use Rattle.std.specs.Prelude.{◌≡◌, refl, true, false, ◌⊎◌, ℕ, ◌+◌, ◌-◌, ◌*◌, ◌≤◌, ◌<◌, ltb, take, get_or, Option as RustOption, Some, None}
 use Rattle.std.proofs.Common.{sym, ◌∙◌, subst, inl, inr, arith, le_of_eq, le_refl, length-append, length-drop, take-append-drop, take_all, drop_at, length-take-le, get_or-append-add, ltb-true, ltb-false, lt-ltb, le-ltb}
 use Rattle.std.proofs.Math.Path.{ap}
 use mathlib.Core.List.{List, [], ◌∷◌, ◌++◌, append-nil}
@@ -13,8 +13,6 @@ use Rattle.table.specs.Laws.{order, rank_mono}
 use Rattle.table.specs.Answers.{found_at, Within}
 use Rattle.table.specs.Buffers.{found_row, found_none}
 use Rattle.table.specs.Images.{table_wide, length_flatten, take_rows, drop_rows, drop_tail, drop_zeros, image_append, holds_full, key_of_row}
-use Rattle.table.specs.declared.Found.{Found}
-use Rattle.table.specs.declared.Found.TheVariants.{At, Nothing}
 use Rattle.merge.specs.Merge.{Apart}
 use Rattle.merge.specs.Laws.{count_more, all_table}
 use Rattle.runs.specs.Runs.{row_of, row_in, Runs}
@@ -40,9 +38,9 @@ rest_part l at = take_all (length l - at) (drop at l) (le_of_eq (length-drop at 
 
 -- what is found in a part of the buffer, where that part's rows are the buffer's first
 pub found_part : {rows : List Row} {n : ℕ} {part : List ℕ} (buf : List ℕ) → Holds rows n part → ((i : ℕ) → i < n → row_of buf i ≡ get_or rows i [])
-    → (k : ℕ) (r : Found) → Within n r → r ≡ found_at (rank k rows) (find k rows) → row_in buf r ≡ find k rows
-found_part {rows} {n} {part} buf H f k (At i) w e = ap (λ (r : Row). some r) (f i w) ∙ sym (found_row rows n part H k i e)
-found_part {rows} {n} {part} buf H f k Nothing w e = sym (found_none rows n part H k e)
+    → (k : ℕ) (r : RustOption ℕ) → Within n r → r ≡ found_at (rank k rows) (find k rows) → row_in buf r ≡ find k rows
+found_part {rows} {n} {part} buf H f k (Some i) w e = ap (λ (r : Row). some r) (f i w) ∙ sym (found_row rows n part H k i e)
+found_part {rows} {n} {part} buf H f k None w e = sym (found_none rows n part H k e)
 
 find_empty : (k : ℕ) (rows : List Row) → length rows ≡ 0 → find k rows ≡ none
 unfolding find
@@ -156,7 +154,7 @@ module _ {first late : List Row} {m n : ℕ} {buf : List ℕ} (R : Runs first la
   below_late k x h e l = find_below 0 k late R.late_table (subst (λ (y : ℕ). k < y) (e ∙ key_late h) l)
 
   -- what is found at place i of the late run stands in the buffer at m + i
-  pub found_late : (k i : ℕ) → i < n - m → At i ≡ found_at (rank k late) (find k late) → some (row_of buf (m + i)) ≡ find k late
+  pub found_late : (k i : ℕ) → i < n - m → Some i ≡ found_at (rank k late) (find k late) → some (row_of buf (m + i)) ≡ find k late
   found_late k i h e = ap (λ (r : Row). some r) (row_late i h) ∙ sym (found_row late (n - m) (drop (m * width) buf) late_holds k i e)
 
   -- a key in both

@@ -1,23 +1,20 @@
 -- What a buffer keeps while rows are entered. These are definitions, for contracts inside and proofs.
-use Rattle.std.specs.Prelude.{◌≡◌, true, ◌⊎◌, List, ◌++◌, ℕ, ◌+◌, ◌*◌, ◌%◌, ◌≤◌, ◌<◌, length, take, drop}
+use Rattle.std.specs.Prelude.{◌≡◌, true, ◌⊎◌, List, ◌++◌, ℕ, ◌+◌, ◌*◌, ◌%◌, ◌≤◌, ◌<◌, length, take, drop, Option as RustOption, Some, None}
 use Rattle.std.proofs.Math.Option.{Option, none, some}
 use Rattle.words.specs.Word.{pick}
 use Rattle.table.specs.Rows.{Row, width, Table, find, insert_all, Filled}
 use Rattle.merge.specs.Merge.{Apart}
 use Rattle.table.specs.Answers.{Fits}
-use Rattle.table.specs.declared.Found.{Found}
-use Rattle.table.specs.declared.Found.TheVariants.{At, Nothing}
-use Rattle.table.specs.declared.Put.{Put}
-use Rattle.table.specs.declared.Put.TheVariants.{Full, Done}
+use Rattle.table.specs.declared.rows.Rows.{Rows}
 
 -- the row at place i
 abbrev pub row_of : List ℕ → ℕ → Row
 row_of buf i = take width (drop (i * width) buf)
 
 -- the row that was found
-abbrev pub row_in : List ℕ → Found → Option Row
-row_in buf Nothing = none
-row_in buf (At i) = some (row_of buf i)
+abbrev pub row_in : List ℕ → RustOption ℕ → Option Row
+row_in buf None = none
+row_in buf (Some i) = some (row_of buf i)
 
 -- the buffer has two runs of rows, one after the other, each in order; they share no key, and m of the n rows are in the first
 pub record Runs (first late : List Row) (m n : ℕ) (buf : List ℕ) : Type 0 where
@@ -48,14 +45,18 @@ pub record Keeps (rows : List Row) (n : ℕ) (buf : List ℕ) : Type 0 where
   pub near : Near at n
   pub parted : Parted rows at n buf
 
--- a row that was found is the table's; where none was, the first run has none with the key
-abbrev pub Old : (k : ℕ) (rows first : List Row) → List ℕ → Found → Type 0
-Old k rows first buf Nothing = find k first ≡ none
-Old k rows first buf (At i) = some (row_of buf i) ≡ find k rows
+-- the buffer's rows keep this table
+abbrev pub KeptIn : List Row → Rows → Type 0
+KeptIn rs rows = Keeps rs rows.count rows.words.now
 
--- rows put in, which leave the rows `new`: Full only where these do not fit, and then the buffer has no meaning any more
-pub record PutIn (new : List Row) (n : ℕ) (r : Put) (buf : List ℕ) : Type 0 where
-  pub answer : r ≡ pick (Fits n new) (Done (length new)) Full
+-- a row that was found is the table's; where none was, the first run has none with the key
+abbrev pub Old : (k : ℕ) (rows first : List Row) → List ℕ → RustOption ℕ → Type 0
+Old k rows first buf None = find k first ≡ none
+Old k rows first buf (Some i) = some (row_of buf i) ≡ find k rows
+
+-- rows put in, which leave the rows `new`: None only where these do not fit, and then the buffer has no meaning any more
+pub record PutIn (new : List Row) (n : ℕ) (r : RustOption ℕ) (buf : List ℕ) : Type 0 where
+  pub answer : r ≡ pick (Fits n new) (Some (length new)) None
   pub after : Fits n new ≡ true → Keeps new (length new) buf
 
 -- rows taken out

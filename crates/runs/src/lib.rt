@@ -6,120 +6,111 @@
 ghost use Rattle.std.specs.Prelude.{◌≡◌, List, ℕ, ◌+◌, ◌*◌, ◌≤◌, length, ltb};
 ghost use Rattle.std.proofs.Math.Option.{none};
 ghost use Rattle.table.specs.Rows.{Row, width, key, rank, find as find_row, insert as insert_row, insert_all, remove as remove_rows, Holds};
-ghost use Rattle.table.specs.Answers.{Within, Fit};
-ghost use Rattle.runs.specs.Runs.{row_in, Runs, Parted, Near, Last, Keeps, Old, PutIn, TakenOut};
+ghost use Rattle.table.specs.Answers.{Within, Fit, HeldIn};
+ghost use Rattle.runs.specs.Runs.{row_in, Runs, Parted, Near, Last, Keeps, Old, PutIn, TakenOut, KeptIn};
 
-use table::{Found, Put, WIDTH};
+use table::{Rows, WIDTH};
 
 // How many rows are in whole blocks of 16; fewer than two blocks don't count.
 fn last_block(count: usize) -> usize
     ensures { Last result count }
 {
-    if count < 32 {
-        return 0;
-    }
-    count - count % 16
+    if count < 32 { 0 } else { count - count % 16 }
 }
 
 // How many rows are in the first run: without the last block where the order breaks before it. The last test always holds; it is there so that the compiler
 // makes a branch of the one before.
-fn split(b: &[u32], count: usize) -> usize
-    requires { count * width ≤ length b.now }
-    ensures within { result ≤ count }
-    ensures near { Near result count }
-    ensures parted { (rows : List Row) → Keeps rows count b.now → Parted rows result count b.now }
+fn split(rows: &Rows<'_>) -> usize
+    ensures within { result ≤ rows.now.count }
+    ensures near { Near result rows.now.count }
+    ensures parted { (rs : List Row) → KeptIn rs rows.now → Parted rs result rows.now.count rows.now.words.now }
 {
-    let m = last_block(count);
-    if m <= 32 {
+    let m = last_block(rows.count);
+    if m <= 32 || rows.key(m - 17) < rows.key(m - 16) {
         return m;
     }
-    if table::key_at(b, m - 17) < table::key_at(b, m - 16) {
-        return m;
-    }
-    if table::key_at(b, m - 16) < table::key_at(b, m - 1) {
+    if rows.key(m - 16) < rows.key(m - 1) {
         return m - 16;
     }
     m
 }
 
 // The row with the key k among the first m rows, the first run.
-fn find_first(b: &[u32], m: usize, k: u64) -> Found
-    requires { m * width ≤ length b.now }
-    ensures within { Within m result }
-    ensures found { (first late : List Row) (n : ℕ) → Runs first late m n b.now → row_in b.now result ≡ find_row k first }
+fn find_first(rows: &Rows<'_>, k: u64) -> Option<usize>
+    ensures within { Within rows.now.count result }
+    ensures found { (first late : List Row) (n : ℕ) → Runs first late rows.now.count n rows.now.words.now → row_in rows.now.words.now result ≡ find_row k first }
 {
-    if m == 0 {
-        return Found::Nothing;
+    if rows.count == 0 || rows.key(rows.count - 1) < k {
+        return None;
     }
-    if table::key_at(b, m - 1) < k {
-        return Found::Nothing;
+    // behind them may stand the late run, and a table has nothing behind its rows
+    Rows {
+        words: &rows.words[..rows.count * WIDTH],
+        count: rows.count,
     }
-    table::find(&b[..m * WIDTH], m, k)
+    .find(k)
 }
 
 // The row with the key k in the late run.
-fn find_late(b: &[u32], m: usize, count: usize, k: u64) -> Found
+fn find_late(b: &[u32], m: usize, count: usize, k: u64) -> Option<usize>
     requires { (count * width ≤ length b.now) × (m ≤ count) }
     ensures within { Within count result }
     ensures found { (first late : List Row) → Runs first late m count b.now → row_in b.now result ≡ find_row k late }
 {
-    if m == count {
-        return Found::Nothing;
+    if m == count || k < table::key_at(b, m) {
+        return None;
     }
-    if k < table::key_at(b, m) {
-        return Found::Nothing;
+    let i = Rows {
+        words: &b[m * WIDTH..],
+        count: count - m,
     }
-    match table::find(&b[m * WIDTH..], count - m, k) {
-        Found::At(i) => Found::At(m + i),
-        Found::Nothing => Found::Nothing,
-    }
+    .find(k)?;
+    Some(m + i)
 }
 
 // The row with the key k in either run.
-fn find_long(b: &[u32], count: usize, k: u64) -> Found
-    requires { count * width ≤ length b.now }
-    ensures within { Within count result }
-    ensures found { (rows : List Row) → Keeps rows count b.now → row_in b.now result ≡ find_row k rows }
+fn find_long(rows: &Rows<'_>, k: u64) -> Option<usize>
+    ensures within { Within rows.now.count result }
+    ensures found { (rs : List Row) → KeptIn rs rows.now → row_in rows.now.words.now result ≡ find_row k rs }
 {
-    let m = split(b, count);
-    match find_first(b, m, k) {
-        Found::At(i) => Found::At(i),
-        Found::Nothing => find_late(b, m, count, k),
-    }
+    let Rows { words, count, .. } = *rows;
+    let m = split(rows);
+    find_first(&Rows { words, count: m }, k).or_else(|| find_late(words, m, count, k))
 }
 
 // The row with the key k.
-pub fn find(b: &[u32], count: usize, k: u64) -> Found
-    requires { count * width ≤ length b.now }
-    ensures within { Within count result }
-    ensures found { (rows : List Row) → Keeps rows count b.now → row_in b.now result ≡ find_row k rows }
+pub fn find(rows: &Rows<'_>, k: u64) -> Option<usize>
+    ensures within { Within rows.now.count result }
+    ensures found { (rs : List Row) → KeptIn rs rows.now → row_in rows.now.words.now result ≡ find_row k rs }
 {
-    if count < 32 {
-        return table::find(b, count, k);
+    if rows.count < 32 {
+        return rows.find(k);
     }
-    find_long(b, count, k)
+    find_long(rows, k)
 }
 
 // Whether a table of rows in one run has one whose key is at least lo and below hi.
-fn any_in(b: &[u32], count: usize, lo: u64, hi: u64) -> bool
-    requires { count * width ≤ length b.now }
-    ensures { (rows : List Row) → Holds rows count b.now → result ≡ ltb (rank lo rows) (rank hi rows) }
+fn any_in(rows: &Rows<'_>, lo: u64, hi: u64) -> bool
+    ensures { (rs : List Row) → HeldIn rs rows.now → result ≡ ltb (rank lo rs) (rank hi rs) }
 {
-    let from = table::lower_bound(b, count, lo);
-    let to = table::lower_bound(b, count, hi);
-    from < to
+    rows.lower_bound(lo) < rows.lower_bound(hi)
 }
 
 // Whether there is a row whose key is at least lo and below hi.
-pub fn any_between(b: &[u32], count: usize, lo: u64, hi: u64) -> bool
-    requires { (count * width ≤ length b.now) × (lo ≤ hi) }
-    ensures { (rows : List Row) → Keeps rows count b.now → result ≡ ltb (rank lo rows) (rank hi rows) }
+pub fn any_between(rows: &Rows<'_>, lo: u64, hi: u64) -> bool
+    requires { lo ≤ hi }
+    ensures { (rs : List Row) → KeptIn rs rows.now → result ≡ ltb (rank lo rs) (rank hi rs) }
 {
-    let m = split(b, count);
-    if any_in(&b[..m * WIDTH], m, lo, hi) {
-        return true;
-    }
-    any_in(&b[m * WIDTH..], count - m, lo, hi)
+    let m = split(rows);
+    let first = Rows {
+        words: &rows.words[..m * WIDTH],
+        count: m,
+    };
+    let late = Rows {
+        words: &rows.words[m * WIDTH..],
+        count: rows.count - m,
+    };
+    any_in(&first, lo, hi) || any_in(&late, lo, hi)
 }
 
 // The late rows, at most 32 (192 words), go among the first m.
@@ -127,13 +118,7 @@ fn join(b: &mut [u32], m: usize, count: usize)
     requires { (count * width ≤ length b.old) × (m ≤ count) × (count ≤ m + 32) }
     ensures { (first late : List Row) → Runs first late m count b.old → Holds (insert_all late first) count b.new }
 {
-    if m == 0 {
-        return;
-    }
-    if m == count {
-        return;
-    }
-    if table::key_at(b, m - 1) < table::key_at(b, m) {
+    if m == 0 || m == count || table::key_at(b, m - 1) < table::key_at(b, m) {
         return;
     }
     let mut late = [0u32; 192];
@@ -150,56 +135,49 @@ pub fn settle(b: &mut [u32], count: usize)
     if count < 32 {
         return;
     }
-    let m = split(b, count);
+    let m = split(&Rows { words: b, count });
     join(b, m, count);
 }
 
 // Puts the row into the late run, in the place of the one there with its key; none of the first m rows has it.
-fn put_late(b: &mut [u32], m: usize, count: usize, row: &[u32]) -> Put
+fn put_late(b: &mut [u32], m: usize, count: usize, row: &[u32]) -> Option<usize>
     requires { (count * width ≤ length b.old) × (m ≤ count) × (length row.now ≡ width) }
     ensures room { Fit width (length b.old) result }
     ensures after { (rows : List Row) (P : Parted rows m count b.old) → Near m count → find_row (key row.now) P.first ≡ none
         → PutIn (insert_row row.now rows) (length b.old) result b.new }
 {
-    let put = table::insert(&mut b[m * WIDTH..], count - m, row);
-    match put {
-        Put::Full => Put::Full,
-        Put::Done(c) => {
-            if c == 32 {
-                join(b, m, m + c);
-                return Put::Done(m + c);
-            }
-            Put::Done(m + c)
-        }
+    let late = table::insert(&mut b[m * WIDTH..], count - m, row)?;
+    if late == 32 {
+        join(b, m, m + late);
     }
+    Some(m + late)
 }
 
 // The row with the key k, if there is a first run: where all rows are late, `put_late` looks for it.
-fn find_old(b: &[u32], count: usize, k: u64) -> Found
-    requires { count * width ≤ length b.now }
-    ensures within { Within count result }
-    ensures found { (rows : List Row) (K : Keeps rows count b.now) → Old k rows K.parted.first b.now result }
+fn find_old(rows: &Rows<'_>, k: u64) -> Option<usize>
+    ensures within { Within rows.now.count result }
+    ensures found { (rs : List Row) (K : KeptIn rs rows.now) → Old k rs K.parted.first rows.now.words.now result }
 {
-    if count < 32 {
-        return Found::Nothing;
+    if rows.count < 32 {
+        return None;
     }
-    find_long(b, count, k)
+    find_long(rows, k)
 }
 
 // Puts the row in, in the place of the one with its key where there is one.
-pub fn insert(b: &mut [u32], count: usize, row: &[u32]) -> Put
+pub fn insert(b: &mut [u32], count: usize, row: &[u32]) -> Option<usize>
     requires { (count * width ≤ length b.old) × (length row.now ≡ width) }
     ensures room { Fit width (length b.old) result }
     ensures after { (rows : List Row) → Keeps rows count b.old → PutIn (insert_row row.now rows) (length b.old) result b.new }
 {
     let k = table::key_of(row[0], row[1]);
-    match find_old(b, count, k) {
-        Found::At(i) => {
+    match find_old(&Rows { words: b, count }, k) {
+        Some(i) => {
             table::put_words(b, i * WIDTH, row);
-            Put::Done(count)
+            Some(count)
         }
-        Found::Nothing => {
-            let m = split(b, count);
+        None => {
+            let m = split(&Rows { words: b, count });
             put_late(b, m, count, row)
         }
     }
@@ -211,8 +189,15 @@ pub fn remove(b: &mut [u32], count: usize, lo: u64, hi: u64) -> usize
     ensures fewer { result ≤ count }
     ensures after { (rows : List Row) → Keeps rows count b.old → TakenOut (remove_rows lo hi rows) result b.new }
 {
-    let m = split(b, count);
-    if any_in(&b[..m * WIDTH], m, lo, hi) {
+    let m = split(&Rows { words: b, count });
+    if any_in(
+        &Rows {
+            words: &b[..m * WIDTH],
+            count: m,
+        },
+        lo,
+        hi,
+    ) {
         join(b, m, count);
         return table::remove(b, count, lo, hi);
     }

@@ -1,5 +1,5 @@
 -- Where an expression's children stand, its shape by the kind of its head, and what is left of them at each turn of stepping over it. Assumes nothing.
-use Prim.Native.Nat.{ℕ, ◌+◌, ◌-◌, ◌<◌, ◌≤◌}
+use Prim.Native.Nat.{ℕ, ◌+◌, ◌<◌, ◌≤◌}
 use mathlib.Core.Path.{◌≡◌, refl, sym, ap, subst, ◌∙◌}
 use mathlib.Core.Logic.{◌⊎◌, inl, inr, ⊎_elim}
 use mathlib.Core.Bool.{Bool, true, false}
@@ -231,12 +231,12 @@ abbrev pub Left : List ℕ → ℕ → ℕ → ℕ → ℕ → Type 0
 Left ws at m left b = (n : Strings) (e : Expr) (end : ℕ) → Stands ws n at e end → Rest ws n m left b end
 
 -- at first all children are left
-pub left_all : {ws : List ℕ} {at : ℕ} {r : Shape} → ShapedAt ws at r → Left ws at (at + r.front) r.children r.back
-left_all {ws} {at} {r} S n e end s =
+pub left_all : {ws : List ℕ} {at left : ℕ} {r : Shape} → ShapedAt ws at r → left ≡ r.children → Left ws at (at + r.front) left r.back
+left_all {ws} {at} {left} {r} S p n e end s =
     let h = S n e end s in
     let i = inside s in
     let f = i.items in
-    record { es = children e; mid = i.mid; items = rw h.front_is f; count = sym h.children_is; to = rw h.back_is i.to }
+    record { es = children e; mid = i.mid; items = rw h.front_is f; count = sym (p ∙ h.children_is); to = rw h.back_is i.to }
 
 -- one more
 record Split (ws : List ℕ) (n : Strings) (m left b end : ℕ) : Type 0 where
@@ -245,11 +245,11 @@ record Split (ws : List ℕ) (n : Strings) (m left b end : ℕ) : Type 0 where
   stands : Stands ws n m first stop
   rest : Rest ws n stop left b end
 
-split : {ws : List ℕ} {n : Strings} {m left b end : ℕ} → Rest ws n m left b end → 0 < left → Split ws n m (left - 1) b end
+split : {ws : List ℕ} {n : Strings} {m left next b end : ℕ} → Rest ws n m left b end → left ≡ next + 1 → Split ws n m next b end
 unfolding words_all Valids many
-split {ws} {n} {m} {left} {b} {end} r p = go r.es r.items r.count
+split {ws} {n} {m} {left} {next} {b} {end} r p = go r.es r.items r.count
   where
-    go : (es : Exprs) → StandsAll ws n m es r.mid → many es ≡ left → Split ws n m (left - 1) b end
+    go : (es : Exprs) → StandsAll ws n m es r.mid → many es ≡ left → Split ws n m next b end
     go none s c = absurd (omega arith)
     go (more e es) s c = record {
       first = e;
@@ -258,13 +258,13 @@ split {ws} {n} {m} {left} {b} {end} r p = go r.es r.items r.count
       rest = record { es = es; mid = r.mid; items = record { wrote = wrote_right (words e) s.wrote; valid = s.valid.1 }; count = omega arith; to = r.to };
     }
 
-module _ {ws : List ℕ} {at m left b : ℕ} (L : Left ws at m left b) (p : 0 < left) where
+module _ {ws : List ℕ} {at m left b : ℕ} (L : Left ws at m left b) (next : ℕ) (p : left ≡ next + 1) where
   -- where some are left, the next one stands at m
   pub left_some : SomeExpr ws at → SomeExpr ws m
   left_some A = let t = split (L _ _ _ A.stands) p in record { strings = A.strings; expr = t.first; end = t.stop; stands = t.stands }
 
   -- past it one less is left
-  pub left_next : {r : ℕ} → ((n : Strings) (e : Expr) (end : ℕ) → Stands ws n m e end → r ≡ end) → Left ws at r (left - 1) b
+  pub left_next : {r : ℕ} → ((n : Strings) (e : Expr) (end : ℕ) → Stands ws n m e end → r ≡ end) → Left ws at r next b
   left_next {r} E n e end s =
       let t = split (L n e end s) p in
       let q : r ≡ t.stop = E n t.first t.stop t.stands in

@@ -15,12 +15,12 @@ pub struct Shape {
 }
 
 // The words of a literal of a kind, its head included.
+#[tactic(auto, unfolding(crate::specs::Shape::literal_words))]
 fn literal(kind: u32) -> usize
     ensures { result ≡ literal_words kind }
 {
     match kind {
-        26 => 3,
-        27 => 3,
+        26 | 27 => 3,
         _ => 2,
     }
 }
@@ -59,10 +59,8 @@ pub fn expr(words: &[u32], at: usize) -> usize
 {
     let s = shape_at(words, at);
     let mut m = at + s.front;
-    let mut left = s.children;
-    while 0 < left {
+    for _ in 0..s.children {
         m = expr(words, m);
-        left -= 1;
     }
     m + s.back
 }

@@ -1,5 +1,5 @@
 -- How steps on the two buffers are done, and how they follow each other. Assumes nothing.
-use Rattle.std.specs.Prelude.{◌≡◌, refl, Bool, ◌||◌, ℕ, ◌+◌, ◌*◌, ◌≤◌, ◌<◌, eqb}
+use Rattle.std.specs.Prelude.{◌≡◌, refl, Bool, ◌||◌, ℕ, ◌+◌, ◌*◌, ◌≤◌, ◌<◌, eqb, Option, None, Some}
 use Rattle.std.proofs.Math.Path.{sym, ap}
 use Rattle.std.proofs.Common.{◌∙◌, arith, length-append}
 use Rattle.std.proofs.Math.Bool.{true, false}
@@ -18,8 +18,6 @@ use Rattle.table.specs.Buffers.{picked_done, picked_full, pushed_filled, more_do
 use Rattle.runs.specs.Runs.{Keeps, PutIn, TakenOut}
 use Rattle.runs.specs.Laws.{holds_keeps, keeps_fits, keeps_count}
 use Rattle.table.specs.Answers as Answers
-use Rattle.table.specs.declared.Put.{Put}
-use Rattle.table.specs.declared.Put.TheVariants.{Full, Done}
 use Rattle.steps.specs.State.{State, running, stopped, stop, fits, change, enter, push}
 use Rattle.steps.specs.declared.Counts.{Counts}
 use Rattle.steps.specs.Refused.{zeroing, Numbered}
@@ -57,29 +55,29 @@ module _ (s : Counts) (b : List ℕ) (f : List Row → List Row) where
     unfolding fits
     fits_is N rows e = ap (leb (length rows * width)) e
 
-    put_in : (r : Put) (d : List ℕ) (N D : ℕ) (st : State) → ((rows : List Row) → Keeps rows s.rows b → PutIn (f rows) (length b) r b')
+    put_in : (r : Option ℕ) (d : List ℕ) (N D : ℕ) (st : State) → ((rows : List Row) → Keeps rows s.rows b → PutIn (f rows) (length b) r b')
         → Held N D st s b d → Held N D (change (some N) f st) (rows_put s r) b' d
     unfolding change
-    put_in Full d N D (running rows notes) E H =
+    put_in None d N D (running rows notes) E H =
         let no : fits width (some N) (f rows) ≡ false = sym (fits_is N (f rows) H.rows_long) ∙ picked_full _ _ (E rows H.inside.1).answer in
         rw no (record { rows_long = len ∙ H.rows_long; notes_long = H.notes_long; inside = (refl, omega arith) })
-    put_in (Done m) d N D (running rows notes) E H =
+    put_in (Some m) d N D (running rows notes) E H =
         let e = E rows H.inside.1 in
         let p : (Fits (length b) (f rows) ≡ true) × (m ≡ length (f rows)) = picked_done _ _ _ e.answer in
         let yes : fits width (some N) (f rows) ≡ true = sym (fits_is N (f rows) H.rows_long) ∙ p.0 in
         rw yes (record { rows_long = len ∙ H.rows_long; notes_long = H.notes_long; inside = (refl, rw p.1 (e.after p.0), H.inside.2) })
     put_in r d N D (stopped k) E H = going k (sym go ∙ H.inside.0) H.inside.1
 
-    put_fits : (r : Put) → Answers.Fit width (length b) r → s.rows * width ≤ length b → (rows_put s r).rows * width ≤ length b'
-    put_fits Full h fit = omega arith
-    put_fits (Done m) h fit = omega arith
+    put_fits : (r : Option ℕ) → Answers.Fit width (length b) r → s.rows * width ≤ length b → (rows_put s r).rows * width ≤ length b'
+    put_fits None h fit = omega arith
+    put_fits (Some m) h fit = omega arith
 
-    put_keeps : (r : Put) → (rows_put s r).notes ≡ s.notes
-    put_keeps Full = refl
-    put_keeps (Done m) = refl
+    put_keeps : (r : Option ℕ) → (rows_put s r).notes ≡ s.notes
+    put_keeps None = refl
+    put_keeps (Some m) = refl
 
     -- the rows were changed as f says, or had no room: the step is done, under the counts of the answer
-    pub put_change : s.rows * width ≤ length b → (r : Put) → Answers.Fit width (length b) r → ((rows : List Row) → Keeps rows s.rows b → PutIn (f rows) (length b) r b')
+    pub put_change : s.rows * width ≤ length b → (r : Option ℕ) → Answers.Fit width (length b) r → ((rows : List Row) → Keeps rows s.rows b → PutIn (f rows) (length b) r b')
         → Rows (changing f) s (rows_put s r) b b'
     unfolding changing
     put_change fit r h E = record { fit = put_fits r h fit; kept = put_keeps r; after = λ d N D st H. put_in r d N D st E H }
@@ -132,28 +130,28 @@ module _ (s : Counts) (d : List ℕ) (note : Row) (fit : s.notes * note_width �
         let l : length notes + 1 ≡ length (notes ++ (note ∷ [])) = sym (length-append notes (note ∷ [])) in
         ap (λ (m : ℕ). leb (m * note_width) (length d)) l ∙ ap (leb (length (notes ++ (note ∷ [])) * note_width)) e
 
-    note_in : (r : Put) (b : List ℕ) (N D : ℕ) (st : State) → ((notes : List Row) → Filled note_width notes s.notes d → Pushed note notes (length d) r d')
+    note_in : (r : Option ℕ) (b : List ℕ) (N D : ℕ) (st : State) → ((notes : List Row) → Filled note_width notes s.notes d → Pushed note notes (length d) r d')
         → Held N D st s b d → Held N D (push (some D) note st) (notes_put s r) b d'
     unfolding push
-    note_in Full b N D (running rows notes) P H =
+    note_in None b N D (running rows notes) P H =
         let no : fits note_width (some D) (notes ++ (note ∷ [])) ≡ false = sym (more_is D notes H.notes_long) ∙ more_full (length d) note notes d' (P notes H.inside.2) in
         rw no (record { rows_long = H.rows_long; notes_long = len ∙ H.notes_long; inside = (refl, omega arith) })
-    note_in (Done m) b N D (running rows notes) P H =
+    note_in (Some m) b N D (running rows notes) P H =
         let p = P notes H.inside.2 in
         let yes : fits note_width (some D) (notes ++ (note ∷ [])) ≡ true = sym (more_is D notes H.notes_long) ∙ more_done (length d) note notes m d' p in
         rw yes (record { rows_long = H.rows_long; notes_long = len ∙ H.notes_long; inside = (refl, H.inside.1, pushed_filled notes s.notes d H.inside.2 note wide m d' p) })
     note_in r b N D (stopped k) P H = going k (sym go ∙ H.inside.0) H.inside.1
 
-    note_fits : (r : Put) → Answers.Fit note_width (length d) r → (notes_put s r).notes * note_width ≤ length d'
-    note_fits Full h = omega arith
-    note_fits (Done m) h = omega arith
+    note_fits : (r : Option ℕ) → Answers.Fit note_width (length d) r → (notes_put s r).notes * note_width ≤ length d'
+    note_fits None h = omega arith
+    note_fits (Some m) h = omega arith
 
-    note_keeps : (r : Put) → (notes_put s r).rows ≡ s.rows
-    note_keeps Full = refl
-    note_keeps (Done m) = refl
+    note_keeps : (r : Option ℕ) → (notes_put s r).rows ≡ s.rows
+    note_keeps None = refl
+    note_keeps (Some m) = refl
 
     -- it was pushed or had no room: the step is done, under the counts of the answer
-    pub put_note : (r : Put) → Answers.Fit note_width (length d) r → ((notes : List Row) → Filled note_width notes s.notes d → Pushed note notes (length d) r d')
+    pub put_note : (r : Option ℕ) → Answers.Fit note_width (length d) r → ((notes : List Row) → Filled note_width notes s.notes d → Pushed note notes (length d) r d')
         → Notes (pushing note) s (notes_put s r) d d'
     unfolding pushing
     put_note r h P = record { fit = note_fits r h; kept = note_keeps r; after = λ b N D st H. note_in r b N D st P H }

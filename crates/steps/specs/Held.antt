@@ -1,9 +1,7 @@
 -- What two lent buffers hold of collecting's state, and what it is to do a step on them. These are definitions.
-use Rattle.std.specs.Prelude.{◌≡◌, Bool, true, false, List, ℕ, ◌*◌, ◌≤◌, ◌<◌, length}
+use Rattle.std.specs.Prelude.{◌≡◌, Bool, true, false, List, ℕ, ◌*◌, ◌≤◌, ◌<◌, length, Option, None, Some}
 use Rattle.std.proofs.Math.Option.{some}
 use Rattle.table.specs.Rows.{Row, width, note_width, zeros, image, Filled, Holds}
-use Rattle.table.specs.declared.Put.{Put}
-use Rattle.table.specs.declared.Put.TheVariants.{Full, Done}
 use Rattle.runs.specs.Runs.{Keeps}
 use Rattle.steps.specs.State.{State, running, stopped, Step, when, change, enter, push}
 use Rattle.steps.specs.declared.Counts.{Counts}
@@ -77,14 +75,14 @@ unfoldable pub noting : Bool → Row → Sized
 noting t note N D = when t (push (some D) note)
 
 -- the counts after rows were put in, after a diagnostic was
-abbrev pub rows_put : Counts → Put → Counts
-rows_put s Full = record { stop = 7; rows = s.rows; notes = s.notes }
-rows_put s (Done n) = record { stop = 0; rows = n; notes = s.notes }
+abbrev pub rows_put : Counts → Option ℕ → Counts
+rows_put s None = record { stop = 7; rows = s.rows; notes = s.notes }
+rows_put s (Some n) = record { stop = 0; rows = n; notes = s.notes }
 
 -- the same of a diagnostic: 8 where it had no room
-abbrev pub notes_put : Counts → Put → Counts
-notes_put s Full = record { stop = 8; rows = s.rows; notes = s.notes }
-notes_put s (Done n) = record { stop = 0; rows = s.rows; notes = n }
+abbrev pub notes_put : Counts → Option ℕ → Counts
+notes_put s None = record { stop = 8; rows = s.rows; notes = s.notes }
+notes_put s (Some n) = record { stop = 0; rows = s.rows; notes = n }
 
 -- ---- what is left of a run at its end, in buffers of N and D words: rows and diagnostics with zeros after them; a stopped run leaves only zeros
 

@@ -1,5 +1,6 @@
 // Steps of collecting on two lent buffers, rows and diagnostics. Each gives the counts unchanged once the run is stopped, so that code over them
-// is a straight line, as its definition is. What is done is said for every state that the buffers hold.
+// is a straight line, as its definition is. What is done is said for every state that the buffers hold. Kinds of rows and codes of diagnostics are numbers, as document 01
+// numbers them: the functions take any of them.
 #![tactic(auto)]
 
 ghost use Rattle.std.specs.Prelude.{◌≡◌, true, List, [], ◌∷◌, ℕ, ◌+◌, ◌*◌, ◌≤◌, ◌<◌, length};
@@ -9,10 +10,9 @@ ghost use Rattle.steps.specs.State.{State, running, stop as stop_with};
 ghost use Rattle.steps.specs.Refused.{zeroing, Numbered};
 ghost use Rattle.steps.specs.Held.{Held, Settles, Fresh, Notes, Rows, Counted, changing, entering, pushing, noting, rows_put, notes_put, Left};
 
-use table::Put;
 use words::Refusal;
 
-// How many rows and diagnostics there are, and the number that stopped the run, or 0. The wider ones come first, so that no room is left between them: the
+// How many rows and diagnostics there are, and the number that stopped the run, or 0: a number and no enum, since `stop` takes any above 0. The wider ones come first, so that no room is left between them: the
 // compiler copies such a record in better parts.
 #[derive(Clone, Copy)]
 pub struct Counts {
@@ -21,32 +21,28 @@ pub struct Counts {
     pub stop: u32,
 }
 
+// No rows and no diagnostics, in a run that goes on.
+const NONE: Counts = Counts {
+    rows: 0,
+    notes: 0,
+    stop: 0,
+};
+
 // Both buffers made empty.
 pub fn begin(b: &mut [u32], d: &mut [u32]) -> Counts
     ensures { Held (length b.old) (length d.old) (running [] []) result b.new d.new }
 {
     table::empty(b);
     table::empty(d);
-    Counts {
-        stop: 0,
-        rows: 0,
-        notes: 0,
-    }
+    NONE
 }
 
-// The same; fresh buffers are zeros already and need no clearing.
+// The same; fresh buffers are zeros already and need no clearing. A flag says it, since both are there: buffers that were just made, and lent ones.
 pub fn begin_in(b: &mut [u32], d: &mut [u32], fresh: bool) -> Counts
     requires { Fresh fresh b.old d.old }
     ensures { Held (length b.old) (length d.old) (running [] []) result b.new d.new }
 {
-    if fresh {
-        return Counts {
-            stop: 0,
-            rows: 0,
-            notes: 0,
-        };
-    }
-    begin(b, d)
+    if fresh { NONE } else { begin(b, d) }
 }
 
 // The rows put in order, where the run goes on.
@@ -73,8 +69,7 @@ pub fn finish(b: &mut [u32], d: &mut [u32], s: Counts) -> Counts
     table::empty(d);
     Counts {
         stop: s.stop,
-        rows: 0,
-        notes: 0,
+        ..NONE
     }
 }
 
@@ -98,45 +93,35 @@ pub fn stop(s: Counts, number: u32) -> Counts
     if s.stop != 0 {
         return s;
     }
-    Counts {
-        stop: number,
-        rows: s.rows,
-        notes: s.notes,
-    }
+    Counts { stop: number, ..s }
 }
 
-fn rows_put(s: Counts, p: Put) -> Counts
+// The counts after rows were put in: 7 where they had no room. Its fellow for diagnostics sets the other field, which no parameter can name.
+fn rows_put(s: Counts, p: Option<usize>) -> Counts
     ensures { result ≡ rows_put s p }
 {
-    match p {
-        Put::Full => Counts {
-            stop: 7,
-            rows: s.rows,
-            notes: s.notes,
-        },
-        Put::Done(n) => Counts {
+    p.map_or(
+        Counts { stop: 7, ..s },
+        |n| Counts {
             stop: 0,
             rows: n,
-            notes: s.notes,
+            ..s
         },
-    }
+    )
 }
 
-fn notes_put(s: Counts, p: Put) -> Counts
+// The counts after a diagnostic was put in: 8 where it had no room.
+fn notes_put(s: Counts, p: Option<usize>) -> Counts
     ensures { result ≡ notes_put s p }
 {
-    match p {
-        Put::Full => Counts {
-            stop: 8,
-            rows: s.rows,
-            notes: s.notes,
-        },
-        Put::Done(n) => Counts {
+    p.map_or(
+        Counts { stop: 8, ..s },
+        |n| Counts {
             stop: 0,
-            rows: s.rows,
             notes: n,
+            ..s
         },
-    }
+    )
 }
 
 // A row of any kind, in the place of the one with its key.
@@ -175,7 +160,7 @@ pub fn remove_under(b: &mut [u32], s: Counts, kind: u32, name: u32, from: u32) -
     Counts {
         stop: 0,
         rows: n,
-        notes: s.notes,
+        ..s
     }
 }
 
@@ -216,8 +201,9 @@ pub fn push_if(
     requires { s.notes * note_width ≤ length d.old }
     ensures { Notes (noting yes (code ∷ line ∷ name ∷ other ∷ number ∷ prev ∷ [])) s result d.old d.new }
 {
-    if !yes {
-        return s;
+    if yes {
+        push(d, s, code, line, name, other, number, prev)
+    } else {
+        s
     }
-    push(d, s, code, line, name, other, number, prev)
 }

@@ -1,7 +1,7 @@
 -- Laws of order, names and the rule of the table, in the steps that the loops take. Assumes nothing.
 use Prim.Native.Nat.{ℕ, zero, suc, ◌+◌, ◌-◌, ◌≤◌, ◌<◌}
 use mathlib.Core.Path.{◌≡◌, refl, sym, ap, ◌∙◌}
-use mathlib.Core.Bool.{Bool, true, false, ◌&&◌, ◌||◌, false≢true}
+use mathlib.Core.Bool.{Bool, true, false, ◌&&◌, ◌||◌, and_assoc, false≢true}
 use mathlib.Mathlib.Data.Bool.Basic.{and_elim_left, and_elim_right}
 use mathlib.Core.Logic.{⊎_elim}
 use native.Mathlib.Nat.{eq-or-lt_of_le}
@@ -11,48 +11,28 @@ use native.Mathlib.Numerals.{add-one}
 use lib.ListN.{length, get_or, take, drop, drop_of_length-le, length-append, length-drop}
 use lib.Seq.{drop-cons, take_at}
 use lib.Dec.{leb, eqb}
-use borrow.Author.Tests.{lt-ltb, le-ltb, le-leb, lt-leb, eq-eqb, ne_eqb, leb-true, eqb-true}
+use borrow.Author.Tests.{lt-ltb, eq-eqb, ne_eqb, leb-true, eqb-true}
+use Rattle.std.specs.List.{list_all}
 use Rattle.words.specs.Word.{pick}
-use Rattle.strings.specs.Order.{order, is_below}
+use Rattle.std.specs.Ordering.{is_lt, nat_cmp}
+use Rattle.strings.specs.Order.{order}
 use Rattle.strings.specs.Name.{between, inner, suffix, rest, is_name}
 use Rattle.strings.specs.Table.{Names, part, start_of, string_at, all_printable, end_right, rises, last_right, right_at, is_plain, all_below, sound, breaks_at, marks_below, names_of}
 use Rattle.strings.specs.Open.{Said, verdict_of}
-use Rattle.strings.specs.declared.Verdict.TheVariants.{Sound, Breaks}
-use Rattle.strings.specs.declared.Order.{Order}
-use Rattle.strings.specs.declared.Order.TheVariants.{Below, Equal, Above}
+use Rattle.std.specs.declared.cmp.Ordering.{Ordering}
+use Rattle.std.specs.Cmp.Lexicographic.{slice_cmp}
+use Rattle.std.proofs.lemmas.Bool.Decides.{nat_tests}
+use Rattle.std.specs.Prelude.{Ok, Err}
 
 -- ---- order
 
-module _ (a b : List ℕ) (i : ℕ) where
-  -- equal bytes at i: those after them decide
-  pub order_same : i < length a → i < length b → get_or a i 0 ≡ get_or b i 0 → order (drop i a) (drop i b) ≡ order (drop (i + 1) a) (drop (i + 1) b)
-  unfolding order
-  order_same p q e = rw (add-one i, drop-cons a i 0 p, drop-cons b i 0 q, eq-eqb (get_or a i 0) (get_or b i 0) e) refl
-
-  -- the first has the lesser byte at i: it is below
-  pub order_less : i < length a → i < length b → get_or a i 0 < get_or b i 0 → order (drop i a) (drop i b) ≡ Below
-  unfolding order
-  order_less p q l = rw (drop-cons a i 0 p, drop-cons b i 0 q, ne_eqb (get_or a i 0) (get_or b i 0) (λ e. omega arith), lt-ltb (get_or a i 0) (get_or b i 0) l) refl
-
-  -- it has the greater one: it is above
-  pub order_more : i < length a → i < length b → get_or b i 0 < get_or a i 0 → order (drop i a) (drop i b) ≡ Above
-  unfolding order
-  order_more p q l = rw (drop-cons a i 0 p, drop-cons b i 0 q, ne_eqb (get_or a i 0) (get_or b i 0) (λ e. omega arith), le-ltb (get_or a i 0) (get_or b i 0) (omega arith)) refl
-
-  -- the second ended: the first is above
-  pub order_longer : i < length a → length b ≤ i → order (drop i a) (drop i b) ≡ Above
-  unfolding order
-  order_longer p q = rw (drop-cons a i 0 p, drop_of_length-le b q) refl
-
-  -- the first ended: it is below
-  pub order_shorter : length a ≤ i → i < length b → order (drop i a) (drop i b) ≡ Below
-  unfolding order
-  order_shorter p q = rw (drop_of_length-le a p, drop-cons b i 0 q) refl
-
-  -- both ended: they are equal
-  pub order_end : length a ≤ i → length b ≤ i → order (drop i a) (drop i b) ≡ Equal
-  unfolding order
-  order_end p q = rw (drop_of_length-le a p, drop_of_length-le b q) refl
+-- it is the library's order of lists
+pub order_is : (a b : List ℕ) → slice_cmp nat_cmp a b ≡ order a b
+unfolding order
+order_is [] [] = refl
+order_is [] (y ∷ ys) = refl
+order_is (x ∷ xs) [] = refl
+order_is (x ∷ xs) (y ∷ ys) = let e = order_is xs ys in grind (arith, nat_tests)
 
 -- ---- names
 
@@ -64,32 +44,22 @@ and_true a b e = rw e refl
 pub and_false : (a b : Bool) → a ≡ false → (a && b) ≡ false
 and_false a b e = rw e refl
 
--- a second test that holds: the first decides
-pub and_true_right : (a b : Bool) → b ≡ true → (a && b) ≡ a
-and_true_right true b e = e
-and_true_right false b e = refl
+-- all but the last are inner bytes, and the last may be a suffix too
+pub rest_of : (s : List ℕ) (n : ℕ) → length s ≡ suc n → rest s ≡ (list_all inner (take n s) && (inner (get_or s n 0) || suffix (get_or s n 0)))
+unfolding rest
+rest_of [] n e = absurd (omega arith)
+rest_of (b ∷ []) zero e = refl
+rest_of (b ∷ []) (suc n) e = absurd (omega arith)
+rest_of (b ∷ (c ∷ bs)) zero e = absurd (omega arith)
+rest_of (b ∷ (c ∷ bs)) (suc n) e = ap (λ (t : Bool). inner b && t) (rest_of (c ∷ bs) n (omega arith)) ∙ sym (and_assoc (inner b) _ _)
 
--- a second test that fails
-pub and_none : (a b : Bool) → b ≡ false → (a && b) ≡ false
-and_none true b e = e
-and_none false b e = refl
+-- nothing is asked of no bytes
+pub rest_none : (s : List ℕ) → length s ≡ 0 → rest s ≡ true
+unfolding rest
+rest_none [] e = refl
+rest_none (b ∷ bs) e = absurd (omega arith)
 
 module _ (s : List ℕ) (i : ℕ) where
-  -- a byte that another follows
-  pub rest_more : i + 1 < length s → rest (drop i s) ≡ (inner (get_or s i 0) && rest (drop (i + 1) s))
-  unfolding rest
-  rest_more p = rw (drop-cons s i 0 (omega arith), ← add-one i, drop-cons s (i + 1) 0 p) refl
-
-  -- the last byte: it may be a suffix too
-  pub rest_last : i < length s → length s ≤ i + 1 → rest (drop i s) ≡ (inner (get_or s i 0) || suffix (get_or s i 0))
-  unfolding rest
-  rest_last p q = rw (drop-cons s i 0 p, ← add-one i, drop_of_length-le s q) refl
-
-  -- past the last nothing is asked
-  pub rest_none : length s ≤ i → rest (drop i s) ≡ true
-  unfolding rest
-  rest_none p = rw (drop_of_length-le s p) refl
-
   -- a byte is printable, and those after it are
   pub printable_more : i < length s → all_printable (drop i s) ≡ (between 32 126 (get_or s i 0) && all_printable (drop (i + 1) s))
   unfolding all_printable
@@ -136,29 +106,16 @@ start_next ends i = rw (add-one i) refl
 
 -- ---- the rule
 
--- no bytes are no name
+-- a name by its first byte and those after it; no bytes are none
+pub name_of : (s : List ℕ) → 0 < length s → is_name s ≡ (leb (length s) 40 && (between 65 90 (get_or s 0 0) && rest (drop 1 s)))
+unfolding is_name
+name_of [] p = absurd (omega arith)
+name_of (b ∷ bs) p = refl
+
 pub name_empty : (s : List ℕ) → length s ≡ 0 → is_name s ≡ false
 unfolding is_name
 name_empty [] e = refl
 name_empty (b ∷ bs) e = absurd (omega arith)
-
--- nor are more than 40
-pub name_long : (s : List ℕ) → 40 < length s → is_name s ≡ false
-unfolding is_name
-name_long [] p = refl
-name_long (b ∷ bs) p = and_false _ _ (lt-leb (length (b ∷ bs)) 40 p)
-
--- nor bytes whose first is no capital
-pub name_first : (s : List ℕ) → between 65 90 (get_or s 0 0) ≡ false → is_name s ≡ false
-unfolding is_name
-name_first [] e = refl
-name_first (b ∷ bs) e = and_none (leb (length (b ∷ bs)) 40) _ (and_false _ _ e)
-
--- else those after the first decide
-pub name_is : (s : List ℕ) → 0 < length s → length s ≤ 40 → between 65 90 (get_or s 0 0) ≡ true → is_name s ≡ rest (drop 1 s)
-unfolding is_name
-name_is [] p q e = absurd (omega arith)
-name_is (b ∷ bs) p q e = and_true _ _ (le-leb (length (b ∷ bs)) 40 q) ∙ and_true _ _ e
 
 -- a test that holds of all below n holds of each
 pub all_at : (n : ℕ) (ok : ℕ → Bool) (i : ℕ) → all_below n ok ≡ true → i < n → ok i ≡ true
@@ -189,7 +146,7 @@ module _ (bytes ends : List ℕ) where
   rises_first (suc i) e = absurd (omega arith)
 
   -- any other: by its order with the one before it
-  pub rises_is : (i b a e : ℕ) → 0 < i → b ≡ start_of ends (i - 1) → a ≡ start_of ends i → e ≡ get_or ends i 0 → {o : Order} → o ≡ order (part b a bytes) (part a e bytes) → rises bytes ends i ≡ is_below o
+  pub rises_is : (i b a e : ℕ) → 0 < i → b ≡ start_of ends (i - 1) → a ≡ start_of ends i → e ≡ get_or ends i 0 → {o : Ordering} → o ≡ order (part b a bytes) (part a e bytes) → rises bytes ends i ≡ is_lt o
   unfolding rises string_at start_of
   rises_is zero b a e p x y z q = absurd (omega arith)
   rises_is (suc i) b a e p x y z q =
@@ -211,56 +168,17 @@ module _ (bytes ends : List ℕ) where
       (λ (p : 0 < i). rw (start_suc ends i p) (ends_in (i - 1) (all_at i (right_at bytes ends) (i - 1) e (omega arith))).0)
       (eq-or-lt_of_le {n = 0} {m = i} (omega arith))
 
-  -- an end below its start is wrong
-  pub right_end_below : (i : ℕ) → get_or ends i 0 < start_of ends i → right_at bytes ends i ≡ false
-  unfolding right_at end_right
-  right_end_below i p = and_false _ _ (and_false _ _ (lt-leb (start_of ends i) (get_or ends i 0) p))
-
-  -- so is an end past the bytes
-  pub right_end_past : (i : ℕ) → start_of ends i ≤ get_or ends i 0 → length bytes < get_or ends i 0 → right_at bytes ends i ≡ false
-  unfolding right_at end_right
-  right_end_past i p q = and_false _ _ (and_true _ _ (le-leb (start_of ends i) (get_or ends i 0) p) ∙ lt-leb (get_or ends i 0) (length bytes) q)
-
-  -- not above the string before it
-  pub right_not : (i : ℕ) → rises bytes ends i ≡ false → right_at bytes ends i ≡ false
-  unfolding right_at
-  right_not i h = and_none (end_right bytes ends i) _ (and_none (all_printable (string_at bytes ends i)) _ (and_false (rises bytes ends i) _ h))
-
-  -- ends and order are right: the bytes and the last end decide
-  pub right_is : (i a e : ℕ) → a ≡ start_of ends i → e ≡ get_or ends i 0 → a ≤ e → e ≤ length bytes → rises bytes ends i ≡ true → right_at bytes ends i ≡ (all_printable (part a e bytes) && last_right bytes ends i)
+  -- ends, bytes, order and the last end, by where the string begins and ends
+  pub right_of : (i a e : ℕ) → a ≡ start_of ends i → e ≡ get_or ends i 0 → right_at bytes ends i ≡ ((leb a e && leb e (length bytes)) && (all_printable (part a e bytes) && (rises bytes ends i && last_right bytes ends i)))
   unfolding right_at end_right string_at
-  right_is i a e x y p q h =
-      rw (x, y)
-      (and_true _ _
-      (and_true _ _ (le-leb (start_of ends i) (get_or ends i 0) (omega arith)) ∙ le-leb (get_or ends i 0) (length bytes) (omega arith))
-      ∙ ap (λ (t : Bool). all_printable (part (start_of ends i) (get_or ends i 0) bytes) && t) (and_true _ _ h))
-
-  -- the last end must be the byte count
-  pub last_is : (i : ℕ) → i + 1 ≡ length ends → last_right bytes ends i ≡ eqb (get_or ends i 0) (length bytes)
-  unfolding last_right
-  last_is i e = rw (eq-eqb (i + 1) (length ends) e) refl
-
-  -- of any other nothing is asked
-  pub last_not : (i : ℕ) → (i + 1 ≡ length ends → ⊥) → last_right bytes ends i ≡ true
-  unfolding last_right
-  last_not i e = rw (ne_eqb (i + 1) (length ends) e) refl
-
-  -- a last end that isn't the byte count is wrong
-  pub plain_not : (start_of ends (length ends) ≡ length bytes → ⊥) → is_plain bytes ends ≡ false
-  unfolding is_plain
-  plain_not n = and_false _ _ (ne_eqb (start_of ends (length ends)) (length bytes) n)
-
-  -- else the bytes decide
-  pub plain_is : start_of ends (length ends) ≡ length bytes → is_plain bytes ends ≡ all_printable bytes
-  unfolding is_plain
-  plain_is e = and_true _ _ (eq-eqb (start_of ends (length ends)) (length bytes) e)
+  right_of i a e x y = rw (x, y) refl
 
   -- of a plain table the bytes and the last end are right
-  plain_part : is_plain bytes ends ≡ true → (a e : ℕ) → all_printable (part a e bytes) ≡ true
+  pub plain_part : is_plain bytes ends ≡ true → (a e : ℕ) → all_printable (part a e bytes) ≡ true
   unfolding is_plain
   plain_part p a e = printable_take (drop a bytes) (e - a) (printable_drop bytes a (and_elim_right (eqb (start_of ends (length ends)) (length bytes)) _ p))
 
-  plain_last : is_plain bytes ends ≡ true → (i : ℕ) → last_right bytes ends i ≡ true
+  pub plain_last : is_plain bytes ends ≡ true → (i : ℕ) → last_right bytes ends i ≡ true
   unfolding is_plain last_right
   plain_last p i = go (eqb (i + 1) (length ends)) refl
     where
@@ -269,10 +187,6 @@ module _ (bytes ends : List ℕ) where
           let s : get_or ends i 0 ≡ start_of ends (length ends) = start_next ends i ∙ ap (start_of ends) (eqb-true (i + 1) (length ends) q) in
           rw s (and_elim_left _ _ p)
       go false q = refl
-
-  -- where that holds of all strings at once, ends and order decide
-  pub right_plain : (i a e : ℕ) → a ≡ start_of ends i → e ≡ get_or ends i 0 → a ≤ e → e ≤ length bytes → rises bytes ends i ≡ true → is_plain bytes ends ≡ true → right_at bytes ends i ≡ true
-  right_plain i a e x y p q h s = right_is i a e x y p q h ∙ and_true _ _ (plain_part s a e) ∙ plain_last s i
 
   -- strings that are all right are sound
   pub sound_all : 0 < length ends → all_below (length ends) (right_at bytes ends) ≡ true → sound bytes ends ≡ true
@@ -337,12 +251,12 @@ all_none ok = refl
 -- ---- what the check says
 
 -- a sound table is said to be so
-pub is_sound : {bytes ends : List ℕ} → sound bytes ends ≡ true → Said bytes ends Sound
+pub is_sound : {bytes ends : List ℕ} → sound bytes ends ≡ true → Said bytes ends (Ok tt)
 unfolding verdict_of
 is_sound e = record { at = 0; place = λ f. absurd (false≢true (sym f ∙ e)); is = rw e refl }
 
 -- one that breaks the rule at i is said to break it there
-pub is_broken : {bytes ends : List ℕ} {i : ℕ} → (sound bytes ends ≡ false) × (breaks_at bytes ends i ≡ true) → Said bytes ends (Breaks i)
+pub is_broken : {bytes ends : List ℕ} {i : ℕ} → (sound bytes ends ≡ false) × (breaks_at bytes ends i ≡ true) → Said bytes ends (Err (record { string = i }))
 unfolding verdict_of
 is_broken {i} e = record { at = i; place = λ f. e.1; is = rw e.0 refl }
 

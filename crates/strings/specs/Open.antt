@@ -1,21 +1,20 @@
 -- Number 1 and its place, the only open one: some string where the rule breaks.
-use Rattle.std.specs.Prelude.{ℕ, Bool, true, false, ◌≡◌, List}
+use Rattle.std.specs.Prelude.{ℕ, Bool, true, false, ◌≡◌, List, Result, Ok, Err}
 use Rattle.words.specs.Told.{Told, unless}
 use Rattle.strings.specs.Table.{sound, breaks_at}
-use Rattle.strings.specs.declared.Verdict.{Verdict}
-use Rattle.strings.specs.declared.Verdict.TheVariants.{Sound, Breaks}
+use Rattle.strings.specs.declared.Break.{Break}
 
 -- for the other entries: what is said of the place, here alone
 abbrev pub Place : List ℕ → List ℕ → ℕ → Type 0
 Place bytes ends at = sound bytes ends ≡ false → breaks_at bytes ends at ≡ true
 
 -- for contracts inside: the answer of `check`
-unfoldable pub verdict_of : ℕ → Bool → Verdict
-verdict_of at true = Sound
-verdict_of at false = Breaks at
+unfoldable pub verdict_of : ℕ → Bool → Result (Unit {0}) Break
+verdict_of at true = Ok tt
+verdict_of at false = Err (record { string = at })
 
 -- for contracts inside: what `check` says of a table
-pub record Said (bytes ends : List ℕ) (v : Verdict) : Type 0 where
+pub record Said (bytes ends : List ℕ) (v : Result (Unit {0}) Break) : Type 0 where
   pub at : ℕ
   pub place : Place bytes ends at
   pub is : v ≡ verdict_of at (sound bytes ends)

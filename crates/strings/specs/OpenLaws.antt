@@ -1,25 +1,24 @@
 -- An entry's promise from the way it took: a size passed, a table that breaks its rule, or the work behind the checks. Assumes nothing.
-use Rattle.std.specs.Prelude.{ℕ, zero, suc, ◌<◌, Bool, true, false, not, ◌&&◌, ◌≡◌, refl, List, length}
+use Rattle.std.specs.Prelude.{ℕ, zero, suc, ◌<◌, Bool, true, false, not, ◌&&◌, ◌≡◌, refl, List, length, Result, Ok, Err}
 use Rattle.std.proofs.lemmas.Bool.{false≢true}
 use Rattle.std.proofs.Common.{⊎_elim, sym, ap, ◌∙◌, arith, eq-or-lt_of_le, eq-eqb, ne_eqb, lt-ltb}
 use Rattle.words.specs.Told.{Told, stops, unless}
 use Rattle.strings.specs.Table.{right_at, all_below, sound, breaks_at}
 use Rattle.strings.specs.Open.{verdict_of, Said, entry_of, Answers}
-use Rattle.strings.specs.declared.Verdict.{Verdict}
-use Rattle.strings.specs.declared.Verdict.TheVariants.{Sound, Breaks}
+use Rattle.strings.specs.declared.Break.{Break}
 
-verdict_sound : (at : ℕ) (b : Bool) → Sound ≡ verdict_of at b → b ≡ true
+verdict_sound : (at : ℕ) (b : Bool) → (Ok tt) ≡ verdict_of at b → b ≡ true
 unfolding verdict_of
 verdict_sound at true e = refl
 verdict_sound at false e = let z : ◌≡◌ {A = ℕ} 0 1 = cc in absurd (omega arith)
 
-verdict_breaks : (at p : ℕ) (b : Bool) → Breaks p ≡ verdict_of at b → (b ≡ false) × (p ≡ at)
+verdict_breaks : (at p : ℕ) (b : Bool) → Err (record { string = p }) ≡ verdict_of at b → (b ≡ false) × (p ≡ at)
 unfolding verdict_of
 verdict_breaks at p true e = let z : ◌≡◌ {A = ℕ} 0 1 = cc in absurd (omega arith)
-verdict_breaks at p false e = (refl, cc)
+verdict_breaks at p false e = (refl, let h : ◌≡◌ {A = Break} (record { string = p }) (record { string = at }) = cc in ap (λ (b : Break). b.string) h)
 
--- where `check` answers Sound, the table is sound
-pub said_sound : {bytes ends : List ℕ} {v : Verdict} → Said bytes ends v → v ≡ Sound → sound bytes ends ≡ true
+-- where `check` answers Ok, the table is sound
+pub said_sound : {bytes ends : List ℕ} {v : Result (Unit {0}) Break} → Said bytes ends v → v ≡ (Ok tt) → sound bytes ends ≡ true
 said_sound {bytes} {ends} o e = verdict_sound o.at (sound bytes ends) (sym e ∙ o.is)
 
 -- a number below n of which a test fails
@@ -63,7 +62,7 @@ module _ {A : Type 0} {bytes ends : List ℕ} {sized : Bool} {t u : Told A} wher
   answers_size s e = let b = somewhere bytes ends in record { at = b.place; place = b.breaks; is = rw s e }
 
   -- the table breaks its rule at p: with number 1 and this place
-  pub answers_breaks : sized ≡ true → {v : Verdict} → Said bytes ends v → {p : ℕ} → v ≡ Breaks p → t ≡ stops 1 p → Answers sized bytes ends t u
+  pub answers_breaks : sized ≡ true → {v : Result (Unit {0}) Break} → Said bytes ends v → {p : ℕ} → v ≡ Err (record { string = p }) → t ≡ stops 1 p → Answers sized bytes ends t u
   unfolding entry_of unless
   answers_breaks s o {p} f e =
       let h = verdict_breaks o.at p (sound bytes ends) (sym f ∙ o.is) in

@@ -1,7 +1,8 @@
 -- The string table: bytes and an ascending list of ends, the last end being the byte count.
 use Rattle.std.specs.Prelude.{ℕ, zero, suc, ◌+◌, ◌-◌, ◌≤◌, ◌<◌, Bool, true, not, ◌&&◌, ◌≡◌, List, [], ◌∷◌, ◌++◌, length, get_or, take, drop, ltb, leb, eqb}
 use Rattle.words.specs.Word.{pick}
-use Rattle.strings.specs.Order.{order, is_below}
+use Rattle.std.specs.Ordering.{is_lt}
+use Rattle.strings.specs.Order.{order}
 use Rattle.strings.specs.Name.{between, is_name}
 
 -- string i runs from the end before it, 0 for the first, to its own end
@@ -32,7 +33,7 @@ end_right bytes ends i = leb (start_of ends i) (get_or ends i 0) && leb (get_or 
 unfoldable pub rises : List ℕ → List ℕ → ℕ → Bool
 unfolding string_at
 rises bytes ends zero = true
-rises bytes ends (suc i) = is_below (order (string_at bytes ends i) (string_at bytes ends (suc i)))
+rises bytes ends (suc i) = is_lt (order (string_at bytes ends i) (string_at bytes ends (suc i)))
 
 -- the last end is the byte count
 unfoldable pub last_right : List ℕ → List ℕ → ℕ → Bool

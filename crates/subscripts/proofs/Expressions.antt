@@ -13,6 +13,7 @@ use Rattle.expr.specs.Expr.{Strings, Expr, Exprs, Lit, Var, Elem, Unary, Binary,
 use Rattle.expr.specs.Stands.{Wrote, Stands, StandsAll}
 use Rattle.expr.proofs.Parts.{wrote_first, wrote_left, wrote_right, pay_is}
 use Rattle.expr.proofs.Nodes.{kind_of_lem}
+use Rattle.std.specs.Prelude.{None}
 use Rattle.skip.specs.Shape.{SomeExpr, children}
 use Rattle.skip.specs.declared.Shape.{Shape}
 use Rattle.skip.proofs.Laws.{ShapedAt, inside}
@@ -24,7 +25,7 @@ use Rattle.subscripts.proofs.Marks.{noted_same}
 -- ---- one use or else another
 
 -- the code's answer where no use was found
-pub unused : use_of (record { found = false; count = 0 }) ≡ nothing
+pub unused : use_of None ≡ nothing
 unfolding use_of
 unused = refl
 

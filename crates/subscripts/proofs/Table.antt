@@ -8,6 +8,7 @@ use mathlib.Core.Logic.{◌⊎◌, inl, inr}
 use mathlib.Core.Bool.{Bool, true, false, false≢true}
 use mathlib.Core.List.{List}
 use mathlib.Core.Option.{none as nothing, some}
+use Rattle.std.specs.Prelude.{Some, None}
 use lib.Dec.{leb, ltb, eqb}
 use lib.ListN.{length, get_or, set, length-set}
 use lib.Seq.{get_or-set_same, get_or-set_other}
@@ -36,7 +37,7 @@ mark_new p (suc c) k n (inl e) h = absurd (omega arith)
 mark_new p (suc c) k n (inr l) h = mark_is k n h ∙ (rw (lt-ltb k p l) refl)
 
 -- the use that they say
-use_under : (p c : ℕ) → (c ≡ 0 → ⊥) → use_of (record { found = true; count = (c - 1) % 4294967296 }) ≡ used (mark_of p c)
+use_under : (p c : ℕ) → (c ≡ 0 → ⊥) → use_of (Some ((c - 1) % 4294967296)) ≡ used (mark_of p c)
 unfolding use_of used mark_of
 use_under p zero z = absurd (z refl)
 use_under p (suc c) z = let e : suc c - 1 ≡ c = omega arith in rw e refl
@@ -87,12 +88,12 @@ module _ (base : ℕ) (t : List ℕ) (x : ℕ) where
   mark_none h = rw h refl
 
   -- no use is noted where the second word is 0
-  pub use_none : room base t x ≡ true → get_or t (2 * (x - base) + 1) 0 ≡ 0 → use_of (record { found = false; count = 0 }) ≡ used (mark_at base t x)
+  pub use_none : room base t x ≡ true → get_or t (2 * (x - base) + 1) 0 ≡ 0 → use_of None ≡ used (mark_at base t x)
   unfolding use_of used mark_of
   use_none h z = sym (ap used (mark_there h ∙ ap (mark_of (get_or t (2 * (x - base)) 0)) z))
 
   -- else it is one more than the count
-  pub use_some : room base t x ≡ true → (get_or t (2 * (x - base) + 1) 0 ≡ 0 → ⊥) → use_of (record { found = true; count = (get_or t (2 * (x - base) + 1) 0 - 1) % 4294967296 }) ≡ used (mark_at base t x)
+  pub use_some : room base t x ≡ true → (get_or t (2 * (x - base) + 1) 0 ≡ 0 → ⊥) → use_of (Some ((get_or t (2 * (x - base) + 1) 0 - 1) % 4294967296)) ≡ used (mark_at base t x)
   use_some h z = use_under (get_or t (2 * (x - base)) 0) (get_or t (2 * (x - base) + 1) 0) z ∙ sym (ap used (mark_there h))
 
 -- ---- a use of the name f, noted at k

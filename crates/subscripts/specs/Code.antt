@@ -1,7 +1,7 @@
 -- What the contracts of the code of `subscript_count` cite. These are definitions.
-use Rattle.std.specs.Prelude.{ℕ, ◌+◌, ◌<◌, ◌≤◌, ◌≡◌, Bool, true, ◌||◌, ◌&&◌, List, [], ◌∷◌, eqb, leb, get_or}
+use Rattle.std.specs.Prelude.{ℕ, ◌+◌, ◌<◌, ◌≤◌, ◌≡◌, Bool, true, ◌||◌, ◌&&◌, List, [], ◌∷◌, eqb, leb, get_or, Option as RustOption, Some, None}
 use Rattle.std.proofs.Math.Option.{Option, none as nothing, some}
-use Rattle.words.specs.Word.{kind_of, pay_of, pick}
+use Rattle.words.specs.Word.{kind_of, pay_of}
 use Rattle.expr.specs.Expr.{Strings, Expr, Exprs, Lit, Var, Elem, Unary, Binary, Call, Field, Paren, many}
 use Rattle.expr.specs.Stands as W
 use Rattle.tree.specs.Sorts.{stmt, exprs, nil, ◌&◌, opt, many as many_sort, body, LValue as LValueRow}
@@ -12,11 +12,11 @@ use Rattle.views.specs.View.{lvalue, optional, expressions, items}
 use Rattle.views.specs.Uses.{own}
 use Rattle.subscripts.specs.Subscripts.{or_else, first_of, subscripted, in_expr, in_exprs, in_lvalue, subscript_count}
 use Rattle.subscripts.specs.Notes.{Mark, noted, used, room, mark_at, Noted}
-use Rattle.subscripts.specs.declared.Use.{Use}
 
 -- the code's answer as the definition's: the count, where a use was found
-unfoldable pub use_of : Use → Option ℕ
-use_of u = pick u.found (some u.count) nothing
+unfoldable pub use_of : RustOption ℕ → Option ℕ
+use_of None = nothing
+use_of (Some n) = some n
 
 -- the marks of all names, before a part is walked and after it
 abbrev pub Marks : Type 0

@@ -18,14 +18,7 @@ ghost use Rattle.subscripts.specs.Code.{use_of, HereNotes, NotesExpr, SomeExprs,
 // The rank of an array parameter that its body never subscripts.
 pub const UNRANKED: u32 = 1;
 
-// How many subscripts a name is given, where it is found; else 0.
-#[derive(Clone, Copy)]
-pub struct Use {
-    pub found: bool,
-    pub count: u32,
-}
-
-// The notes are a table with two words for each name from `base` on: the place of the statement that has the name's first use so far, or one of the next
+// The notes are a caller's words, a table with two for each name from `base` on: the place of the statement that has the name's first use so far, or one of the next
 // two, which orders the uses within the statement, and one more than the number of its subscripts; 0 where there is none.
 
 // Notes a use of the name f with n subscripts at k, unless one at k or before is there.
@@ -39,10 +32,8 @@ fn note(t: &mut [usize], base: u32, k: usize, f: u32, n: u32)
     if t.len() <= i + 1 {
         return;
     }
-    if t[i + 1] != 0 {
-        if t[i] <= k {
-            return;
-        }
+    if t[i + 1] != 0 && t[i] <= k {
+        return;
     }
     t[i] = k;
     t[i + 1] = n as usize + 1;
@@ -77,17 +68,16 @@ fn expr(words: &[u32], at: usize, t: &mut [usize], base: u32, k: usize) -> usize
     next + s.back
 }
 
-// So many expressions, one after another.
+// So many expressions, one after another. Each list's loop below is said out: one loop that takes its step as a closure would need the step's promise in its
+// own contract, which differs from list to list.
 #[cycle(expr_exprs)]
 fn exprs(words: &[u32], at: usize, n: u32, t: &mut [usize], base: u32, k: usize) -> usize
     requires { SomeExprs words.now at n }
     ensures { NotesExprs words.now at n k (mark_at base t.old) (mark_at base t.new) result }
 {
     let mut next = at;
-    let mut i = 0;
-    while i < n {
+    for _ in 0..n {
         next = expr(words, next, t, base, k);
-        i += 1;
     }
     next
 }
@@ -121,10 +111,8 @@ fn items(words: &[u32], at: usize, t: &mut [usize], base: u32, k: usize) -> usiz
 {
     let n = words[at] % 16777216;
     let mut next = at + 1;
-    let mut i = 0;
-    while i < n {
+    for _ in 0..n {
         next = item(words, next, t, base, k);
-        i += 1;
     }
     next
 }
@@ -158,10 +146,8 @@ fn lvalues(words: &[u32], at: usize, t: &mut [usize], base: u32, k: usize, j: us
 {
     let n = words[at] % 16777216;
     let mut next = at + 1;
-    let mut i = 0;
-    while i < n {
+    for _ in 0..n {
         next = lvalue(words, next, t, base, k, j);
-        i += 1;
     }
     next
 }
@@ -222,15 +208,11 @@ fn read(words: &[u32], at: usize, t: &mut [usize], base: u32) -> usize
 }
 
 // Whether statements of the kind have targets, or expressions in another order than their words.
+#[tactic(auto, using(std::proofs::lemmas::Bool::Decides::nat_tests), unfolding(crate::specs::Code::targeted))]
 fn targeted(kind: u32) -> bool
     ensures { result ≡ is_targeted kind }
 {
-    match kind {
-        66..=69 => true,
-        88 => true,
-        96 => true,
-        _ => false,
-    }
+    matches!(kind, 66..=69 | 88 | 96)
 }
 
 // A statement of such a kind. No statement stands in one.
@@ -261,10 +243,7 @@ fn field(words: &[u32], at: usize, sort: u8, t: &mut [usize], base: u32, k: usiz
         return stmt(words, at, t, base);
     }
     let p = plans::plan_for(words, at, sort);
-    let c = p.same;
-    let r = p.row;
-    let n = p.times;
-    each(words, at + c, r, n, t, base, k)
+    each(words, at + p.same, p.row, p.times, t, base, k)
 }
 
 // A statement: its targets and its own expressions, then the statements in it, whose places come after its own.
@@ -287,10 +266,8 @@ fn each(words: &[u32], at: usize, r: usize, n: u32, t: &mut [usize], base: u32, 
     ensures { WalksRows (row_of r) n words.now at result (Counted k at result (mark_at base t.old) (mark_at base t.new)) }
 {
     let mut next = at;
-    let mut i = 0;
-    while i < n {
+    for _ in 0..n {
         next = row(words, next, r, t, base, k);
-        i += 1;
     }
     next
 }
@@ -302,14 +279,12 @@ fn row(words: &[u32], at: usize, r: usize, t: &mut [usize], base: u32, k: usize)
     ensures { Walks (row_shape (row_of r)) words.now at result (Counted k at result (mark_at base t.old) (mark_at base t.new)) }
 {
     let mut next = at;
-    let mut i = 0;
-    while i < 6 {
+    for i in 0..6 {
         let sort = tree::sort(r, i);
         if sort == 0 {
             return next;
         }
         next = field(words, next, sort, t, base, k);
-        i += 1;
     }
     next
 }
@@ -321,46 +296,36 @@ pub fn first_uses(words: &[u32], at: usize, t: &mut [usize], base: u32)
 {
     let n = words[at] % 16777216;
     let mut next = at + 1;
-    let mut i = 0;
-    while i < n {
+    for _ in 0..n {
         next = stmt(words, next, t, base);
-        i += 1;
     }
 }
 
 // The use of a name that the notes have room for.
-pub fn first_use(t: &[usize], base: u32, name: u32) -> Use
+pub fn first_use(t: &[usize], base: u32, name: u32) -> Option<u32>
     requires { room base t.now name ≡ true }
     ensures { use_of result ≡ used (mark_at base t.now name) }
 {
     let c = t[2 * (name - base) as usize + 1];
     if c == 0 {
-        return Use {
-            found: false,
-            count: 0,
-        };
+        return None;
     }
-    Use {
-        found: true,
-        count: ((c - 1) % 4294967296) as u32,
-    }
+    Some(((c - 1) % 4294967296) as u32)
 }
 
 // How many subscripts the name is given first in the body at `at`. No statement after the one with that use is looked at.
-pub fn subscript_count(words: &[u32], at: usize, name: u32) -> Use
+pub fn subscript_count(words: &[u32], at: usize, name: u32) -> Option<u32>
     requires { SomeTree (one body) words.now at }
     ensures { (ns : List ℕ) (n : ℕ) (v : Tree Expr (one body)) (end : ℕ) → Stands words.now ns n at v end → use_of result ≡ subscript_count (λ name (e : Expr). in_expr name e) name v }
 {
     let mut t = [0usize; 2];
     let n = words[at] % 16777216;
     let mut next = at + 1;
-    let mut i = 0;
-    while i < n {
+    for _ in 0..n {
         next = stmt(words, next, &mut t, name);
         if t[1] != 0 {
             return first_use(&t, name, name);
         }
-        i += 1;
     }
     first_use(&t, name, name)
 }

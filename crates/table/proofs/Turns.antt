@@ -13,7 +13,7 @@ use Rattle.table.specs.Laws.{pick_true, pick_false, insert_all_len}
 use Rattle.table.specs.Images.{holds_fits}
 use Rattle.table.specs.Buffers.{inserted_holds, room_full}
 use Rattle.table.specs.Answers.{Fits, Inserted, Entered}
-use Rattle.table.specs.declared.Put.TheVariants.{Full, Done}
+use Rattle.std.specs.Prelude.{None, Some}
 
 -- i of the n rows are in
 pub record Turn (src : List ℕ) (n : ℕ) (first : List Row) (b : List ℕ) (m i : ℕ) : Type 0 where
@@ -41,7 +41,7 @@ module _ (src : List ℕ) (n i : ℕ) (h : i < n) where
     next_is = T.left ∙ ap (λ (l : List Row). insert_all l T.cur) rows_next
 
     -- one more is in
-    pub turn_next : (k : ℕ) → length (take width (drop (i * width) src)) ≡ width → Inserted (take width (drop (i * width) src)) T.cur (length b) (Done k) after
+    pub turn_next : (k : ℕ) → length (take width (drop (i * width) src)) ≡ width → Inserted (take width (drop (i * width) src)) T.cur (length b) (Some k) after
         → Turn src n first after k (i + 1)
     turn_next k w I = record {
       cur = insert (take width (drop (i * width) src)) T.cur;
@@ -49,9 +49,9 @@ module _ (src : List ℕ) (n i : ℕ) (h : i < n) where
       left = next_is;
     }
 
-    -- the next one has no room: Full
-    pub turn_full : Inserted (take width (drop (i * width) src)) T.cur (length b) Full after
-        → (last : List ℕ) → Entered (insert_all (rows_of n src) first) (length b) Full last
+    -- the next one has no room: None
+    pub turn_full : Inserted (take width (drop (i * width) src)) T.cur (length b) None after
+        → (last : List ℕ) → Entered (insert_all (rows_of n src) first) (length b) None last
     turn_full I last =
         let row : Row = take width (drop (i * width) src) in
         let over : length b < length (insert row T.cur) * width = leb-false (length (insert row T.cur) * width) (length b) (room_full (length b) row T.cur after I) in
@@ -59,21 +59,21 @@ module _ (src : List ℕ) (n i : ℕ) (h : i < n) where
         subst (λ (l : List Row). length (insert row T.cur) ≤ length l) (sym next_is) (insert_all_len (rows_of (n - (i + 1)) (drop ((i + 1) * width) src)) (insert row T.cur)) in
         let no : Fits (length b) (insert_all (rows_of n src) first) ≡ false = lt-leb (length (insert_all (rows_of n src) first) * width) (length b) (omega arith) in
         record {
-          answer = sym (pick_false (Done (length (insert_all (rows_of n src) first))) Full no);
+          answer = sym (pick_false (Some (length (insert_all (rows_of n src) first))) None no);
           after = λ (yes : Fits (length b) (insert_all (rows_of n src) first) ≡ true).
               let z : ◌≡◌ {A = ℕ} 0 1 = cc in
               absurd (omega arith);
         }
 
 -- all are in
-pub turn_end : (src : List ℕ) (n : ℕ) (first : List Row) (b : List ℕ) (m i : ℕ) → n ≤ i → Turn src n first b m i → Entered (insert_all (rows_of n src) first) (length b) (Done m) b
+pub turn_end : (src : List ℕ) (n : ℕ) (first : List Row) (b : List ℕ) (m i : ℕ) → n ≤ i → Turn src n first b m i → Entered (insert_all (rows_of n src) first) (length b) (Some m) b
 unfolding insert_all rows_of
 turn_end src n first b m i h T =
     let e : n - i ≡ 0 = omega arith in
     let a : insert_all (rows_of n src) first ≡ T.cur = T.left ∙ ap (λ (j : ℕ). insert_all (rows_of j (drop (i * width) src)) T.cur) e in
     let fit : length T.cur * width ≤ length b = omega (arith, holds_fits T.holds.filled, T.holds.filled.count) in
     let yes : Fits (length b) T.cur ≡ true = le-leb (length T.cur * width) (length b) fit in
-    subst (λ (l : List Row). Entered l (length b) (Done m) b) (sym a) (record {
-      answer = ap Done (sym T.holds.filled.count) ∙ sym (pick_true (Done (length T.cur)) Full yes);
+    subst (λ (l : List Row). Entered l (length b) (Some m) b) (sym a) (record {
+      answer = ap Some (sym T.holds.filled.count) ∙ sym (pick_true (Some (length T.cur)) None yes);
       after = λ _. T.holds.filled.words;
     })

@@ -1,5 +1,5 @@
 -- What the functions leave in a buffer that holds a table: a splice of the words is a change of the list of rows. Assumes nothing.
-use Rattle.std.specs.Prelude.{◌≡◌, refl, Bool, false, get_or}
+use Rattle.std.specs.Prelude.{◌≡◌, refl, Bool, false, get_or, Some, None}
 use Rattle.std.proofs.Math.Path.{sym, ap}
 use Rattle.std.proofs.Common.{◌∙◌, le_of_eq, le_refl, zero-mul, take-append-drop, length-drop, take_at, drop-drop}
 use Rattle.std.proofs.Math.Bool.{true}
@@ -16,8 +16,6 @@ use Rattle.table.specs.Rows.{width, note_width, Row, key_of, key, Table, rank, f
 use Rattle.table.specs.Laws.{pick_true, pick_false, rank_le, insert_old, insert_new, remove_splice, rank_mono, insert_table, remove_table, remove_len, find_some}
 use Rattle.table.specs.Images.{holds_fits, take_rows, drop_rows, slice_rows, drop_tail, key_of_row, wide_snoc, filled_image, holds_image, image_append, image_splice, image_none}
 use Rattle.table.specs.Answers.{found_at, Room, Inserted, Removed, More, Pushed}
-use Rattle.table.specs.declared.Found.TheVariants.{At, Nothing}
-use Rattle.table.specs.declared.Put.TheVariants.{Full, Done}
 
 -- ---- over a buffer that holds n rows, the place p of the key k
 
@@ -40,18 +38,18 @@ module _ (rows : List Row) (n : ℕ) (buf : List ℕ) (H : Holds rows n buf) (ro
   len_drop q = length-drop q rows ∙ ap (λ (m : ℕ). m - q) H.filled.count
 
   done : (m : ℕ) (new : List Row) (after : List ℕ) → insert row rows ≡ new → length new ≡ m → m * width ≤ length buf → after ≡ image width (length buf) new
-      → Inserted row rows (length buf) (Done m) after
+      → Inserted row rows (length buf) (Some m) after
   done m new after i l h a =
       let len : length (insert row rows) ≡ m = ap length i ∙ l in
       let room : Room (length buf) rows row ≡ true = le-leb (length (insert row rows) * width) (length buf) (omega arith) in
       record {
-        answer = ap Done (sym len) ∙ sym (pick_true (Done (length (insert row rows))) Full room);
+        answer = ap Some (sym len) ∙ sym (pick_true (Some (length (insert row rows))) None room);
         after = a ∙ ap (image width (length buf)) (sym i ∙ sym (pick_true (insert row rows) rows room));
       }
 
   -- the row at the place has the row's key: its words are written over
   pub replaced : p < n → key (get_or rows (rank (key row) rows) []) ≡ key row
-      → Inserted row rows (length buf) (Done n) (take (p * width) buf ++ (row ++ drop (p * width + width) buf))
+      → Inserted row rows (length buf) (Some n) (take (p * width) buf ++ (row ++ drop (p * width + width) buf))
   replaced h q =
       let s : p * width + width ≡ suc p * width = omega arith in
       done n (take p rows ++ (row ∷ drop (suc p) rows)) (take (p * width) buf ++ (row ++ drop (p * width + width) buf)) (
@@ -72,13 +70,13 @@ module _ (rows : List Row) (n : ℕ) (buf : List ℕ) (H : Holds rows n buf) (ro
     unfolding new
     new_len = length-append (take p rows) (row ∷ drop p rows) ∙ omega (arith, len_take, len_drop p, place_le)
 
-    -- the key is new and the last words are too few: Full, and the buffer is as it was
-    pub full : length buf - n * width < width → Inserted row rows (length buf) Full buf
+    -- the key is new and the last words are too few: None, and the buffer is as it was
+    pub full : length buf - n * width < width → Inserted row rows (length buf) None buf
     full h =
         let len : length (insert row rows) ≡ n + 1 = ap length new_is ∙ new_len in
         let no_room : Room (length buf) rows row ≡ false = lt-leb (length (insert row rows) * width) (length buf) (omega arith) in
         record {
-          answer = sym (pick_false (Done (length (insert row rows))) Full no_room);
+          answer = sym (pick_false (Some (length (insert row rows))) None no_room);
           after = H.filled.words ∙ ap (image width (length buf)) (sym (pick_false (insert row rows) rows no_room));
         }
 
@@ -86,7 +84,7 @@ module _ (rows : List Row) (n : ℕ) (buf : List ℕ) (H : Holds rows n buf) (ro
     pub added : n * width + width ≤ length buf → (up after : List ℕ)
         → up ≡ take (p * width + width) buf ++ (slice (p * width) (n * width) buf ++ drop (n * width + width) buf)
         → after ≡ take (p * width) up ++ (row ++ drop (p * width + width) up)
-        → Inserted row rows (length buf) (Done (n + 1)) after
+        → Inserted row rows (length buf) (Some (n + 1)) after
     unfolding new
     added h up after u a =
         let tail : List ℕ = slice (p * width) (n * width) buf ++ drop (n * width + width) buf in
@@ -170,7 +168,7 @@ module _ (rows : List Row) (n : ℕ) (buf : List ℕ) (H : Holds rows n buf) (lo
 
 -- a row went in
 pub inserted_holds : (rows : List Row) (n : ℕ) (buf : List ℕ) → Holds rows n buf → (row : Row) → length row ≡ width → (m : ℕ) (after : List ℕ)
-    → Inserted row rows (length buf) (Done m) after → Holds (insert row rows) m after
+    → Inserted row rows (length buf) (Some m) after → Holds (insert row rows) m after
 inserted_holds rows n buf H row w m after I = go (Room (length buf) rows row) refl
   where
     go : (t : Bool) → Room (length buf) rows row ≡ t → Holds (insert row rows) m after
@@ -178,11 +176,11 @@ inserted_holds rows n buf H row w m after I = go (Room (length buf) rows row) re
         let t : Table 0 (insert row rows) = insert_table 0 row rows H.table w zero-le in
         let h : length (insert row rows) * width ≤ length buf = leb-true (length (insert row rows) * width) (length buf) r in
         let a : after ≡ image width (length buf) (insert row rows) = I.after ∙ ap (image width (length buf)) (pick_true (insert row rows) rows r) in
-        let m_is : Done m ≡ Done (length (insert row rows)) = I.answer ∙ pick_true (Done (length (insert row rows))) Full r in
+        let m_is : Some m ≡ Some (length (insert row rows)) = I.answer ∙ pick_true (Some (length (insert row rows))) None r in
         let m_is' : m ≡ length (insert row rows) = cc in
         rw (a, m_is') (holds_image (length buf) (insert row rows) t h)
     go false r =
-        let m_is : Done m ≡ Full = I.answer ∙ pick_false (Done (length (insert row rows))) Full r in
+        let m_is : Some m ≡ None = I.answer ∙ pick_false (Some (length (insert row rows))) None r in
         let z : ◌≡◌ {A = ℕ} 0 1 = cc in
         absurd (omega arith)
 
@@ -197,44 +195,44 @@ removed_holds rows n buf H lo hi m h after R =
 
 module _ (rows : List Row) (n : ℕ) (buf : List ℕ) (H : Holds rows n buf) (k : ℕ) where
   -- it found row i: that is what the definition finds, and its words stand in the buffer
-  pub found_row : (i : ℕ) → At i ≡ found_at (rank k rows) (find k rows) → find k rows ≡ some (get_or rows i [])
+  pub found_row : (i : ℕ) → Some i ≡ found_at (rank k rows) (find k rows) → find k rows ≡ some (get_or rows i [])
   found_row i e = go (find k rows) refl
     where
       go : (o : Option Row) → find k rows ≡ o → find k rows ≡ some (get_or rows i [])
       go none q =
-          let f : At i ≡ Nothing = e ∙ ap (found_at (rank k rows)) q in
+          let f : Some i ≡ None = e ∙ ap (found_at (rank k rows)) q in
           let z : ◌≡◌ {A = ℕ} 0 1 = cc in
           absurd (omega arith)
       go (some r) q =
-          let f : At i ≡ At (rank k rows) = e ∙ ap (found_at (rank k rows)) q in
+          let f : Some i ≡ Some (rank k rows) = e ∙ ap (found_at (rank k rows)) q in
           let i_is : i ≡ rank k rows = cc in
           q ∙ ap some ((find_some 0 k rows H.table r q).1 ∙ ap (λ (m : ℕ). get_or rows m []) (sym i_is))
 
   -- it found nothing: nor does the definition
-  pub found_none : Nothing ≡ found_at (rank k rows) (find k rows) → find k rows ≡ none
+  pub found_none : None ≡ found_at (rank k rows) (find k rows) → find k rows ≡ none
   found_none e = go (find k rows) refl
     where
       go : (o : Option Row) → find k rows ≡ o → find k rows ≡ none
       go none q = q
       go (some r) q =
-          let f : Nothing ≡ At (rank k rows) = e ∙ ap (found_at (rank k rows)) q in
+          let f : None ≡ Some (rank k rows) = e ∙ ap (found_at (rank k rows)) q in
           let z : ◌≡◌ {A = ℕ} 0 1 = cc in
           absurd (omega arith)
 
 -- ---- a diagnostic put after the last
 
 module _ (notes : List Row) (n : ℕ) (buf : List ℕ) (F : Filled note_width notes n buf) (note : Row) where
-  -- the last words are too few: Full, and the buffer is as it was
-  pub push_full : length buf - n * note_width < note_width → Pushed note notes (length buf) Full buf
+  -- the last words are too few: None, and the buffer is as it was
+  pub push_full : length buf - n * note_width < note_width → Pushed note notes (length buf) None buf
   push_full h =
       let no_room : More (length buf) notes ≡ false = lt-leb ((length notes + 1) * note_width) (length buf) (omega (arith, F.count, holds_fits F)) in
       record {
-        answer = sym (pick_false (Done (length notes + 1)) Full no_room);
+        answer = sym (pick_false (Some (length notes + 1)) None no_room);
         after = F.words ∙ ap (image note_width (length buf)) (sym (pick_false (notes ++ (note ∷ [])) notes no_room));
       }
 
   -- there is room: the diagnostic written after the last
-  pub pushed : n * note_width + note_width ≤ length buf → Pushed note notes (length buf) (Done (n + 1)) (take (n * note_width) buf ++ (note ++ drop (n * note_width + note_width) buf))
+  pub pushed : n * note_width + note_width ≤ length buf → Pushed note notes (length buf) (Some (n + 1)) (take (n * note_width) buf ++ (note ++ drop (n * note_width + note_width) buf))
   unfolding flatten
   pushed h =
       let room : More (length buf) notes ≡ true = le-leb ((length notes + 1) * note_width) (length buf) (omega (arith, F.count)) in
@@ -244,13 +242,13 @@ module _ (notes : List Row) (n : ℕ) (buf : List ℕ) (F : Filled note_width no
       let front : take (n * note_width) buf ≡ flatten notes = take_rows F n (le_refl n) ∙ ap flatten all in
       let c : length notes + 1 ≡ n + 1 = omega (arith, F.count) in
       record {
-        answer = ap Done (sym c) ∙ sym (pick_true (Done (length notes + 1)) Full room);
+        answer = ap Some (sym c) ∙ sym (pick_true (Some (length notes + 1)) None room);
         after = rw (front, tail) (image_splice note_width (length buf) (n + 1) notes note [] (omega (arith, F.count)) ∙ ap (image note_width (length buf)) (sym (pick_true (notes ++ (note ∷ [])) notes room)));
       }
 
--- after Done the buffer holds the diagnostics with the new one last
+-- after Some the buffer holds the diagnostics with the new one last
 pub pushed_filled : (notes : List Row) (n : ℕ) (buf : List ℕ) → Filled note_width notes n buf → (note : Row) → length note ≡ note_width → (m : ℕ) (after : List ℕ)
-    → Pushed note notes (length buf) (Done m) after → Filled note_width (notes ++ (note ∷ [])) m after
+    → Pushed note notes (length buf) (Some m) after → Filled note_width (notes ++ (note ∷ [])) m after
 pushed_filled notes n buf F note w m after P = go (More (length buf) notes) refl
   where
     go : (t : Bool) → More (length buf) notes ≡ t → Filled note_width (notes ++ (note ∷ [])) m after
@@ -258,41 +256,41 @@ pushed_filled notes n buf F note w m after P = go (More (length buf) notes) refl
         let h : (length notes + 1) * note_width ≤ length buf = leb-true ((length notes + 1) * note_width) (length buf) r in
         let l : length (notes ++ (note ∷ [])) ≡ length notes + 1 = length-append notes (note ∷ []) in
         let a : after ≡ image note_width (length buf) (notes ++ (note ∷ [])) = P.after ∙ ap (image note_width (length buf)) (pick_true (notes ++ (note ∷ [])) notes r) in
-        let m_is : Done m ≡ Done (length notes + 1) = P.answer ∙ pick_true (Done (length notes + 1)) Full r in
+        let m_is : Some m ≡ Some (length notes + 1) = P.answer ∙ pick_true (Some (length notes + 1)) None r in
         let m_is' : m ≡ length (notes ++ (note ∷ [])) = cc in
         rw (a, m_is') (filled_image note_width (length buf) (notes ++ (note ∷ [])) (wide_snoc note_width notes note F.wide w) (omega arith))
     go false r =
-        let m_is : Done m ≡ Full = P.answer ∙ pick_false (Done (length notes + 1)) Full r in
+        let m_is : Some m ≡ None = P.answer ∙ pick_false (Some (length notes + 1)) None r in
         let z : ◌≡◌ {A = ℕ} 0 1 = cc in
         absurd (omega arith)
 
 -- ---- an answer tells whether there was room
 
-done≢full : {A : Type 0} (m : ℕ) → Done m ≡ Full → A
+done≢full : {A : Type 0} (m : ℕ) → Some m ≡ None → A
 done≢full m e =
     let z : ◌≡◌ {A = ℕ} 0 1 = cc in
     absurd (omega arith)
 
 -- the answer of a change that fits, of one that doesn't
-pub picked_done : (t : Bool) (m k : ℕ) → Done m ≡ pick t (Done k) Full → (t ≡ true) × (m ≡ k)
+pub picked_done : (t : Bool) (m k : ℕ) → Some m ≡ pick t (Some k) None → (t ≡ true) × (m ≡ k)
 picked_done true m k e = (refl, cc)
 picked_done false m k e = done≢full m e
 
--- Full is answered only where the test failed
-pub picked_full : (t : Bool) (k : ℕ) → Full ≡ pick t (Done k) Full → t ≡ false
+-- None is answered only where the test failed
+pub picked_full : (t : Bool) (k : ℕ) → None ≡ pick t (Some k) None → t ≡ false
 picked_full true k e = done≢full k (sym e)
 picked_full false k e = refl
 
--- Full: the row had no room
-pub room_full : (n : ℕ) (row : Row) (rows : List Row) (after : List ℕ) → Inserted row rows n Full after → Room n rows row ≡ false
+-- None: the row had no room
+pub room_full : (n : ℕ) (row : Row) (rows : List Row) (after : List ℕ) → Inserted row rows n None after → Room n rows row ≡ false
 room_full n row rows after I = picked_full (Room n rows row) (length (insert row rows)) I.answer
 
--- Done: the diagnostic had room
-pub more_done : (n : ℕ) (row : Row) (rows : List Row) (m : ℕ) (after : List ℕ) → Pushed row rows n (Done m) after → More n rows ≡ true
+-- Some: the diagnostic had room
+pub more_done : (n : ℕ) (row : Row) (rows : List Row) (m : ℕ) (after : List ℕ) → Pushed row rows n (Some m) after → More n rows ≡ true
 more_done n row rows m after P = (picked_done (More n rows) m (length rows + 1) P.answer).0
 
--- Full: the diagnostic had no room
-pub more_full : (n : ℕ) (row : Row) (rows : List Row) (after : List ℕ) → Pushed row rows n Full after → More n rows ≡ false
+-- None: the diagnostic had no room
+pub more_full : (n : ℕ) (row : Row) (rows : List Row) (after : List ℕ) → Pushed row rows n None after → More n rows ≡ false
 more_full n row rows after P = picked_full (More n rows) (length rows + 1) P.answer
 
 -- ---- no rows

@@ -1,7 +1,8 @@
--- Texts written one after the other: two texts written in turn are one text written (`then`), and the loops that write parts and decimal
--- digits come down to it.
+-- Texts written one after the other: two texts written in turn are one text written (`then`), and writing a part or decimal digits comes
+-- down to it.
 use Rattle.std.specs.Prelude.{ℕ, zero, suc, ◌+◌, ◌-◌, ◌*◌, ◌/◌, ◌%◌, ◌^◌, ◌≤◌, ◌<◌, min, ◌≡◌, refl, Bool, true, false, List, [], ◌∷◌, ◌++◌, ltb, leb, length, take, drop, get_or, set, replicate}
-use Rattle.std.proofs.Common.{pow-suc, div-one, add-one, arith, sym, ap, ◌∙◌, length-append, length-drop, take-append-drop, get_or-append-add, take-suc, get_or-drop, take_all, take-take, length-take-le}
+use Rattle.std.proofs.Common.{pow-suc, div-one, add-one, arith, sym, ap, ◌∙◌, length-append, length-drop, take-append-drop, get_or-append-add, take-suc, get_or-drop, append_assoc, append-nil, take_all, take-take, length-take-le}
+use mathlib.Core.List.{flat_map}
 use borrow.Author.Tests.{le-ltb, lt-ltb, lt-leb}
 use Rattle.std.proofs.Math.ListN.{get_or-append}
 use Rattle.std.proofs.lemmas.List.Edits.{sets, sets-eq}
@@ -56,6 +57,29 @@ moved e p = rw e at p
 -- the same place, the text under another name
 pub same : {s t b c : List ℕ} {i j : ℕ} → s ≡ t → Wrote s b c i j → Wrote t b c i j
 same e p = rw e at p
+
+-- ---- items one after the other: what each stands for, in turn
+
+module _ {A : Type 0} (f : A → List ℕ) where
+  flat_map_snoc : (xs : List A) (x : A) → flat_map f (xs ++ (x ∷ [])) ≡ flat_map f xs ++ f x
+  unfolding flat_map
+  flat_map_snoc [] x = append-nil (f x)
+  flat_map_snoc (y ∷ ys) x = ap (λ r. f y ++ r) (flat_map_snoc ys x) ∙ sym (append_assoc (f y) (flat_map f ys) (f x))
+
+  -- none is written
+  pub items_none : {b : List ℕ} {at : ℕ} (xs : List A) → Wrote (flat_map f (take 0 xs)) b b at at
+  unfolding flat_map
+  items_none xs = nothing
+
+  -- one more
+  pub items_more : {a b c : List ℕ} {i j k : ℕ} (xs : List A) (n : ℕ) (d : A) → n < length xs → Wrote (flat_map f (take n xs)) a b i j → Wrote (f (get_or xs n d)) b c j k → Wrote (flat_map f (take (n + 1) xs)) a c i k
+  items_more xs n d h p q = same (sym (rw (add-one n, take-suc xs n d h) (flat_map_snoc (take n xs) (get_or xs n d)))) (then p q)
+
+  -- all are
+  pub items_all : {a b : List ℕ} {i j : ℕ} (xs : List A) (n : ℕ) → length xs ≤ n → Wrote (flat_map f (take n xs)) a b i j → Wrote (flat_map f xs) a b i j
+  items_all xs n h p = same (ap (flat_map f) (take_all n xs h)) p
+
+-- ---- a part
 
 -- a part that ends at the end of the whole
 pub cut : (s : List ℕ) (from to n : ℕ) → n ≡ min to (length s) → take (n - from) (drop from s) ≡ take (to - from) (drop from s)

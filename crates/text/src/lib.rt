@@ -1,10 +1,11 @@
 // Writes text into a lent buffer, as much as fits. A writer's state is one place in it; a place past the end says that not all fitted.
+// By hand and no `Display`: the text goes into lent bytes, without a heap, as much as fits, and its place is counted.
 #![tactic(auto)]
 
-ghost use Rattle.std.specs.Prelude.{◌≡◌, [], ◌∷◌, ◌+◌, ◌-◌, ◌≤◌, ◌<◌, min, length, take, drop, replicate, leb};
+ghost use Rattle.std.specs.Prelude.{◌≡◌, [], ◌∷◌, ◌+◌, ◌-◌, ◌≤◌, ◌<◌, length, take, drop, replicate, leb};
 ghost use Rattle.std.proofs.lemmas.List.Edits.{sets};
 ghost use Rattle.words.specs.Word.{pick};
-ghost use Rattle.text.specs.Text.{digit as digit_of, hex8, pair, hex_pairs, decimal};
+ghost use Rattle.text.specs.Text.{digit as digit_of, hex8, pair, decimal};
 ghost use Rattle.text.specs.Wrote.{Wrote};
 
 pub fn put_byte(out: &mut [u8], at: usize, b: u8) -> usize
@@ -17,43 +18,26 @@ pub fn put_byte(out: &mut [u8], at: usize, b: u8) -> usize
     out.len() + 1
 }
 
-// The lesser of two.
-pub fn less(a: usize, b: usize) -> usize
-    ensures { result ≡ min a b }
-{
-    if a < b { a } else { b }
-}
-
-// n bytes of s from `from` on: a loop without tests, which the compiler turns into wide moves.
+// n bytes of s from `from` on. (The library's `copy_from_slice`, under the promise that the laws of writing cite.)
 pub fn copy(out: &mut [u8], at: usize, s: &[u8], from: usize, n: usize)
     requires { (at + n ≤ length out.old) × (from + n ≤ length s.now) }
     ensures { out.new ≡ sets out.old at (take n (drop from s.now)) }
 {
-    let mut i = 0;
-    while i < n {
-        out[at + i] = s[from + i];
-        i += 1;
-    }
+    out[at..at + n].copy_from_slice(&s[from..from + n]);
 }
 
 // The bytes of s from `from` up to `to`, or to its end.
 pub fn put_part(out: &mut [u8], at: usize, s: &[u8], from: usize, to: usize) -> usize
     ensures { Wrote (take (to - from) (drop from s.now)) out.old out.new at result }
 {
-    let end = less(to, s.len());
-    if end < from {
-        return at;
-    }
-    if out.len() < at {
+    let end = to.min(s.len());
+    if end < from || out.len() < at {
         return at;
     }
     let size = end - from;
-    let n = less(size, out.len() - at);
+    let n = size.min(out.len() - at);
     copy(out, at, s, from, n);
-    if n < size {
-        return out.len() + 1;
-    }
-    at + n
+    if n < size { out.len() + 1 } else { at + n }
 }
 
 pub fn put_bytes(out: &mut [u8], at: usize, s: &[u8]) -> usize
@@ -67,39 +51,14 @@ fn digit(n: u32) -> u8
     ensures { result ≡ digit_of n }
 {
     if n < 10 {
-        (48 + n) as u8
+        b'0' + n as u8
     } else {
-        (87 + n) as u8
+        b'a' + (n - 10) as u8
     }
 }
 
-// A blank, and a word as eight hexadecimal digits.
-fn blank_and_digits(w: u32) -> [u8; 9]
-    ensures { result ≡ 32 ∷ hex8 w }
-{
-    [
-        b' ',
-        digit(w / 0x1000_0000 % 16),
-        digit(w / 0x100_0000 % 16),
-        digit(w / 0x10_0000 % 16),
-        digit(w / 0x1_0000 % 16),
-        digit(w / 0x1000 % 16),
-        digit(w / 0x100 % 16),
-        digit(w / 16 % 16),
-        digit(w % 16),
-    ]
-}
-
-// A word after a blank.
-pub fn put_word(out: &mut [u8], at: usize, w: u32) -> usize
-    ensures { Wrote (32 ∷ hex8 w) out.old out.new at result }
-{
-    let d = blank_and_digits(w);
-    put_bytes(out, at, &d)
-}
-
 // The two digits of each byte, one byte after the other.
-const PAIRS: [u8; 512] = *b"\
+static PAIRS: [u8; 512] = *b"\
 000102030405060708090a0b0c0d0e0f101112131415161718191a1b1c1d1e1f\
 202122232425262728292a2b2c2d2e2f303132333435363738393a3b3c3d3e3f\
 404142434445464748494a4b4c4d4e4f505152535455565758595a5b5c5d5e5f\
@@ -109,34 +68,39 @@ a0a1a2a3a4a5a6a7a8a9aaabacadaeafb0b1b2b3b4b5b6b7b8b9babbbcbdbebf\
 c0c1c2c3c4c5c6c7c8c9cacbcccdcecfd0d1d2d3d4d5d6d7d8d9dadbdcdddedf\
 e0e1e2e3e4e5e6e7e8e9eaebecedeeeff0f1f2f3f4f5f6f7f8f9fafbfcfdfeff";
 
-// They are made once for many words: a constant is stored anew wherever it is used.
-pub fn hex_pairs() -> [u8; 512]
-    ensures { result ≡ hex_pairs 256 }
-{
-    PAIRS
-}
-
-fn lay_pair(out: &mut [u8], at: usize, pairs: &[u8], b: u32)
-    requires { (at + 2 ≤ length out.old) × (b < 256) × (pairs.now ≡ hex_pairs 256) }
+fn lay_pair(out: &mut [u8], at: usize, b: u8)
+    requires { at + 2 ≤ length out.old }
     ensures { out.new ≡ sets out.old at (pair b) }
 {
-    let k = 2 * b as usize;
-    let high = pairs[k];
-    let low = pairs[k + 1];
-    out[at] = high;
-    out[at + 1] = low;
+    let k = 2 * usize::from(b);
+    out[at] = PAIRS[k];
+    out[at + 1] = PAIRS[k + 1];
 }
 
-// A word after a blank, where there is room for it.
-pub fn lay_word(out: &mut [u8], at: usize, pairs: &[u8], w: u32)
-    requires { (at + 9 ≤ length out.old) × (pairs.now ≡ hex_pairs 256) }
+// A word as eight hexadecimal digits after a blank, where there is room for it.
+pub fn lay_word(out: &mut [u8], at: usize, w: u32)
+    requires { at + 9 ≤ length out.old }
     ensures { Wrote (32 ∷ hex8 w) out.old out.new at (at + 9) }
 {
+    let [first, second, third, last] = w.to_be_bytes();
     out[at] = b' ';
-    lay_pair(out, at + 1, pairs, w / 0x100_0000);
-    lay_pair(out, at + 3, pairs, w / 0x1_0000 % 256);
-    lay_pair(out, at + 5, pairs, w / 0x100 % 256);
-    lay_pair(out, at + 7, pairs, w % 256);
+    lay_pair(out, at + 1, first);
+    lay_pair(out, at + 3, second);
+    lay_pair(out, at + 5, third);
+    lay_pair(out, at + 7, last);
+}
+
+// The same, as much as fits. Most words fit, and are laid without a second copy.
+pub fn put_word(out: &mut [u8], at: usize, w: u32) -> usize
+    ensures { Wrote (32 ∷ hex8 w) out.old out.new at result }
+{
+    if at < out.len() && 9 <= out.len() - at {
+        lay_word(out, at, w);
+        return at + 9;
+    }
+    let mut word = [0; 9];
+    lay_word(&mut word, 0, w);
+    put_bytes(out, at, &word)
 }
 
 pub fn put_decimal(out: &mut [u8], at: usize, n: u32) -> usize
@@ -156,10 +120,6 @@ pub fn finish(out: &mut [u8], at: usize) -> usize
     if at <= out.len() {
         return at;
     }
-    let mut i = 0;
-    while i < out.len() {
-        out[i] = 0;
-        i += 1;
-    }
+    out.fill(0);
     0
 }

@@ -8,20 +8,23 @@ use lib.ListN.{length, get_or, get_or-map}
 use Rattle.words.specs.Word.{pay_of}
 use Rattle.expr.specs.Got.{Got, got, wrong, deep, bind}
 use Rattle.expr.specs.Reader.{leaf_at, name_at, exprs_at, list_at, body_at, expr_at}
-use Rattle.expr.specs.Answer.{step_of, then}
+use Rattle.expr.specs.Answer.{step_of, then, Step}
 use Rattle.expr.specs.declared.Cursor.{Cursor}
-use Rattle.expr.specs.declared.Step.{Step}
-use Rattle.expr.specs.declared.Step.TheVariants.{Read, Wrong, Deep}
 use Rattle.expr.proofs.Laws.{name_got}
 use Rattle.expr.proofs.Steps.{step_map, read, on, leaf_read, exprs_none, exprs_more, body_18, body_19, body_20, body_22, body_23}
 use Rattle.tree.specs.Sorts.{Sort, expr, stmt, many, group, opt, Sorts, nil, ◌&◌}
 use Rattle.tree.specs.Tree.{strings}
 use Rattle.tree.specs.Codes.{part_codes, stmt_codes, codes, pack, parts, all_rows, row_of, sort_at, unpack, sorts_of, unpacked}
 use Rattle.tree.specs.Reader.{word_at, rows_at, field_at, row_at, stmt_at, program_at}
-use Rattle.tree.specs.Frames.{Into, told_of, rest_of, again_of, field_step, frame_at, Goes, past, into, refused, deep as low, Turned, same}
+use Rattle.tree.specs.Frames.{Look, told_of, rest_of, again_of, field_step, frame_at, Goes, past, into, failed, Turned, same}
+use Rattle.std.specs.Result.{IsErrAnd}
+use Rattle.std.proofs.lemmas.Result.{err_from_is_err_and}
+use Rattle.expr.specs.declared.Misread.{Misread}
 use Rattle.tree.specs.declared.Frame.{Frame}
-use Rattle.tree.specs.declared.Turn.{Turn}
+use Rattle.tree.specs.declared.Turn.TheVariants.{Into}
 use Rattle.tree.proofs.Steps.{then_read, is_own, row_more, row_one, rows_none, rows_more, expr_arm, leaf_arm, stmt_arm, many_go}
+use Rattle.std.specs.Prelude.{Ok, Err}
+use Rattle.expr.specs.declared.Misread.TheVariants.{Wrong, Deep}
 
 -- ---- fields in one number
 
@@ -56,19 +59,19 @@ sorts_packed r = sym (get_or-map (λ (l : List ℕ). sorts_of (pack l)) (part_co
 -- three answers in turn, taken together either way
 pub then_then : (s : Step) (f g : ℕ → Step) → then (then s f) g ≡ then s (λ m. then (f m) g)
 unfolding then
-then_then (Read c) f g = refl
-then_then (Wrong p) f g = refl
-then_then (Deep p) f g = refl
+then_then (Ok c) f g = refl
+then_then (Err (Wrong p)) f g = refl
+then_then (Err (Deep p)) f g = refl
 
 -- what follows may be replaced where it answers the same
 pub then_same : (s : Step) (f g : ℕ → Step) → ((m : ℕ) → f m ≡ g m) → then s f ≡ then s g
 unfolding then
-then_same (Read c) f g h = h c.at
-then_same (Wrong p) f g h = refl
-then_same (Deep p) f g h = refl
+then_same (Ok c) f g h = h c.at
+then_same (Err (Wrong p)) f g h = refl
+then_same (Err (Deep p)) f g h = refl
 
 -- where the second reads nothing
-pub then_none : (s : Step) (f : ℕ → Step) → ((m : ℕ) → f m ≡ Read (record { at = m })) → then s f ≡ s
+pub then_none : (s : Step) (f : ℕ → Step) → ((m : ℕ) → f m ≡ Ok (record { at = m })) → then s f ≡ s
 then_none s f h = then_same s f _ h ∙ then_read s
 
 bind_same : {A B C : Type 0} (p : Got A) (k : A → ℕ → Got B) (k' : A → ℕ → Got C) → ((a : A) (m : ℕ) → step_of (k a m) ≡ step_of (k' a m)) → step_of (bind p k) ≡ step_of (bind p k')
@@ -91,7 +94,7 @@ module _ (ws ns : List ℕ) (n : ℕ) where
   frame_rows f at z = ap (λ (ss : Sorts). then (row_step f.left ss at) (λ m. rows_step f.left f.row f.times m)) (sorts_none z)
 
   -- no field and no row is left: nothing is read
-  pub frame_end : (f : Frame) (at : ℕ) → f.fields ≡ 0 → f.times ≡ 0 → frame_at ws ns n f at ≡ Read (record { at = at })
+  pub frame_end : (f : Frame) (at : ℕ) → f.fields ≡ 0 → f.times ≡ 0 → frame_at ws ns n f at ≡ Ok (record { at = at })
   frame_end f at z e = frame_rows f at z ∙ rows_none ws ns n _ f.times (record { at = at }) (omega arith)
 
   -- no field is left but a row is: its fields are next
@@ -184,61 +187,60 @@ module _ (ws ns : List ℕ) (n : ℕ) where
   -- ---- turns
 
   -- the turn that an answer is tells this answer
-  pub told_goes : {at : ℕ} (s : Step) {S : Step} {t : Turn} → s ≡ S → t ≡ told_of s → Goes ws ns n at S t
+  pub told_goes : {at : ℕ} (s : Step) {S : Step} {t : Look} → s ≡ S → t ≡ told_of s → Goes ws ns n at S t
   unfolding told_of
-  told_goes {at} (Read c) {S} e q = subst (λ (x : Turn). Goes ws ns n at S x) (sym q) (past (sym e))
-  told_goes {at} (Wrong p) {S} e q = subst (λ (x : Turn). Goes ws ns n at S x) (sym q) (refused (sym e))
-  told_goes {at} (Deep p) {S} e q = subst (λ (x : Turn). Goes ws ns n at S x) (sym q) (low (sym e))
+  told_goes {at} (Ok c) {S} e q = subst (λ (x : Look). Goes ws ns n at S x) (sym q) (past (sym e))
+  told_goes {at} (Err m) {S} e q = subst (λ (x : Look). Goes ws ns n at S x) (sym q) (failed (sym e))
 
-  -- by what a function answers
-  pub goes_by : {at : ℕ} {s : Step} {t u : Turn} → t ≡ u → Goes ws ns n at s u → Goes ws ns n at s t
-  goes_by {at} {s} e h = subst (λ (x : Turn). Goes ws ns n at s x) (sym e) h
+  -- a failure that a `?` hands on
+  pub failed_goes : {at : ℕ} {S : Step} {r : Look} {m : Misread} → S ≡ Err m → IsErrAnd r (λ x. x ≡ m) → Goes ws ns n at S r
+  failed_goes {at} {S} {r} e h =
+      let p = err_from_is_err_and r h in
+      subst (λ (x : Look). Goes ws ns n at S x) (sym p.1) (failed (e ∙ ap Err (sym p.2)))
 
   -- an answer that goes on, where the one before it stopped at a place
-  pub goes_same : {at : ℕ} {s S : Step} {t : Turn} → S ≡ s → Goes ws ns n at s t → Goes ws ns n at S t
+  pub goes_same : {at : ℕ} {s S : Step} {t : Look} → S ≡ s → Goes ws ns n at s t → Goes ws ns n at S t
   goes_same e (past q) = past (e ∙ q)
   goes_same e (into q a b c d) = into (e ∙ q) a b c d
-  goes_same e (refused q) = refused (e ∙ q)
-  goes_same e (low q) = low (e ∙ q)
+  goes_same e (failed q) = failed (e ∙ q)
 
   -- from a place before
-  pub goes_before : {at m : ℕ} {s : Step} {t : Turn} → at ≤ m → Goes ws ns n m s t → Goes ws ns n at s t
+  pub goes_before : {at m : ℕ} {s : Step} {t : Look} → at ≤ m → Goes ws ns n m s t → Goes ws ns n at s t
   goes_before h (past q) = past q
   goes_before h (into q a b c d) = into q (omega arith) b c d
-  goes_before h (refused q) = refused q
-  goes_before h (low q) = low q
+  goes_before h (failed q) = failed q
 
   -- one row behind a word
-  pub row_goes : {f : Frame} {r left at m : ℕ} {s : Step} → f ≡ record { fields = 0; row = r; times = 1; left = left } → s ≡ row_step left (row_of r) m → at < m → m ≤ length ws → Goes ws ns n at s (Into m f)
-  row_goes {f} {r} {left} {at} {m} {s} q e a b = subst (λ (x : Frame). Goes ws ns n at s (Into m x)) (sym q) (into (e ∙ sym (frame_row r left m)) a b (omega arith) (omega arith))
+  pub row_goes : {f : Frame} {r left at : ℕ} {c : Cursor} {s : Step} → f ≡ record { fields = 0; row = r; times = 1; left = left } → s ≡ row_step left (row_of r) c.at → at < c.at → c.at ≤ length ws → Goes ws ns n at s (Ok (Into c f))
+  row_goes {f} {r} {left} {at} {c} {s} q e a b = subst (λ (x : Frame). Goes ws ns n at s (Ok (Into c x))) (sym q) (into (e ∙ sym (frame_row r left c.at)) a b (omega arith) (omega arith))
 
-  -- an expression behind a word
-  pub expr_goes : {f : Frame} {left at m : ℕ} {s : Step} → f ≡ record { fields = 9; row = 0; times = 0; left = left } → s ≡ step_of (expr_at ws (strings ns n) left m) → at < m → m ≤ length ws → Goes ws ns n at s (Into m f)
-  expr_goes {f} {left} {at} {m} {s} q e a b = subst (λ (x : Frame). Goes ws ns n at s (Into m x)) (sym q) (into (e ∙ sym (frame_9 left m)) a b (omega arith) (omega arith))
+  -- fields behind a word
+  pub fields_go : {f : Frame} {k left at : ℕ} {c : Cursor} {s : Step} → f ≡ record { fields = k; row = 0; times = 0; left = left } → s ≡ frame_at ws ns n (record { fields = k; row = 0; times = 0; left = left }) c.at → at < c.at → c.at ≤ length ws → k < 4096 → Goes ws ns n at s (Ok (Into c f))
+  fields_go {f} {k} {left} {at} {c} {s} q e a b l = subst (λ (x : Frame). Goes ws ns n at s (Ok (Into c x))) (sym q) (into e a b l (omega arith))
 
   -- one row at the same place
-  pub row_same : {f : Frame} {r left at : ℕ} {s : Sort} → f ≡ record { fields = 0; row = r; times = 1; left = left } → (s ≡ opt (row_of r)) ⊎ (s ≡ group (row_of r)) → field_step ws ns n left s at ≡ row_step left (row_of r) at → Turned ws ns n left at s (Into at f)
-  row_same {f} {r} {left} {at} {s} q k e = subst (λ (x : Frame). Turned ws ns n left at s (Into at x)) (sym q) (same k (e ∙ sym (frame_row r left at)))
+  pub row_same : {f : Frame} {r left at : ℕ} {s : Sort} → f ≡ record { fields = 0; row = r; times = 1; left = left } → (s ≡ opt (row_of r)) ⊎ (s ≡ group (row_of r)) → field_step ws ns n left s at ≡ row_step left (row_of r) at → Turned ws ns n left at s (Ok (Into (record { at = at }) f))
+  row_same {f} {r} {left} {at} {s} q k e = subst (λ (x : Frame). Turned ws ns n left at s (Ok (Into (record { at = at }) x))) (sym q) (same k (e ∙ sym (frame_row r left at)))
 
   -- a field whose number is k
-  pub look_arm : (k : ℕ) {s : Sort} {left at : ℕ} {t : Turn} → sort_at k ≡ s → Turned ws ns n left at s t → Turned ws ns n left at (sort_at k) t
+  pub look_arm : (k : ℕ) {s : Sort} {left at : ℕ} {t : Look} → sort_at k ≡ s → Turned ws ns n left at s t → Turned ws ns n left at (sort_at k) t
   look_arm k {s} {left} {at} {t} q h = subst (λ (x : Sort). Turned ws ns n left at x t) (sym q) h
 
   -- a list's head
-  pub list_goes : (row left at : ℕ) {s : Step} {c : Cursor} → s ≡ step_of (leaf_at ws 1 16777216 at) → s ≡ Read c → Goes ws ns n at (field_step ws ns n left (many (row_of row)) at) (Into c.at (record { fields = 0; row = row; times = pay_of (get_or ws at 0); left = left }))
+  pub list_goes : (row left at : ℕ) {s : Step} {c : Cursor} → s ≡ step_of (leaf_at ws 1 16777216 at) → s ≡ Ok c → Goes ws ns n at (field_step ws ns n left (many (row_of row)) at) (Ok (Into c (record { fields = 0; row = row; times = pay_of (get_or ws at 0); left = left })))
   list_goes row left at e q =
       let h = leaf_read e q in
       into (sym (many_go ws ns n _ _ (row_of row) at e q refl) ∙ sym (frame_rows (record { fields = 0; row = row; times = pay_of (get_or ws at 0); left = left }) _ refl)) (omega (arith, h.to)) (omega (arith, h.inside, h.to)) (omega arith) (omega arith)
 
   -- a name, then a list of expressions
-  pub call_goes : (left at : ℕ) {s : Step} {c : Cursor} {t : Turn} → s ≡ step_of (name_at ws ns at) → s ≡ Read c → Goes ws ns n c.at (field_step ws ns n left (many (row_of 0)) c.at) t → Goes ws ns n at (then (step_of (name_at ws ns at)) (λ m. step_of (list_at ws (strings ns n) (expr_at ws (strings ns n) left) m))) t
+  pub call_goes : (left at : ℕ) {s : Step} {c : Cursor} {t : Look} → s ≡ step_of (name_at ws ns at) → s ≡ Ok c → Goes ws ns n c.at (field_step ws ns n left (many (row_of 0)) c.at) t → Goes ws ns n at (then (step_of (name_at ws ns at)) (λ m. step_of (list_at ws (strings ns n) (expr_at ws (strings ns n) left) m))) t
   call_goes left at {s} {c} e q h =
       let v = read (name_at ws ns at) e q in
       goes_before (omega (arith, (name_got v.1).to)) (goes_same (sym (on _ e q (sym (list_is left c.at)))) h)
 
   -- ---- what follows an expression's head of the kind k
 
-  module _ (left k m : ℕ) {t : Turn} where
+  module _ (left k m : ℕ) {t : Look} where
     -- an element or a call: a name and a list
     pub call_body : (k ≡ 18) ⊎ (k ≡ 21) → Goes ws ns n m (then (step_of (name_at ws ns m)) (λ m'. step_of (list_at ws (strings ns n) (expr_at ws (strings ns n) left) m'))) t → Goes ws ns n m (step_of (body_at ws (strings ns n) (expr_at ws (strings ns n) left) k m)) t
     call_body e h = goes_same (sym (body_18 ws (strings ns n) _ k m e refl)) h
@@ -252,12 +254,12 @@ module _ (ws ns : List ℕ) (n : ℕ) where
     binary_body e h = goes_same (sym (body_20 ws (strings ns n) _ k m e refl) ∙ then_same _ _ _ (λ m'. sym (frame_99 left m'))) h
 
   -- a field: the fields 9 and 1
-  pub field_body : (left k m : ℕ) {at : ℕ} → k ≡ 22 → at < m → m ≤ length ws → Goes ws ns n at (step_of (body_at ws (strings ns n) (expr_at ws (strings ns n) left) k m)) (Into m (record { fields = 265; row = 0; times = 0; left = left }))
-  field_body left k m e a b = into (sym (body_22 ws (strings ns n) _ k m e refl) ∙ sym (frame_91 left m)) a b (omega arith) (omega arith)
+  pub field_body : (left k : ℕ) {at : ℕ} {c : Cursor} {f : Frame} → k ≡ 22 → f ≡ record { fields = 265; row = 0; times = 0; left = left } → at < c.at → c.at ≤ length ws → Goes ws ns n at (step_of (body_at ws (strings ns n) (expr_at ws (strings ns n) left) k c.at)) (Ok (Into c f))
+  field_body left k {at} {c} e q a b = fields_go q (sym (body_22 ws (strings ns n) _ k c.at e refl) ∙ sym (frame_91 left c.at)) a b (omega arith)
 
   -- parentheses: the field 9
-  pub paren_body : (left k m : ℕ) {at : ℕ} → k ≡ 23 → at < m → m ≤ length ws → Goes ws ns n at (step_of (body_at ws (strings ns n) (expr_at ws (strings ns n) left) k m)) (Into m (record { fields = 9; row = 0; times = 0; left = left }))
-  paren_body left k m e a b = into (sym (body_23 ws (strings ns n) _ k m e refl) ∙ sym (frame_9 left m)) a b (omega arith) (omega arith)
+  pub paren_body : (left k : ℕ) {at : ℕ} {c : Cursor} {f : Frame} → k ≡ 23 → f ≡ record { fields = 9; row = 0; times = 0; left = left } → at < c.at → c.at ≤ length ws → Goes ws ns n at (step_of (body_at ws (strings ns n) (expr_at ws (strings ns n) left) k c.at)) (Ok (Into c f))
+  paren_body left k {at} {c} e q a b = fields_go q (sym (body_23 ws (strings ns n) _ k c.at e refl) ∙ sym (frame_9 left c.at)) a b (omega arith)
 
 -- ---- the three that are asked from outside
 

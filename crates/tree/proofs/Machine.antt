@@ -9,19 +9,20 @@ use native.Mathlib.Omega.{arith}
 use lib.ListN.{length, get_or, set}
 use lib.Seq.{get_or-set_same, get_or-set_other}
 use lib.Dec.{ltb, eqb}
-use Rattle.words.specs.Word.{pick}
-use borrow.Author.Tests.{lt-ltb, ltb-true, ltb-false, eq-eqb, ne_eqb}
-use Rattle.expr.specs.Answer.{then}
-use Rattle.expr.specs.declared.Step.{Step}
-use Rattle.expr.specs.declared.Step.TheVariants.{Read, Wrong, Deep}
+use borrow.Author.Tests.{lt-ltb, ltb-true, ltb-false}
+use Rattle.expr.specs.Answer.{then, Step}
 use Rattle.tree.specs.Sorts.{Sort, never, group, opt}
 use Rattle.tree.specs.Codes.{codes, pack, row_of, singles, sort_at, unpack, sorts_of}
-use Rattle.tree.specs.Frames.{failed_of, told_of, rest_of, again_of, height, Opens, over, more, field_step, frame_at, past, into, refused, deep as low, Turned, goes, same}
+use Rattle.tree.specs.Frames.{Look, rest_of, again_of, height, Opens, over, more, field_step, frame_at, past, into, failed, Turned, goes, same}
 use Rattle.tree.specs.declared.Frame.{Frame}
-use Rattle.tree.specs.declared.Turn.{Turn}
+use Rattle.tree.specs.declared.Turn.TheVariants.{Past, Into}
+use Rattle.expr.specs.declared.Cursor.{Cursor}
+use Rattle.expr.specs.declared.Misread.{Misread}
 use Rattle.tree.proofs.Steps.{then_read, size_s, size_r, size_none, size_pos, size_cons, size_many, size_group, size_opt, small_row, sort_opt, sort_many, sort_group}
 use Rattle.tree.proofs.Sound.{field_after}
 use Rattle.tree.proofs.Frames.{sorts_next, sorts_none, sorts_packed, then_then, then_same, frame_end, frame_again, frame_next}
+use Rattle.std.specs.Prelude.{Ok, Err}
+use Rattle.expr.specs.declared.Misread.TheVariants.{Wrong, Deep}
 
 -- ---- sizes
 
@@ -114,71 +115,52 @@ total_same g h (suc i) e = let q : size_f (g i) ≡ size_f (h i) = ap size_f (e 
 
 -- ---- what a turn says, by its kind
 
--- 0: the field is read, up to the turn's place
-pub past_is : {ws ns : List ℕ} {n left at : ℕ} {s : Sort} {t : Turn} → t.kind ≡ 0 → Turned ws ns n left at s t → field_step ws ns n left s at ≡ Read (record { at = t.at })
-past_is k (goes (past e)) = e
-past_is k (goes (into e a b c d)) = absurd (omega arith)
-past_is k (goes (refused e)) = absurd (omega arith)
-past_is k (goes (low e)) = absurd (omega arith)
-past_is k (same r e) = absurd (omega arith)
+-- two turns that are the same enter the same frame at the same place
+weighs : (ws : List ℕ) (b : ℕ) {c d : Cursor} {f g : Frame} → ◌≡◌ {A = Look} (Ok (Into c f)) (Ok (Into d g)) → (length ws - c.at) * 1099511627776 + size_f f ≤ b → (length ws - d.at) * 1099511627776 + size_f g ≤ b
+weighs ws b {c} {d} {f} {g} e h =
+    let p : d ≡ c = cc in
+    let q : g ≡ f = cc in
+    rw (p, q) h
 
--- 1: what the field answers is what its frame answers from the turn's place on
-pub into_is : {ws ns : List ℕ} {n left at : ℕ} {s : Sort} {t : Turn} → t.kind ≡ 1 → Turned ws ns n left at s t → field_step ws ns n left s at ≡ frame_at ws ns n t.frame t.at
-into_is k (goes (past e)) = absurd (omega arith)
-into_is k (goes (into e a b c d)) = e
-into_is k (goes (refused e)) = absurd (omega arith)
-into_is k (goes (low e)) = absurd (omega arith)
-into_is k (same r e) = e
+answers : (ws ns : List ℕ) (n : ℕ) {c d : Cursor} {f g : Frame} → ◌≡◌ {A = Look} (Ok (Into c f)) (Ok (Into d g)) → frame_at ws ns n f c.at ≡ frame_at ws ns n g d.at
+answers ws ns n {c} {d} {f} {g} e =
+    let p : d ≡ c = cc in
+    let q : g ≡ f = cc in
+    rw (p, q) refl
 
--- 1: that frame with the words after it weighs no more than the field did
-pub into_less : {ws ns : List ℕ} {n left at : ℕ} {s : Sort} {t : Turn} → t.kind ≡ 1 → Turned ws ns n left at s t → (length ws - t.at) * 1099511627776 + size_f t.frame ≤ (length ws - at) * 1099511627776 + size_s s
-into_less k (goes (past e)) = absurd (omega arith)
-into_less k (goes (into {m} {f} e a b c d)) = omega (arith, frame_small f c d)
-into_less k (goes (refused e)) = absurd (omega arith)
-into_less k (goes (low e)) = absurd (omega arith)
-into_less {left = left} {at = at} {s = s} k (same {r} q e) = omega (arith, size_same s r left q)
+-- past: the field is read, up to the turn's place
+pub past_is : {ws ns : List ℕ} {n left at : ℕ} {s : Sort} {t : Look} {c : Cursor} → t ≡ Ok (Past c) → Turned ws ns n left at s t → field_step ws ns n left s at ≡ Ok c
+past_is k (goes (past e)) = cc
+past_is k (goes (into e a b c d)) = cc
+past_is k (goes (failed e)) = cc
+past_is k (same r e) = cc
 
--- any other: the field fails as the turn says
-pub failed_is : {ws ns : List ℕ} {n left at : ℕ} {s : Sort} {t : Turn} → (t.kind ≡ 0 → ⊥) → (t.kind ≡ 1 → ⊥) → Turned ws ns n left at s t → field_step ws ns n left s at ≡ failed_of t
-unfolding failed_of
-failed_is j k (goes (past e)) = absurd (j refl)
-failed_is j k (goes (into e a b c d)) = absurd (k refl)
-failed_is j k (goes (refused e)) = e
-failed_is j k (goes (low e)) = e
-failed_is j k (same r e) = absurd (k refl)
+-- into: what the field answers is what its frame answers from the turn's place on
+pub into_is : {ws ns : List ℕ} {n left at : ℕ} {s : Sort} {t : Look} {c : Cursor} {f : Frame} → t ≡ Ok (Into c f) → Turned ws ns n left at s t → field_step ws ns n left s at ≡ frame_at ws ns n f c.at
+into_is k (goes (past e)) = absurd cc
+into_is k (goes (into e a b c d)) = e ∙ answers _ _ _ k
+into_is k (goes (failed e)) = absurd cc
+into_is k (same r e) = e ∙ answers _ _ _ k
 
--- what the turn that a call's answer is says of the answer
-pub told_past : (s : Step) {t : Turn} → t ≡ told_of s → t.kind ≡ 0 → s ≡ Read (record { at = t.at })
-unfolding told_of
-told_past (Read c) e k = ap (λ (u : Turn). Read (record { at = u.at })) (sym e)
-told_past (Wrong p) e k = absurd (omega (arith, ap (λ (u : Turn). u.kind) e))
-told_past (Deep p) e k = absurd (omega (arith, ap (λ (u : Turn). u.kind) e))
+-- that frame with the words after it weighs no more than the field did
+pub into_less : {ws ns : List ℕ} {n left at : ℕ} {s : Sort} {t : Look} {c : Cursor} {f : Frame} → t ≡ Ok (Into c f) → Turned ws ns n left at s t → (length ws - c.at) * 1099511627776 + size_f f ≤ (length ws - at) * 1099511627776 + size_s s
+into_less k (goes (past e)) = absurd cc
+into_less {ws = ws} {at = at} {s = s} k (goes (into {c} {f} e a b i j)) = weighs ws _ k (omega (arith, frame_small f i j))
+into_less k (goes (failed e)) = absurd cc
+into_less {ws = ws} {left = left} {at = at} {s = s} k (same {r} q e) = weighs ws _ k (omega (arith, size_same s r left q))
 
--- it isn't past: the answer is a failure
-pub told_failed : (s : Step) {t : Turn} → t ≡ told_of s → (t.kind ≡ 0 → ⊥) → s ≡ failed_of t
-unfolding told_of failed_of
-told_failed (Read c) e k = absurd (k (ap (λ (u : Turn). u.kind) e))
-told_failed (Wrong p) e k = ap failed_of (sym e)
-told_failed (Deep p) e k = ap failed_of (sym e)
-
--- 2 is a wrong word
-pub failed_2 : (t : Turn) → t.kind ≡ 2 → Wrong t.at ≡ failed_of t
-unfolding failed_of
-failed_2 t k = simp (eq-eqb t.kind 2 k) refl
-
--- any other is one too deep
-pub failed_3 : (t : Turn) → (t.kind ≡ 2 → ⊥) → Deep t.at ≡ failed_of t
-unfolding failed_of
-failed_3 t k = simp (ne_eqb t.kind 2 k) refl
+-- a failure: the field fails so
+pub failed_is : {ws ns : List ℕ} {n left at : ℕ} {s : Sort} {t : Look} {m : Misread} → t ≡ Err m → Turned ws ns n left at s t → field_step ws ns n left s at ≡ Err m
+failed_is k (goes (past e)) = cc
+failed_is k (goes (into e a b c d)) = cc
+failed_is k (goes (failed e)) = cc
+failed_is k (same r e) = cc
 
 -- nothing is read after it
-then_failed : (t : Turn) (f : ℕ → Step) → then (failed_of t) f ≡ failed_of t
-unfolding then failed_of
-then_failed t f = go (eqb t.kind 2)
-  where
-    go : (b : Bool) → then (pick b (Wrong t.at) (Deep t.at)) f ≡ pick b (Wrong t.at) (Deep t.at)
-    go true = refl
-    go false = refl
+then_failed : (m : Misread) (f : ℕ → Step) → then (Err m) f ≡ Err m
+unfolding then
+then_failed (Wrong p) f = refl
+then_failed (Deep p) f = refl
 
 -- ---- the stack, by its top
 
@@ -203,7 +185,7 @@ on_stack st i = get_or st i (record { fields = 0; row = 0; times = 0; left = 0 }
 module _ (ws ns : List ℕ) (n : ℕ) where
   -- what the frames below a height answer, the top one first
   unfoldable pub after : (ℕ → Frame) → ℕ → ℕ → Step
-  after g zero m = Read (record { at = m })
+  after g zero m = Ok (record { at = m })
   after g (suc i) m = then (frame_at ws ns n (g i) m) (λ m'. after g i m')
 
   after_same : (g h : ℕ → Frame) (k m : ℕ) → ((i : ℕ) → i < k → g i ≡ h i) → after g k m ≡ after h k m
@@ -247,7 +229,7 @@ module _ (ws ns : List ℕ) (n : ℕ) where
 
   module _ (g : ℕ → Frame) (sp : ℕ) (f : Frame) (at : ℕ) where
     -- nothing is left, here and on the stack: all is read
-    pub ends : f.fields ≡ 0 → f.times ≡ 0 → sp ≡ 0 → whole g sp f at ≡ Read (record { at = at })
+    pub ends : f.fields ≡ 0 → f.times ≡ 0 → sp ≡ 0 → whole g sp f at ≡ Ok (record { at = at })
     unfolding then after
     ends z e q = ap (λ (s : Step). then s (λ m. after g sp m)) (frame_end ws ns n f at z e) ∙ ap (λ (x : ℕ). after g x at) q
 
@@ -269,7 +251,7 @@ module _ (ws ns : List ℕ) (n : ℕ) where
     next_field z = ap (λ (s : Step). then s (λ m. after g sp m)) (frame_next ws ns n f at z) ∙ then_then _ _ _
 
     -- a field is read: the frame past it
-    pub goes_past : {m : ℕ} → (f.fields ≡ 0 → ⊥) → field_step ws ns n f.left (sort_at (f.fields % 256)) at ≡ Read (record { at = m }) → Next g sp f at g sp (rest_of f) m
+    pub goes_past : {m : ℕ} → (f.fields ≡ 0 → ⊥) → field_step ws ns n f.left (sort_at (f.fields % 256)) at ≡ Ok (record { at = m }) → Next g sp f at g sp (rest_of f) m
     unfolding then
     goes_past {m} z e =
         record {
@@ -278,8 +260,8 @@ module _ (ws ns : List ℕ) (n : ℕ) where
         }
 
     -- a field fails: so does the whole
-    pub stops : (t : Turn) → (f.fields ≡ 0 → ⊥) → field_step ws ns n f.left (sort_at (f.fields % 256)) at ≡ failed_of t → failed_of t ≡ whole g sp f at
-    stops t z e = sym (next_field z ∙ ap (λ (s : Step). then s (λ m. whole g sp (rest_of f) m)) e ∙ then_failed t _)
+    pub stops : {m : Misread} → (f.fields ≡ 0 → ⊥) → field_step ws ns n f.left (sort_at (f.fields % 256)) at ≡ Err m → Err m ≡ whole g sp f at
+    stops {m} z e = sym (next_field z ∙ ap (λ (s : Step). then s (λ m'. whole g sp (rest_of f) m')) e ∙ then_failed m _)
 
     -- a frame is entered: what is left of the one in hand goes onto the stack, if that is anything
     pub goes_into : (g' : ℕ → Frame) (r : Frame) (o m : ℕ) (f' : Frame) → (f.fields ≡ 0 → ⊥) → field_step ws ns n f.left (sort_at (f.fields % 256)) at ≡ frame_at ws ns n f' m → (length ws - m) * 1099511627776 + size_f f' ≤ (length ws - at) * 1099511627776 + size_s (sort_at (f.fields % 256)) → r ≡ rest_of f → Opens r o → ((i : ℕ) → i < sp → g' i ≡ g i) → g' sp ≡ r → Next g sp f at g' (sp + o) f' m
@@ -316,19 +298,15 @@ module _ (ws ns : List ℕ) (n : ℕ) where
   lighter h x = x.less
 
   -- a frame is entered: the list with the rest of the one in hand put on top
-  pub push : (st : List Frame) {sp at o : ℕ} {f r : Frame} {t : Turn} → length st ≡ height → sp < height → (f.fields ≡ 0 → ⊥) → t.kind ≡ 1 → Turned ws ns n f.left at (sort_at (f.fields % 256)) t → r ≡ rest_of f → Opens r o → Next (on_stack st) sp f at (on_stack (set st sp r)) (sp + o) t.frame t.at
-  push st {sp} {at} {o} {f} {r} {t} l h z k x q p =
-      goes_into (on_stack st) sp f at (on_stack (set st sp r)) r o t.at t.frame z (into_is k x) (into_less k x) q p
+  pub push : (st : List Frame) {sp at o : ℕ} {f r h : Frame} {c : Cursor} {t : Look} → length st ≡ height → sp < height → (f.fields ≡ 0 → ⊥) → t ≡ Ok (Into c h) → Turned ws ns n f.left at (sort_at (f.fields % 256)) t → r ≡ rest_of f → Opens r o → Next (on_stack st) sp f at (on_stack (set st sp r)) (sp + o) h c.at
+  push st {sp} {at} {o} {f} {r} {h} {c} {t} l b z k x q p =
+      goes_into (on_stack st) sp f at (on_stack (set st sp r)) r o c.at h z (into_is k x) (into_less k x) q p
       (λ i j. get_or-set_other st sp i r _ (λ e. omega (arith, e, j)))
       (get_or-set_same st sp r _ (omega arith))
 
-  -- the answer of a frame is that of its copy
-  pub copied : (at : ℕ) {s : Step} {f g : Frame} → s ≡ frame_at ws ns n f at → f ≡ g → s ≡ frame_at ws ns n g at
-  copied at e q = e ∙ ap (λ (x : Frame). frame_at ws ns n x at) q
-
   -- what a frame that is entered weighs, beside what was asked at first
-  pub inner_less : {f₀ f : Frame} {at₀ sp at : ℕ} {st : List Frame} {t : Turn} → Held f₀ at₀ st sp at f → (f.fields ≡ 0 → ⊥) → t.kind ≡ 1 → Turned ws ns n f.left at (sort_at (f.fields % 256)) t → (length ws - t.at) * 1099511627776 + size_f t.frame < (length ws - at₀) * 1099511627776 + size_f f₀
-  inner_less {f₀} {f} h z k x = omega (arith, h.light, into_less k x, size_next f z)
+  pub inner_less : {f₀ f h : Frame} {at₀ sp at : ℕ} {st : List Frame} {c : Cursor} {t : Look} → Held f₀ at₀ st sp at f → (f.fields ≡ 0 → ⊥) → t ≡ Ok (Into c h) → Turned ws ns n f.left at (sort_at (f.fields % 256)) t → (length ws - c.at) * 1099511627776 + size_f h < (length ws - at₀) * 1099511627776 + size_f f₀
+  inner_less {f₀} {f} y z k x = omega (arith, y.light, into_less k x, size_next f z)
 
 -- at most one frame goes onto the stack
 pub opens_small : {f : Frame} {o : ℕ} → Opens f o → o ≤ 1

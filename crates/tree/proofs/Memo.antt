@@ -7,33 +7,26 @@ use native.Mathlib.Omega.{arith}
 use lib.ListN.{length, get_or, set, length-set}
 use lib.Seq.{get_or-set_same, get_or-set_other}
 use Rattle.expr.specs.Expr.{Expr}
-use Rattle.expr.specs.Answer.{step_of}
+use Rattle.expr.specs.Answer.{step_of, Step}
 use Rattle.expr.specs.declared.Cursor.{Cursor}
 use Rattle.expr.proofs.Steps.{read}
-use Rattle.expr.specs.declared.Step.{Step}
-use Rattle.expr.specs.declared.Step.TheVariants.{Read, Wrong, Deep}
 use Rattle.tree.specs.Sorts.{Sort, stmt}
 use Rattle.tree.specs.Tree.{one, Tree, depth_t}
 use Rattle.tree.specs.Stands.{Stands}
 use Rattle.tree.specs.Reader.{stmt_at, field_at}
 use Rattle.tree.specs.Codes.{sort_at}
-use Rattle.tree.specs.Frames.{failed_of, told_of, field_step, frame_at, Turned}
-use Rattle.tree.specs.declared.Frame.{Frame}
-use Rattle.tree.specs.declared.Turn.{Turn}
+use Rattle.tree.specs.Frames.{field_step}
 use Rattle.tree.specs.Memo.{Remembers, EndsAt, Recalled, Remembered, Noted, Keeps, Past}
 use Rattle.tree.proofs.Steps.{is_own, stmt_arm}
 use Rattle.tree.proofs.Sound.{stmt_sound}
-use Rattle.tree.proofs.Machine.{past_is, into_is, failed_is, told_past, told_failed, copied}
 use Rattle.tree.proofs.Complete.{clear, completes, one_tree}
-
--- 0 promises nothing
-pub recalled_none : {memo : List ℕ} {at : ℕ} → Recalled memo at 0
-recalled_none = record { gives = λ ws ns n R z. absurd (z refl) }
+use Rattle.std.specs.Prelude.{Ok, Err}
+use Rattle.expr.specs.declared.Misread.{Misread}
 
 -- the end that stands in a slot of that place
-pub recalled_slot : (memo : List ℕ) (at i r : ℕ) → ((r ≡ 0 → ⊥) → (get_or memo (2 * i) 0 ≡ at + 1) × (r ≡ get_or memo (2 * i + 1) 0)) → Recalled memo at r
+pub recalled_slot : (memo : List ℕ) (at i r : ℕ) → (get_or memo (2 * i) 0 ≡ at + 1) × (r ≡ get_or memo (2 * i + 1) 0) → Recalled memo at r
 unfolding EndsAt
-recalled_slot memo at i r h = record { gives = λ ws ns n R z v e S. R.right i at (h z).0 v e S ∙ sym (h z).1 }
+recalled_slot memo at i r h = record { gives = λ ws ns n R v e S. R.right i at h.0 v e S ∙ sym h.1 }
 
 -- a memo that is left as it was is right
 pub remembered_none : {memo : List ℕ} {at end : ℕ} → Remembered memo at end memo
@@ -83,10 +76,10 @@ pub noted_one : {sort at end : ℕ} {memo after : List ℕ} → sort ≡ 10 → 
 noted_one q m = record { gives = λ ws ns n R E. m.gives ws ns n R (E q) }
 
 -- a statement that was read: whatever stands there ends at the answer's place
-pub field_ends : (ws ns : List ℕ) (n left at sort : ℕ) {c : Cursor} → field_step ws ns n left (sort_at sort) at ≡ Read c → sort ≡ 10 → EndsAt ws ns n at c.at
+pub field_ends : (ws ns : List ℕ) (n left at sort : ℕ) {c : Cursor} → field_step ws ns n left (sort_at sort) at ≡ Ok c → sort ≡ 10 → EndsAt ws ns n at c.at
 unfolding EndsAt clear
 field_ends ws ns n left at sort {c} e q v end S =
-    let f : Read c ≡ step_of (stmt_at ws ns n left at) = sym e ∙ ap (λ (x : Sort). field_step ws ns n left x at) (is_own 10 q refl) ∙ sym (stmt_arm ws ns n _ _ at refl) in
+    let f : Ok c ≡ step_of (stmt_at ws ns n left at) = sym e ∙ ap (λ (x : Sort). field_step ws ns n left x at) (is_own 10 q refl) ∙ sym (stmt_arm ws ns n _ _ at refl) in
     let g = read (stmt_at ws ns n left at) f refl in
     let F = stmt_sound ws ns n left at g.0 c.at g.1 in
     (one_tree ws ns n v g.0 at end c.at refl S.valid F.valid S.wrote F.wrote).1
@@ -99,11 +92,6 @@ keeps_none = record { gives = λ R. R }
 pub keeps_noted : {ws ns : List ℕ} {n sort at end : ℕ} {first before inner after : List ℕ} → Keeps ws ns n first before → Keeps ws ns n before inner → Noted sort inner at end after → (sort ≡ 10 → EndsAt ws ns n at end) → Keeps ws ns n first after
 keeps_noted {ws} {ns} {n} p q m E = record { gives = λ R. m.gives ws ns n (q.gives (p.gives R)) E }
 
--- noted where the turn is past the field, else as it was
-pub keeps_told : {ws ns : List ℕ} {n sort at : ℕ} {first before inner after : List ℕ} (t : Turn) → Keeps ws ns n first before → Keeps ws ns n before inner → (t.kind ≡ 0 → Noted sort inner at t.at after) × ((t.kind ≡ 0 → ⊥) → after ≡ inner) → (t.kind ≡ 0 → sort ≡ 10 → EndsAt ws ns n at t.at) → Keeps ws ns n first after
-keeps_told {ws} {ns} {n} {sort} {at} {first} {before} {inner} {after} t p q m E =
-    elim (native.Mathlib.Decide.ℕ_discrete t.kind 0) [ yes k ↦ keeps_noted p q (m.0 k) (E k) | no k ↦ record { gives = λ R. subst (λ (x : List ℕ). Remembers ws ns n x) (sym (m.1 k)) (q.gives (p.gives R)) } ]
-
 -- the memo in the loop: as long as at first, and right if it was
 pub record Memo (ws ns : List ℕ) (n : ℕ) (first memo : List ℕ) : Type 0 where
   pub same : length memo ≡ length first
@@ -113,57 +101,34 @@ pub record Memo (ws ns : List ℕ) (n : ℕ) (first memo : List ℕ) : Type 0 wh
 pub memo_first : {ws ns : List ℕ} {n : ℕ} {memo : List ℕ} → Memo ws ns n memo memo
 memo_first = record { same = refl; keeps = keeps_none }
 
--- ---- a field that was read, by its own words or by a call: what its turn says, and the memo
+-- a frame of the field was read, and its end noted
+pub memo_call : (ws ns : List ℕ) (n left at sort : ℕ) {first before inner after : List ℕ} {c : Cursor} → field_step ws ns n left (sort_at sort) at ≡ Ok c → Memo ws ns n first before → Keeps ws ns n before inner → length inner ≡ length before → Noted sort inner at c.at after → length after ≡ length inner → Memo ws ns n first after
+memo_call ws ns n left at sort e m p l d r = record { same = r ∙ l ∙ m.same; keeps = keeps_noted m.keeps p d (field_ends ws ns n left at sort e) }
 
--- the field's answer is the turn's, and the memo is right
-pub record Settled (ws ns : List ℕ) (n left at sort : ℕ) (first memo : List ℕ) (t : Turn) : Type 0 where
-  pub reads : t.kind ≡ 0 → field_step ws ns n left (sort_at sort) at ≡ Read (record { at = t.at })
-  pub stops : (t.kind ≡ 0 → ⊥) → field_step ws ns n left (sort_at sort) at ≡ failed_of t
-  pub kept : Memo ws ns n first memo
-
--- the same under other names
-pub settled_same : {ws ns : List ℕ} {n left at sort : ℕ} {first memo memo' : List ℕ} {t t' : Turn} → memo' ≡ memo → t' ≡ t → Settled ws ns n left at sort first memo t → Settled ws ns n left at sort first memo' t'
-settled_same {ws} {ns} {n} {left} {at} {sort} {first} {memo} {memo'} {t} {t'} p q h =
-    subst (λ (m : List ℕ). Settled ws ns n left at sort first m t') (sym p) (subst (λ (u : Turn). Settled ws ns n left at sort first memo u) (sym q) h)
-
--- by its own words: the memo is as it was
-pub settled_look : {ws ns : List ℕ} {n left at sort : ℕ} {first memo : List ℕ} {t : Turn} → (t.kind ≡ 1 → ⊥) → Turned ws ns n left at (sort_at sort) t → Memo ws ns n first memo → Settled ws ns n left at sort first memo t
-settled_look k x m = record { reads = λ h. past_is h x; stops = λ h. failed_is h k x; kept = m }
-
--- by a call that read the field's frame, its end noted where it was read
-pub settled_call : {ws ns : List ℕ} {n left at sort : ℕ} {first before inner after : List ℕ} {f : Frame} {s : Step} {u t : Turn} → u.kind ≡ 1 → Turned ws ns n left at (sort_at sort) u → s ≡ frame_at ws ns n f u.at → f ≡ u.frame → t ≡ told_of s → Memo ws ns n first before → Keeps ws ns n before inner → length inner ≡ length before → (t.kind ≡ 0 → Noted sort inner at t.at after) × ((t.kind ≡ 0 → ⊥) → after ≡ inner) → length after ≡ length inner → Settled ws ns n left at sort first after t
-settled_call {ws} {ns} {n} {left} {at} {sort} {s = s} {u = u} {t = t} k x e q g m p l d r =
-    let z : field_step ws ns n left (sort_at sort) at ≡ s = into_is k x ∙ sym (copied ws ns n u.at e q) in
-    record {
-      reads = λ h. z ∙ told_past s g h;
-      stops = λ h. z ∙ told_failed s g h;
-      kept = record { same = r ∙ l ∙ m.same; keeps = keeps_told t m.keeps p d (λ h. field_ends ws ns n left at sort (z ∙ told_past s g h)) };
-    }
+-- the same where the frame could not be read
+pub memo_failed : {ws ns : List ℕ} {n : ℕ} {first before inner : List ℕ} → Memo ws ns n first before → Keeps ws ns n before inner → length inner ≡ length before → Memo ws ns n first inner
+memo_failed m p l = record { same = l ∙ m.same; keeps = record { gives = λ R. p.gives (m.keeps.gives R) } }
 
 -- ---- the end of a statement
 
 -- the end, recalled
-pub past_recalled : {ws ns : List ℕ} {n : ℕ} {memo : List ℕ} {at r : ℕ} → Recalled memo at r → (r ≡ 0 → ⊥) → Past ws ns n memo at r
+pub past_recalled : {ws ns : List ℕ} {n : ℕ} {memo : List ℕ} {at r : ℕ} → Recalled memo at r → Past ws ns n memo at r
 unfolding EndsAt
-past_recalled {ws} {ns} {n} h z = record { gives = λ R v end S d. sym (h.gives ws ns n R z v end S) }
+past_recalled {ws} {ns} {n} h = record { gives = λ R v end S d. sym (h.gives ws ns n R v end S) }
+
+one_cursor : {c c' : Cursor} → ◌≡◌ {A = Step} (Ok c) (Ok c') → c ≡ c'
+one_cursor q = cc
 
 -- the end, read
 module _ {ws ns : List ℕ} {n at : ℕ} (s : Step) (e : s ≡ step_of (stmt_at ws ns n 100 at)) where
-  stmt_read : {v : Tree Expr (one stmt)} {end : ℕ} → Stands ws ns n at v end → depth_t v ≤ 100 → s ≡ Read (record { at = end })
+  stmt_read : {v : Tree Expr (one stmt)} {end : ℕ} → Stands ws ns n at v end → depth_t v ≤ 100 → s ≡ Ok (record { at = end })
   unfolding step_of clear field_at
   stmt_read {v} {end} S d = e ∙ ap step_of (completes ws ns n v 100 at end refl d S.valid S.wrote)
 
   -- the statement was read: its end is the answer's place
-  pub past_read : {memo : List ℕ} (c : Cursor) → s ≡ Read c → Past ws ns n memo at c.at
-  past_read c q = record { gives = λ R v end S d. ap Cursor.at (the_cursor (sym q ∙ stmt_read S d)) }
-    where
-      the_cursor : {c c' : Cursor} → Read c ≡ Read c' → c ≡ c'
-      the_cursor q = cc
+  pub past_read : {memo : List ℕ} (c : Cursor) → s ≡ Ok c → Past ws ns n memo at c.at
+  past_read c q = record { gives = λ R v end S d. ap Cursor.at (one_cursor (sym q ∙ stmt_read S d)) }
 
-  -- a wrong word: no statement of at most 100 levels stands there
-  pub past_wrong : {memo : List ℕ} (p : ℕ) → s ≡ Wrong p → Past ws ns n memo at p
-  past_wrong p q = record { gives = λ R v end S d. let r = stmt_read S d in let z : ◌≡◌ {A = ℕ} 0 1 = cc in absurd (omega arith) }
-
-  -- a head too deep: here too none of at most 100 levels stands
-  pub past_deep : {memo : List ℕ} (p : ℕ) → s ≡ Deep p → Past ws ns n memo at p
-  past_deep p q = record { gives = λ R v end S d. let r = stmt_read S d in let z : ◌≡◌ {A = ℕ} 0 1 = cc in absurd (omega arith) }
+  -- it was not: no statement of at most 100 levels stands there, whatever the place that is given
+  pub past_failed : {memo : List ℕ} {p : ℕ} {m : Misread} → s ≡ Err m → Past ws ns n memo at p
+  past_failed q = record { gives = λ R v end S d. let r = stmt_read S d in cc }

@@ -20,11 +20,11 @@ use Rattle.expr.proofs.Parts.{wrote_none, wrote_cons, wrote_cat, word_is}
 use Rattle.expr.proofs.Sound.{sound, cons_leaf}
 use Rattle.expr.specs.Answer.{step_of}
 use Rattle.expr.specs.declared.Cursor.{Cursor}
-use Rattle.expr.specs.declared.Step.TheVariants.{Read}
 use Rattle.expr.proofs.Steps.{read}
 use Rattle.tree.specs.Sorts.{Sort, leaf, expr, stmt, many, group, either, never, Sorts, nil, ◌&◌, Kind, sorts, kinds, kind_at, number_of}
 use Rattle.tree.specs.Tree.{strings, Shape, one, row, rows, Tree, word, value, Stmt, list, part, this, that, done, none, count, kind_l, ok_l, words_t, depth_t, Right}
 use Rattle.tree.specs.Reader.{word_at, never_at, is_at, stmt_head, rows_at, field_at, row_at, rest_at, stmt_at, program_at}
+use Rattle.std.specs.Prelude.{Ok}
 
 -- a word of kind k whose payload is right
 pub record IsWord (ws : List ℕ) (k : ℕ) (ok : ℕ → Bool) (at x m : ℕ) : Type 0 where
@@ -245,7 +245,7 @@ module _ (ws ns : List ℕ) (n d : ℕ) (sub_s : ℕ → Got (Tree Expr (one stm
         le_trans (field_on s at a.0 a.1 a.2) (row_on ss a.1 b.0 end b.1)
 
 -- a field ends at its place or after it
-pub field_after : (ws ns : List ℕ) (n d : ℕ) (s : Sort) (at : ℕ) {c : Cursor} → step_of (field_at ws ns n (expr_at ws (strings ns n) d) (stmt_at ws ns n d) s at) ≡ Read c → at ≤ c.at
+pub field_after : (ws ns : List ℕ) (n d : ℕ) (s : Sort) (at : ℕ) {c : Cursor} → step_of (field_at ws ns n (expr_at ws (strings ns n) d) (stmt_at ws ns n d) s at) ≡ Ok c → at ≤ c.at
 field_after ws ns n d s at {c} e =
     let v = read (field_at ws ns n (expr_at ws (strings ns n) d) (stmt_at ws ns n d) s at) refl e in
     field_on ws ns n d (stmt_at ws ns n d) (λ p t q h. omega (arith, (stmt_sound ws ns n d p t q h).wrote.span)) s at v.0 c.at v.1

@@ -9,27 +9,28 @@ use native.Mathlib.Numerals.{add-one, sub-one}
 use native.Mathlib.Nat.{le_trans, le_of_eq}
 use lib.ListN.{length, get_or, take, drop, drop_of_length-le, get_or-map}
 use lib.Dec.{ltb, leb, eqb}
-use borrow.Author.Tests.{lt-ltb, le-ltb, le-leb, lt-leb, eq-eqb, ne_eqb, ltb-true, leb-true}
+use borrow.Author.Tests.{lt-ltb, le-ltb, le-leb, eq-eqb, ne_eqb, ltb-true, ltb-false, leb-true}
 use Rattle.expr.specs.Expr.{Expr}
 use Rattle.words.specs.Word.{word_of, pick, kind_of, pay_of}
 use Rattle.expr.specs.Got.{Got, got, wrong, bind}
-use Rattle.expr.specs.Reader.{leaf_at, name_at, expr_at}
-use Rattle.expr.specs.Answer.{step_of, then}
+use Rattle.expr.specs.Reader.{leaf_at, name_at, head_at, expr_at}
+use Rattle.expr.specs.Answer.{step_of, then, Step}
 use Rattle.expr.specs.declared.Cursor.{Cursor}
-use Rattle.expr.specs.declared.Step.{Step}
-use Rattle.expr.specs.declared.Step.TheVariants.{Read, Wrong, Deep}
-use Rattle.expr.proofs.Steps.{step_map, step_bind, last, stop, next_leaf}
-use types.Run.{OneOf}
-use denote.Enum.Declared.{tag_of}
-use Rattle.expr.specs.contracts.Step.{the_type}
+use Rattle.expr.proofs.Steps.{step_map, step_bind, last, hands_on, stop, next_leaf}
+use mathlib.Core.Logic.{◌⊎◌, inl, inr, ⊎_elim}
+use Rattle.std.specs.Result.{IsErrAnd}
+use Rattle.expr.specs.declared.Misread.{Misread}
 use Rattle.tree.specs.Sorts.{Leaf, Sort, leaf, expr, stmt, many, group, either, never, Sorts, nil, ◌&◌, flag, whole, letter, one_of, named, quoted, opt, GotoTarget, TypeRef, PrintItem, sorts, kinds, kind_at, lock}
 use Rattle.tree.specs.Tree.{strings, one, row, Tree, word, value, Stmt, list, part, this, that, kind_l, ok_l, between}
 use Rattle.tree.specs.Codes.{parts, all_rows, row_of, singles, sort_at, decode, chain, part_codes, stmt_codes, codes, decoded}
 use Rattle.tree.specs.Reader.{word_at, never_at, is_at, stmt_head, rows_at, field_at, row_at, rest_at, stmt_at}
+use Rattle.std.specs.Prelude.{Ok, Err}
+use Rattle.expr.specs.declared.Misread.TheVariants.{Wrong, Deep}
 
 -- ---- the numbers of the tables
 
-get_d_any : {A : Type 0} (l : List A) (i : ℕ) (d d' : A) → i < length l → get_or l i d ≡ get_or l i d'
+-- within a list it does not matter what stands past its end
+pub get_d_any : {A : Type 0} (l : List A) (i : ℕ) (d d' : A) → i < length l → get_or l i d ≡ get_or l i d'
 get_d_any [] i d d' h = absurd (omega arith)
 get_d_any (x ∷ l) zero d d' h = refl
 get_d_any (x ∷ l) (suc i) d d' h = get_d_any l i d d' (omega arith)
@@ -222,14 +223,29 @@ unfolding is_at
 zero_not ws at h f = simp (lt-ltb at (length ws) h, ne_eqb (get_or ws at 0) 0 f)
 
 -- where nothing is read after it
-pub then_read : (s : Step) → then s (λ m. Read (record { at = m })) ≡ s
+pub then_read : (s : Step) → then s (λ m. Ok (record { at = m })) ≡ s
 unfolding then
-then_read (Read c) = refl
-then_read (Wrong p) = refl
-then_read (Deep p) = refl
+then_read (Ok c) = refl
+then_read (Err (Wrong p)) = refl
+then_read (Err (Deep p)) = refl
+
+-- where no head of the kinds from a to b is read: the words have ended, or the word here is none
+head_fails : (ws : List ℕ) (a b at : ℕ) {m : Misread} → Err m ≡ step_of (head_at ws a b at)
+    → ((m ≡ Wrong (length ws)) × (length ws ≤ at)) ⊎ ((m ≡ Wrong at) × (at < length ws) × (pay_of (get_or ws at 0) ≡ 0 → a ≤ kind_of (get_or ws at 0) → kind_of (get_or ws at 0) ≤ b → ⊥))
+unfolding head_at step_of
+head_fails ws a b at {m} e = go (ltb at (length ws)) (leb a (kind_of (get_or ws at 0))) (leb (kind_of (get_or ws at 0)) b) (eqb (pay_of (get_or ws at 0)) 0) refl refl refl refl e
+  where
+    go : (x y z w : Bool) → ltb at (length ws) ≡ x → leb a (kind_of (get_or ws at 0)) ≡ y → leb (kind_of (get_or ws at 0)) b ≡ z → eqb (pay_of (get_or ws at 0)) 0 ≡ w
+        → Err m ≡ step_of (pick x (pick y (pick z (pick w (got (kind_of (get_or ws at 0)) (at + 1)) (wrong at)) (wrong at)) (wrong at)) (wrong (length ws)))
+        → ((m ≡ Wrong (length ws)) × (length ws ≤ at)) ⊎ ((m ≡ Wrong at) × (at < length ws) × (pay_of (get_or ws at 0) ≡ 0 → a ≤ kind_of (get_or ws at 0) → kind_of (get_or ws at 0) ≤ b → ⊥))
+    go false y z w p q r s e = inl (cc, ltb-false at (length ws) p)
+    go true false z w p q r s e = inr (cc, ltb-true at (length ws) p, λ u v t. let f = le-leb a (kind_of (get_or ws at 0)) v in cc)
+    go true true false w p q r s e = inr (cc, ltb-true at (length ws) p, λ u v t. let f = le-leb (kind_of (get_or ws at 0)) b t in cc)
+    go true true true false p q r s e = inr (cc, ltb-true at (length ws) p, λ u v t. let f = eq-eqb (pay_of (get_or ws at 0)) 0 u in cc)
+    go true true true true p q r s e = absurd cc
 
 -- a list
-pub rows_none : (ws ns : List ℕ) (n : ℕ) {ss : Sorts} (f : ℕ → Got (Tree Expr (row ss))) (count : ℕ) (c : Cursor) → count ≤ 0 → step_of (rows_at ws ns n f count c.at) ≡ Read c
+pub rows_none : (ws ns : List ℕ) (n : ℕ) {ss : Sorts} (f : ℕ → Got (Tree Expr (row ss))) (count : ℕ) (c : Cursor) → count ≤ 0 → step_of (rows_at ws ns n f count c.at) ≡ Ok c
 unfolding rows_at step_of
 rows_none ws ns n f zero c z = refl
 rows_none ws ns n f (suc k) c z = absurd (omega arith)
@@ -275,7 +291,7 @@ module _ (ws ns : List ℕ) (n : ℕ) (sub : ℕ → Got Expr) (sub_s : ℕ → 
   group_arm ss m h = last part _ h
 
   -- the word 0, or a row
-  pub opt_none : (ss : Sorts) (at : ℕ) → at < length ws → get_or ws at 0 ≡ 0 → Read (record { at = at + 1 }) ≡ step_of (field_at ws ns n sub sub_s (opt ss) at)
+  pub opt_none : (ss : Sorts) (at : ℕ) → at < length ws → get_or ws at 0 ≡ 0 → Ok (record { at = at + 1 }) ≡ step_of (field_at ws ns n sub sub_s (opt ss) at)
   unfolding field_at row_at is_at bind step_of
   opt_none ss at h e = simp (lt-ltb at (length ws) h, eq-eqb (get_or ws at 0) 0 e)
 
@@ -285,13 +301,13 @@ module _ (ws ns : List ℕ) (n : ℕ) (sub : ℕ → Got Expr) (sub_s : ℕ → 
   opt_some ss at f h = rw f (last that _ (group_arm ss at h))
 
   -- heads one after another
-  pub chain_end : (k : ℕ) (rs : List Sorts) (at : ℕ) → length ws ≤ at → Wrong (length ws) ≡ step_of (field_at ws ns n sub sub_s (chain k rs) at)
+  pub chain_end : (k : ℕ) (rs : List Sorts) (at : ℕ) → length ws ≤ at → Err (Wrong (length ws)) ≡ step_of (field_at ws ns n sub sub_s (chain k rs) at)
   unfolding chain field_at never_at is_at step_of
   chain_end k [] at h = simp (le-ltb at (length ws) h)
   chain_end k (ss ∷ rs) at h = simp (le-ltb at (length ws) h) (last that _ (chain_end (suc k) rs at h))
 
   -- the word is none of the heads: it is wrong
-  pub chain_no : (k : ℕ) (rs : List Sorts) (at : ℕ) → at < length ws → ((j : ℕ) → j < length rs → get_or ws at 0 ≡ word_of (k + j) 0 → ⊥) → Wrong at ≡ step_of (field_at ws ns n sub sub_s (chain k rs) at)
+  pub chain_no : (k : ℕ) (rs : List Sorts) (at : ℕ) → at < length ws → ((j : ℕ) → j < length rs → get_or ws at 0 ≡ word_of (k + j) 0 → ⊥) → Err (Wrong at) ≡ step_of (field_at ws ns n sub sub_s (chain k rs) at)
   unfolding chain field_at never_at is_at step_of
   chain_no k [] at h f = simp (lt-ltb at (length ws) h)
   chain_no k (ss ∷ rs) at h f =
@@ -310,11 +326,16 @@ module _ (ws ns : List ℕ) (n : ℕ) (sub : ℕ → Got Expr) (sub_s : ℕ → 
       simp (lt-ltb at (length ws) h, ne_eqb (get_or ws at 0) (word_of k 0) z) (last that _ (chain_yes (suc k) rs j at h (omega arith) (omega arith) q))
 
   -- by the kind and the payload of a word: it is none of the heads
-  heads_no : (k : ℕ) (rs : List Sorts) (at : ℕ) → at < length ws → (pay_of (get_or ws at 0) ≡ 0 → k ≤ kind_of (get_or ws at 0) → kind_of (get_or ws at 0) < k + length rs → ⊥) → Wrong at ≡ step_of (field_at ws ns n sub sub_s (chain k rs) at)
+  heads_no : (k : ℕ) (rs : List Sorts) (at : ℕ) → at < length ws → (pay_of (get_or ws at 0) ≡ 0 → k ≤ kind_of (get_or ws at 0) → kind_of (get_or ws at 0) < k + length rs → ⊥) → Err (Wrong at) ≡ step_of (field_at ws ns n sub sub_s (chain k rs) at)
   heads_no k rs at h f =
       chain_no k rs at h (λ j i e.
       let z : kind_of (get_or ws at 0) ≡ k + j = omega (arith, e) in
       f (omega (arith, e)) (omega (arith, z)) (omega (arith, z, i)))
+
+  -- no head from k to b is read: the choice fails as the head does
+  heads_stop : (k b : ℕ) (rs : List Sorts) (at : ℕ) {s r : Step} {m : Misread} → b + 1 ≡ k + length rs → s ≡ step_of (head_at ws k b at) → s ≡ Err m → IsErrAnd r (λ x. x ≡ m) → r ≡ step_of (field_at ws ns n sub sub_s (chain k rs) at)
+  heads_stop k b rs at l e q h =
+      ⊎_elim (λ v. hands_on h ∙ ap Err v.0 ∙ chain_end k rs at v.1) (λ v. hands_on h ∙ ap Err v.0 ∙ heads_no k rs at v.1 (λ p f i. v.2 p f (omega arith))) (head_fails ws k b at (sym q ∙ e))
 
   -- it is the j-th
   heads_go : (k : ℕ) (rs : List Sorts) (j at : ℕ) {r : Step} → at < length ws → j < length rs → pay_of (get_or ws at 0) ≡ 0 → kind_of (get_or ws at 0) ≡ k + j → r ≡ step_of (row_at ws ns n sub sub_s (get_or rs j nil) (at + 1)) → r ≡ step_of (field_at ws ns n sub sub_s (chain k rs) at)
@@ -326,12 +347,12 @@ module _ (ws ns : List ℕ) (n : ℕ) (sub : ℕ → Got Expr) (sub_s : ℕ → 
   row_more s ss m = step_bind _ _ _ (λ v m'. step_map _ _)
 
   -- a list without its head fails as the head does
-  pub many_stop : (ss : Sorts) (at : ℕ) {s : Step} → s ≡ step_of (leaf_at ws 1 16777216 at) → OneOf (1 ∷ 2 ∷ []) (tag_of the_type s) → s ≡ step_of (field_at ws ns n sub sub_s (many ss) at)
+  pub many_stop : (ss : Sorts) (at : ℕ) {s r : Step} {m : Misread} → s ≡ step_of (leaf_at ws 1 16777216 at) → s ≡ Err m → IsErrAnd r (λ x. x ≡ m) → r ≡ step_of (field_at ws ns n sub sub_s (many ss) at)
   unfolding field_at
-  many_stop ss at e t = stop _ _ e t
+  many_stop ss at e t h = stop _ _ e t h
 
   -- behind its head, as many rows as it says
-  pub many_go : (ss : Sorts) (at : ℕ) {s r : Step} {c : Cursor} → s ≡ step_of (leaf_at ws 1 16777216 at) → s ≡ Read c → r ≡ step_of (rows_at ws ns n (λ x. row_at ws ns n sub sub_s ss x) (pay_of (get_or ws at 0)) c.at) → r ≡ step_of (field_at ws ns n sub sub_s (many ss) at)
+  pub many_go : (ss : Sorts) (at : ℕ) {s r : Step} {c : Cursor} → s ≡ step_of (leaf_at ws 1 16777216 at) → s ≡ Ok c → r ≡ step_of (rows_at ws ns n (λ x. row_at ws ns n sub sub_s ss x) (pay_of (get_or ws at 0)) c.at) → r ≡ step_of (field_at ws ns n sub sub_s (many ss) at)
   unfolding field_at
   many_go ss at e q h = next_leaf _ _ _ _ _ e q (last list _ h)
 
@@ -351,18 +372,13 @@ module _ (ws ns : List ℕ) (n : ℕ) (sub : ℕ → Got Expr) (sub_s : ℕ → 
   unfolding row_at step_of
   row_one s m e = e ∙ sym (row_more s nil m ∙ then_read _)
 
-  -- past the words no type is
-  pub type_end : (at : ℕ) → length ws ≤ at → Wrong (length ws) ≡ step_of (field_at ws ns n sub sub_s TypeRef at)
+  -- no head from 40 to 45: the type fails as the head does
+  pub type_stop : (at : ℕ) {s r : Step} {m : Misread} → s ≡ step_of (head_at ws 40 45 at) → s ≡ Err m → IsErrAnd r (λ x. x ≡ m) → r ≡ step_of (field_at ws ns n sub sub_s TypeRef at)
   unfolding chain
-  type_end at h = chain_end 40 type_rows at h
-
-  -- a word that is none of the heads 40 to 45 is wrong
-  pub type_no : (at : ℕ) → at < length ws → (pay_of (get_or ws at 0) ≡ 0 → 40 ≤ kind_of (get_or ws at 0) → kind_of (get_or ws at 0) ≤ 45 → ⊥) → Wrong at ≡ step_of (field_at ws ns n sub sub_s TypeRef at)
-  unfolding chain
-  type_no at h f = heads_no 40 type_rows at h (λ p a b. f p a (let z : kind_of (get_or ws at 0) < 46 = b in omega (arith, z)))
+  type_stop at e q h = heads_stop 40 45 type_rows at refl e q h
 
   -- 40 to 43: nothing follows
-  pub type_plain : (at : ℕ) → at < length ws → pay_of (get_or ws at 0) ≡ 0 → 40 ≤ kind_of (get_or ws at 0) → kind_of (get_or ws at 0) ≤ 43 → Read (record { at = at + 1 }) ≡ step_of (field_at ws ns n sub sub_s TypeRef at)
+  pub type_plain : (at : ℕ) → at < length ws → pay_of (get_or ws at 0) ≡ 0 → 40 ≤ kind_of (get_or ws at 0) → kind_of (get_or ws at 0) ≤ 43 → Ok (record { at = at + 1 }) ≡ step_of (field_at ws ns n sub sub_s TypeRef at)
   unfolding chain row_at step_of
   type_plain at h p a b =
       heads_go 40 type_rows (kind_of (get_or ws at 0) - 40) at h (omega arith) p (omega arith)
@@ -382,15 +398,10 @@ module _ (ws ns : List ℕ) (n : ℕ) (sub : ℕ → Got Expr) (sub_s : ℕ → 
   abbrev target_rows : List Sorts
   target_rows = (whole & nil) ∷ (named & nil) ∷ []
 
-  -- past the words no target is
-  pub target_end : (at : ℕ) → length ws ≤ at → Wrong (length ws) ≡ step_of (field_at ws ns n sub sub_s GotoTarget at)
+  -- neither of the heads 48 and 49: the target fails as the head does
+  pub target_stop : (at : ℕ) {s r : Step} {m : Misread} → s ≡ step_of (head_at ws 48 49 at) → s ≡ Err m → IsErrAnd r (λ x. x ≡ m) → r ≡ step_of (field_at ws ns n sub sub_s GotoTarget at)
   unfolding chain
-  target_end at h = chain_end 48 target_rows at h
-
-  -- a word that is neither of the heads 48 and 49 is wrong
-  pub target_no : (at : ℕ) → at < length ws → (pay_of (get_or ws at 0) ≡ 0 → 48 ≤ kind_of (get_or ws at 0) → kind_of (get_or ws at 0) ≤ 49 → ⊥) → Wrong at ≡ step_of (field_at ws ns n sub sub_s GotoTarget at)
-  unfolding chain
-  target_no at h f = heads_no 48 target_rows at h (λ p a b. f p a (let z : kind_of (get_or ws at 0) < 50 = b in omega (arith, z)))
+  target_stop at e q h = heads_stop 48 49 target_rows at refl e q h
 
   -- 48: a line's number follows
   pub target_line : (at : ℕ) {r : Step} → at < length ws → pay_of (get_or ws at 0) ≡ 0 → kind_of (get_or ws at 0) ≡ 48 → r ≡ step_of (word_at ws 4 (between 0 16777216) (at + 1)) → r ≡ step_of (field_at ws ns n sub sub_s GotoTarget at)
@@ -412,15 +423,10 @@ module _ (ws ns : List ℕ) (n : ℕ) (sub : ℕ → Got Expr) (sub_s : ℕ → 
   bare_row (suc (suc zero)) g h = refl
   bare_row (suc (suc (suc j))) g h = absurd (omega arith)
 
-  -- past the words no item is
-  pub item_end : (at : ℕ) → length ws ≤ at → Wrong (length ws) ≡ step_of (field_at ws ns n sub sub_s PrintItem at)
+  -- no head from 32 to 34: the item fails as the head does
+  pub item_stop : (at : ℕ) {s r : Step} {m : Misread} → s ≡ step_of (head_at ws 32 34 at) → s ≡ Err m → IsErrAnd r (λ x. x ≡ m) → r ≡ step_of (field_at ws ns n sub sub_s PrintItem at)
   unfolding chain
-  item_end at h = chain_end 32 item_rows at h
-
-  -- a word that is none of the heads 32 to 34 is wrong
-  pub item_no : (at : ℕ) → at < length ws → (pay_of (get_or ws at 0) ≡ 0 → 32 ≤ kind_of (get_or ws at 0) → kind_of (get_or ws at 0) ≤ 34 → ⊥) → Wrong at ≡ step_of (field_at ws ns n sub sub_s PrintItem at)
-  unfolding chain
-  item_no at h f = heads_no 32 item_rows at h (λ p a b. f p a (let z : kind_of (get_or ws at 0) < 35 = b in omega (arith, z)))
+  item_stop at e q h = heads_stop 32 34 item_rows at refl e q h
 
   -- 32: an expression follows
   pub item_expr : (at : ℕ) {r : Step} → at < length ws → pay_of (get_or ws at 0) ≡ 0 → kind_of (get_or ws at 0) ≡ 32 → r ≡ step_of (sub (at + 1)) → r ≡ step_of (field_at ws ns n sub sub_s PrintItem at)
@@ -428,19 +434,17 @@ module _ (ws ns : List ℕ) (n : ℕ) (sub : ℕ → Got Expr) (sub_s : ℕ → 
   item_expr at h p k e = heads_go 32 item_rows 0 at h (omega arith) p k (row_one expr (at + 1) (expr_arm (at + 1) e))
 
   -- 33 and 34: nothing follows
-  pub item_plain : (at : ℕ) → at < length ws → pay_of (get_or ws at 0) ≡ 0 → 33 ≤ kind_of (get_or ws at 0) → kind_of (get_or ws at 0) ≤ 34 → Read (record { at = at + 1 }) ≡ step_of (field_at ws ns n sub sub_s PrintItem at)
+  pub item_plain : (at : ℕ) → at < length ws → pay_of (get_or ws at 0) ≡ 0 → 33 ≤ kind_of (get_or ws at 0) → kind_of (get_or ws at 0) ≤ 34 → Ok (record { at = at + 1 }) ≡ step_of (field_at ws ns n sub sub_s PrintItem at)
   unfolding chain row_at step_of
   item_plain at h p a b =
       heads_go 32 item_rows (kind_of (get_or ws at 0) - 32) at h (omega arith) p (omega arith)
       (rw (bare_row (kind_of (get_or ws at 0) - 32) (omega arith) (omega arith)) refl)
 
-  -- the word is none of the heads from `first` on: it is wrong
-  pub choice_no : (first count r at : ℕ) → r + count ≤ 93 → at < length ws → (pay_of (get_or ws at 0) ≡ 0 → first ≤ kind_of (get_or ws at 0) → kind_of (get_or ws at 0) - first < count → ⊥) → Wrong at ≡ step_of (field_at ws ns n sub sub_s (chain first (take count (drop r all_rows))) at)
-  choice_no first count r at b h f =
-      chain_no first (take count (drop r all_rows)) at h (λ j i e.
-      let z : j < count = subst (λ (x : ℕ). j < x) (length_chain r count b) i in
-      let k : kind_of (get_or ws at 0) ≡ first + j = omega (arith, e) in
-      f (omega (arith, e)) (omega (arith, k)) (omega (arith, k, z)))
+  -- no head from `first` to the last of `count`: the choice fails as the head does
+  pub choice_stop : (first count r at : ℕ) {s a : Step} {m : Misread} → r + count ≤ 93 → 0 < count → s ≡ step_of (head_at ws first (first + count - 1) at) → s ≡ Err m → IsErrAnd a (λ x. x ≡ m) → a ≡ step_of (field_at ws ns n sub sub_s (chain first (take count (drop r all_rows))) at)
+  choice_stop first count r at b z e q h =
+      let l : length (take count (drop r all_rows)) ≡ count = length_chain r count b in
+      heads_stop first (first + count - 1) (take count (drop r all_rows)) at (omega (arith, l)) e q h
 
   -- it is one of them: the row of its number follows
   pub choice_go : (first count r at : ℕ) {a : Step} → r + count ≤ 93 → at < length ws → pay_of (get_or ws at 0) ≡ 0 → first ≤ kind_of (get_or ws at 0) → kind_of (get_or ws at 0) - first < count → a ≡ step_of (row_at ws ns n sub sub_s (row_of (r + (kind_of (get_or ws at 0) - first))) (at + 1)) → a ≡ step_of (field_at ws ns n sub sub_s (chain first (take count (drop r all_rows))) at)
@@ -457,15 +461,16 @@ module _ (ws : List ℕ) (at : ℕ) where
   unfolding stmt_head
   head_end h = simp (le-ltb at (length ws) h)
 
-  -- a kind below 64 is none
-  pub head_low : at < length ws → kind_of (get_or ws at 0) < 64 → stmt_head ws at ≡ wrong at
+  -- a kind that is not from 64 to 117 is none
+  pub head_none : at < length ws → (64 ≤ kind_of (get_or ws at 0) → kind_of (get_or ws at 0) < 118 → ⊥) → stmt_head ws at ≡ wrong at
   unfolding stmt_head
-  head_low h k = simp (lt-ltb at (length ws) h, lt-leb 64 (kind_of (get_or ws at 0)) k)
-
-  -- nor is one from 118 on
-  pub head_high : at < length ws → 64 ≤ kind_of (get_or ws at 0) → 118 ≤ kind_of (get_or ws at 0) → stmt_head ws at ≡ wrong at
-  unfolding stmt_head
-  head_high h k z = simp (lt-ltb at (length ws) h, le-leb 64 (kind_of (get_or ws at 0)) k, le-ltb (kind_of (get_or ws at 0)) 118 z)
+  head_none h f = go (leb 64 (kind_of (get_or ws at 0))) refl
+    where
+      go : (b : Bool) → leb 64 (kind_of (get_or ws at 0)) ≡ b → stmt_head ws at ≡ wrong at
+      go false q = simp (lt-ltb at (length ws) h, q)
+      go true q =
+          let g : kind_of (get_or ws at 0) < 118 → ⊥ = f (leb-true 64 (kind_of (get_or ws at 0)) q) in
+          simp (lt-ltb at (length ws) h, q, le-ltb (kind_of (get_or ws at 0)) 118 (omega arith))
 
   -- one from 64 to 117 is
   pub head_ok : at < length ws → 64 ≤ kind_of (get_or ws at 0) → kind_of (get_or ws at 0) < 118 → stmt_head ws at ≡ got (get_or ws at 0) (at + 1)
@@ -473,13 +478,13 @@ module _ (ws : List ℕ) (at : ℕ) where
   head_ok h k z = simp (lt-ltb at (length ws) h, le-leb 64 (kind_of (get_or ws at 0)) k, lt-ltb (kind_of (get_or ws at 0)) 118 z)
 
 -- without a head there is no statement
-pub stmt_bad : (ws ns : List ℕ) (n left at p : ℕ) → stmt_head ws at ≡ wrong p → Wrong p ≡ step_of (stmt_at ws ns n left at)
+pub stmt_bad : (ws ns : List ℕ) (n left at p : ℕ) → stmt_head ws at ≡ wrong p → Err (Wrong p) ≡ step_of (stmt_at ws ns n left at)
 unfolding stmt_at bind step_of
 stmt_bad ws ns n zero at p h = rw h refl
 stmt_bad ws ns n (suc d) at p h = rw h refl
 
 -- a head where no level is left is too deep
-pub stmt_deep : (ws ns : List ℕ) (n left at w m : ℕ) → left ≡ 0 → stmt_head ws at ≡ got w m → Deep at ≡ step_of (stmt_at ws ns n left at)
+pub stmt_deep : (ws ns : List ℕ) (n left at w m : ℕ) → left ≡ 0 → stmt_head ws at ≡ got w m → Err (Deep at) ≡ step_of (stmt_at ws ns n left at)
 unfolding stmt_at bind step_of
 stmt_deep ws ns n left at w m z h = rw (z, h) refl
 

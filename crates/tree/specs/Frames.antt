@@ -1,46 +1,25 @@
 -- What is left of a row and of the rows after it, and what reading that gives; what reading a field's own words tells.
-use Rattle.std.specs.Prelude.{ℕ, ◌-◌, ◌/◌, ◌<◌, ◌≤◌, ◌≡◌, ◌⊎◌, List, length, eqb}
-use Rattle.words.specs.Word.{pick}
+use Rattle.std.specs.Prelude.{ℕ, ◌-◌, ◌/◌, ◌<◌, ◌≤◌, ◌≡◌, ◌⊎◌, List, length, Result, Ok, Err}
 use Rattle.expr.specs.Reader.{expr_at}
-use Rattle.expr.specs.Answer.{step_of, then}
-use Rattle.expr.specs.declared.Step.{Step}
-use Rattle.expr.specs.declared.Step.TheVariants.{Read, Wrong, Deep}
+use Rattle.expr.specs.Answer.{step_of, then, Step}
 use Rattle.tree.specs.Sorts.{Sort, group, opt}
 use Rattle.tree.specs.Tree.{strings}
 use Rattle.tree.specs.Codes.{codes, pack, row_of, sorts_of}
 use Rattle.tree.specs.Reader.{rows_at, field_at, row_at, stmt_at}
 use Rattle.tree.specs.declared.Frame.{Frame}
 use Rattle.tree.specs.declared.Turn.{Turn}
+use Rattle.tree.specs.declared.Turn.TheVariants.{Past, Into}
+use Rattle.expr.specs.declared.Cursor.{Cursor}
+use Rattle.expr.specs.declared.Misread.{Misread}
 
--- a turn with no frame
-abbrev pub bare_of : ℕ → ℕ → Turn
-bare_of kind at = record { kind = kind; at = at; frame = record { fields = 0; row = 0; times = 0; left = 0 } }
-
--- past the whole field; from a place on a frame is left of it; the first wrong word; a head that stands too deep
-abbrev pub Past : ℕ → Turn
-Past m = bare_of 0 m
-
--- from m on the frame is left
-abbrev pub Into : ℕ → Frame → Turn
-Into m f = record { kind = 1; at = m; frame = f }
-
--- the first wrong word is at p
-abbrev pub Refused : ℕ → Turn
-Refused p = bare_of 2 p
-
--- a head at p stands too deep
-abbrev pub TooDeep : ℕ → Turn
-TooDeep p = bare_of 3 p
-
--- the answer of the last two
-unfoldable pub failed_of : Turn → Step
-failed_of t = pick (eqb t.kind 2) (Wrong t.at) (Deep t.at)
+-- what reading a field's own words answers: how it goes on, or why it does not
+abbrev pub Look : Type 0
+Look = Result Turn Misread
 
 -- a whole field's answer as a turn
-unfoldable pub told_of : Step → Turn
-told_of (Read c) = Past c.at
-told_of (Wrong p) = Refused p
-told_of (Deep p) = TooDeep p
+unfoldable pub told_of : Step → Look
+told_of (Ok c) = Ok (Past c)
+told_of (Err m) = Err m
 
 -- a frame past its next field
 abbrev pub rest_of : Frame → Frame
@@ -71,13 +50,12 @@ module _ (ws ns : List ℕ) (n : ℕ) where
       (λ m. step_of (rows_at ws ns n (λ x. row_at ws ns n (expr_at ws (strings ns n) f.left) (stmt_at ws ns n f.left) (row_of f.row) x) f.times m))
 
   -- a turn tells the answer s: where a frame is left of it, that is behind a word
-  pub data Goes (at : ℕ) (s : Step) : Turn → Type 0 where
-    past : {m : ℕ} → s ≡ Read (record { at = m }) → Goes at s (Past m)
-    into : {m : ℕ} {f : Frame} → s ≡ frame_at f m → at < m → m ≤ length ws → f.fields < 4096 → f.times < 16777216 → Goes at s (Into m f)
-    refused : {p : ℕ} → s ≡ Wrong p → Goes at s (Refused p)
-    deep : {p : ℕ} → s ≡ Deep p → Goes at s (TooDeep p)
+  pub data Goes (at : ℕ) (s : Step) : Look → Type 0 where
+    past : {c : Cursor} → s ≡ Ok c → Goes at s (Ok (Past c))
+    into : {c : Cursor} {f : Frame} → s ≡ frame_at f c.at → at < c.at → c.at ≤ length ws → f.fields < 4096 → f.times < 16777216 → Goes at s (Ok (Into c f))
+    failed : {m : Misread} → s ≡ Err m → Goes at s (Err m)
 
   -- or the frame is the row of an option or a group, at the same place
-  pub data Turned (left at : ℕ) (s : Sort) : Turn → Type 0 where
-    goes : {t : Turn} → Goes at (field_step left s at) t → Turned left at s t
-    same : {r : ℕ} → (s ≡ opt (row_of r)) ⊎ (s ≡ group (row_of r)) → field_step left s at ≡ frame_at (record { fields = 0; row = r; times = 1; left = left }) at → Turned left at s (Into at (record { fields = 0; row = r; times = 1; left = left }))
+  pub data Turned (left at : ℕ) (s : Sort) : Look → Type 0 where
+    goes : {t : Look} → Goes at (field_step left s at) t → Turned left at s t
+    same : {r : ℕ} → (s ≡ opt (row_of r)) ⊎ (s ≡ group (row_of r)) → field_step left s at ≡ frame_at (record { fields = 0; row = r; times = 1; left = left }) at → Turned left at s (Ok (Into (record { at = at }) (record { fields = 0; row = r; times = 1; left = left })))

@@ -16,9 +16,9 @@ pub record Remembers (ws ns : List ℕ) (n : ℕ) (memo : List ℕ) : Type 0 whe
 unfoldable pub EndsAt : List ℕ → List ℕ → ℕ → ℕ → ℕ → Type 0
 EndsAt ws ns n at end = (v : Tree Expr (one stmt)) (e : ℕ) → Stands ws ns n at v e → e ≡ end
 
--- 0, or the end of the statement there, whatever the memo remembers
+-- the end of the statement there, whatever the memo remembers
 pub record Recalled (memo : List ℕ) (at r : ℕ) : Type 0 where
-  pub gives : (ws ns : List ℕ) (n : ℕ) → Remembers ws ns n memo → (r ≡ 0 → ⊥) → EndsAt ws ns n at r
+  pub gives : (ws ns : List ℕ) (n : ℕ) → Remembers ws ns n memo → EndsAt ws ns n at r
 
 -- a right end is remembered with the others
 pub record Remembered (before : List ℕ) (at end : ℕ) (after : List ℕ) : Type 0 where

@@ -114,8 +114,8 @@ module _ {ws : List ℕ} {at n line owner : ℕ} {s : Counts} {b d₀ : List ℕ
 
   -- one more looked at
   pub checking_next : {c c' : Kept} {a i : ℕ} {d d' seen seen' : List ℕ} → Checking ws at n line owner s b d₀ c a i d seen → i < n → (f : FieldAt) → FieldIs ws a f → f.name < length seen → (k code : ℕ)
-      → k ≡ s.rows → Codes 1 owner k f.name f.head f.arg code b seen seen'
-      → Looks line owner code f.name f.head f.arg c c' b d d' → Checking ws at n line owner s b d₀ c' f.next (i + 1) d' seen'
+      → k ≡ s.rows → Codes 1 owner k f.name f.ty.head f.ty.arg code b seen seen'
+      → Looks line owner code f.name f.ty.head f.ty.arg c c' b d d' → Checking ws at n line owner s b d₀ c' f.next (i + 1) d' seen'
   checking_next {c} {c'} {a} {i} {d} {d'} {seen} {seen'} C h f F within k code ek U L = record { fit = L.fit; kept = L.kept ∙ C.kept; few = L.few; fields = more_fields code c.fields c'.fields i L.more C.fields; upto = omega arith; walked = by }
     where
       by : (ns : List ℕ) (m : ℕ) (v : Tree Expr (many_rows FieldRow)) (end : ℕ) → Stands ws ns m at v end → n ≤ count v → CheckingAt ws ns m v end line owner s b d₀ c' f.next (i + 1) d' seen'
@@ -131,17 +131,17 @@ module _ {ws : List ℕ} {at n line owner : ℕ} {s : Counts} {b d₀ : List ℕ
             mid = λ N D rows notes H.
                 let M = w.mid N D rows notes H in
                 let holds : Keeps rows c.counts.rows b = subst (λ (k : ℕ). Keeps rows k b) (sym C.kept) H.inside.1 in
-                let ec : code ≡ field_code rows owner p.before decl = marks_code 1 rows owner p.before seen M.marks decl f.name g.0 code f.head f.arg g.1 g.2 (U.code rows (subst (λ (j : ℕ). Keeps rows j b) (sym ek) H.inside.1)) in
-                let ew : c'.words ≡ sized rows c.words code f.head f.arg = L.size rows holds in
+                let ec : code ≡ field_code rows owner p.before decl = marks_code 1 rows owner p.before seen M.marks decl f.name g.0 code f.ty.head f.ty.arg g.1 g.2 (U.code rows (subst (λ (j : ℕ). Keeps rows j b) (sym ek) H.inside.1)) in
+                let ew : c'.words ≡ sized rows c.words code f.ty.head f.ty.arg = L.size rows holds in
                 record {
-                  state = looks D rows line owner c.words code f.name f.head f.arg M.state;
+                  state = looks D rows line owner c.words code f.name f.ty.head f.ty.arg M.state;
                   held = (L.notes rows holds).after b N D M.state M.held;
                   marks = marks_next 1 rows owner p.before seen M.marks decl f.name g.0 code seen' ec within U.marked;
-                  left = checks_step D rows line owner c.words c'.words code f.name f.head f.arg p.before tail decl ec g.0 g.1 g.2 ew M.state
+                  left = checks_step D rows line owner c.words c'.words code f.name f.ty.head f.ty.arg p.before tail decl ec g.0 g.1 g.2 ew M.state
                       ∙ ap (λ (l : List FieldDecl). checks D rows line owner c.words p.before l M.state) (sym q.items) ∙ M.left;
-                  size = total_step D rows line owner c.words c'.words code f.name f.head f.arg p.before tail decl ec g.0 g.1 g.2 ew
+                  size = total_step D rows line owner c.words c'.words code f.name f.ty.head f.ty.arg p.before tail decl ec g.0 g.1 g.2 ew
                       ∙ ap (total rows owner c.words p.before) (sym q.items) ∙ M.size;
-                  many = kept_step D rows line owner c.words c'.words code f.name f.head f.arg p.before tail decl ec g.0 g.1 g.2 ew c.fields c'.fields L.more
+                  many = kept_step D rows line owner c.words c'.words code f.name f.ty.head f.ty.arg p.before tail decl ec g.0 g.1 g.2 ew c.fields c'.fields L.more
                       ∙ ap (λ (l : List FieldDecl). c.fields + length (kept_fields rows owner c.words p.before l)) (sym q.items) ∙ M.many;
                 };
           }

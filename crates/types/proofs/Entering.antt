@@ -152,8 +152,8 @@ module _ {ws : List ℕ} {at n owner : ℕ} {s : Counts} {b₀ : List ℕ} where
 
   -- one more entered, where it is kept
   pub entering_next : {c c' : Kept} {a i : ℕ} {b b' seen seen' : List ℕ} → EnteringMid ws at n owner s b₀ c a i b seen → i < n → (f : FieldAt) → FieldIs ws a f → f.name < length seen → (code : ℕ)
-      → Codes 2 owner c.counts.rows f.name f.head f.arg code b seen seen'
-      → KeepsField owner code f.name f.head f.arg c c' b b' → EnteringMid ws at n owner s b₀ c' f.next (i + 1) b' seen'
+      → Codes 2 owner c.counts.rows f.name f.ty.head f.ty.arg code b seen seen'
+      → KeepsField owner code f.name f.ty.head f.ty.arg c c' b b' → EnteringMid ws at n owner s b₀ c' f.next (i + 1) b' seen'
   entering_next {c} {c'} {a} {i} {b} {b'} {seen} {seen'} C h f F within code U K =
       record {
         fit = K.rows.fit;
@@ -178,9 +178,9 @@ module _ {ws : List ℕ} {at n owner : ℕ} {s : Counts} {b₀ : List ℕ} where
             mid = λ d N D st₀ H.
                 let M = w.mid d N D st₀ H in
                 record {
-                  state = each (enter (some N)) (pick (eqb code 0) (field_row owner c.fields f.name c.words f.head f.arg ∷ []) []) M.state;
+                  state = each (enter (some N)) (pick (eqb code 0) (field_row owner c.fields f.name c.words f.ty.head f.ty.arg ∷ []) []) M.state;
                   held = K.rows.after d N D M.state M.held;
-                  inside = inside_next owner N (rows_in st₀) (Entering owner (rows_of field_decl v) N D st₀) c.fields c'.fields c.words c'.words code f.name f.head f.arg c.counts.rows p.before tail decl b seen seen'
+                  inside = inside_next owner N (rows_in st₀) (Entering owner (rows_of field_decl v) N D st₀) c.fields c'.fields c.words c'.words code f.name f.ty.head f.ty.arg c.counts.rows p.before tail decl b seen seen'
                       (small_right p.before (decl ∷ tail) small).0 g.0 g.1 g.2 K.more
                       within U K.size M.state (held_rows M.state M.held)
                       (subst (λ (l : List FieldDecl). Inside owner N (rows_in st₀) (Entering owner (rows_of field_decl v) N D st₀) c.fields c.words seen p.before l M.state) q.items M.inside);

@@ -1,7 +1,7 @@
 -- One field: what its code does to the run, by its code and its words. Assumes nothing.
 use Prim.Native.Nat.{ℕ, ◌+◌, ◌-◌, ◌*◌, ◌≤◌, ◌<◌}
 use mathlib.Core.Path.{◌≡◌, refl, sym, ap, ◌∙◌, subst}
-use mathlib.Core.Bool.{Bool}
+use mathlib.Core.Bool.{Bool, true, false, false≢true}
 use mathlib.Core.List.{List, [], ◌∷◌}
 use mathlib.Core.Option.{some}
 use native.Mathlib.Omega.{arith}
@@ -18,7 +18,11 @@ use Rattle.steps.specs.State.{State, Step, nothing, each, stop, enter, push}
 use Rattle.steps.specs.declared.Counts.{Counts}
 use Rattle.steps.specs.Held.{Held, Sized, Notes, Rows, Counted, entering, pushing}
 use Rattle.steps.proofs.RowSteps.{rows_same}
-use Rattle.types.specs.Types.{type_code, note_of, grown, sized, looks, Looks, KeepsField}
+use Rattle.std.specs.Prelude.{Result, Ok, Err, IsErrAnd}
+use Rattle.std.specs.Result.{is_err}
+use Rattle.types.specs.declared.Rejected.{Rejected}
+use Rattle.types.specs.declared.Rejected.TheVariants.{Twice, Itself, Undefined}
+use Rattle.types.specs.Types.{type_code, code_told, code_of_why, note_of, grown, sized, looks, Looks, KeepsField}
 use Rattle.types.specs.declared.Kept.{Kept}
 
 -- ---- a type's code
@@ -38,6 +42,26 @@ module _ (rows : List Row) (owner head arg : ℕ) where
   pub code_record : head ≡ 45 → (arg ≡ owner → ⊥) → (t : Bool) → t ≡ has rows 130 arg 0 → pick t 0 7 ≡ type_code rows owner head arg
   unfolding type_code
   code_record h n t e = ap (λ (u : Bool). pick u 0 7) e ∙ sym (pick_true _ _ (eq-eqb head 45 h) ∙ pick_false _ _ (ne_eqb arg owner n))
+
+-- a reason's code is not 0
+pub why_some : (why : Rejected) → code_of_why why ≡ 0 → ⊥
+why_some Twice e = absurd (omega arith)
+why_some Itself e = absurd (omega arith)
+why_some Undefined e = absurd (omega arith)
+
+-- a field that is rejected has a code, one that is kept has none
+pub failed_some : (r : Result (Unit {0}) Rejected) → is_err r ≡ true → code_told r ≡ 0 → ⊥
+failed_some (Ok u) h = absurd (false≢true h)
+failed_some (Err why) h = why_some why
+
+pub passed_none : (r : Result (Unit {0}) Rejected) → is_err r ≡ false → code_told r ≡ 0
+passed_none (Ok u) h = refl
+passed_none (Err why) h = absurd (false≢true (sym h))
+
+-- an answer that is handed on is the same
+pub handed : {r : Result (Unit {0}) Rejected} {why : Rejected} → IsErrAnd r (λ x. x ≡ why) → r ≡ Err why
+handed {r = Ok u} h = absurd h
+handed {r = Err x} h = ap Err h
 
 -- ---- its words
 

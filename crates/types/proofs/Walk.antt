@@ -15,7 +15,7 @@ use Rattle.tree.specs.Stands.{Stands, SomeTree}
 use Rattle.tree.proofs.Nodes.{in_more}
 use Rattle.views.specs.View.{head, arg, FieldDecl, rows_of, type_ref, field_decl}
 use Rattle.lent.specs.RuleLaws.{name_below as marked_below}
-use Rattle.parts.specs.declared.TypeAt.{TypeAt}
+use Rattle.lookup.specs.declared.Typed.{Typed}
 use Rattle.parts.specs.Parts.{TypeIs}
 use Rattle.types.specs.Types.{FieldIs}
 use Rattle.types.specs.declared.FieldAt.{FieldAt}
@@ -52,13 +52,13 @@ module _ {ws : List ℕ} {at : ℕ} where
       record { names = S.names; strings = S.strings; tree = p.type; end = S.end; stands = p.there }
 
   -- so the field is read from these words
-  pub field_is : (t : TypeAt) → TypeIs ws (at + 1) t → FieldIs ws at (record { name = pay_of (get_or ws at 0); head = t.head; arg = t.arg; next = t.next })
-  field_is t T =
+  pub field_is : {t : Typed} {next : ℕ} → TypeIs ws (at + 1) t next → FieldIs ws at (record { name = pay_of (get_or ws at 0); ty = t; next = next })
+  field_is T =
       record {
         is = λ ns n v end s.
             let p = field_parts v s in
             let q = T.is ns n p.type end p.there in
-            (p.name_is, q.0 ∙ ap head p.type_is, q.1 ∙ ap arg p.type_is, q.2);
+            (p.name_is, ap (λ (x : Typed). x.head) q.0 ∙ ap head p.type_is, ap (λ (x : Typed). x.arg) q.0 ∙ ap arg p.type_is, q.1);
         name_small = omega arith;
         arg_small = T.small;
       }

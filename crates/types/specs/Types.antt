@@ -1,5 +1,5 @@
 -- What the code of TYPE asks and promises: a field's code, what looking at the fields in order does, and which are kept. Definitions only.
-use Rattle.std.specs.Prelude.{ℕ, ◌+◌, ◌*◌, ◌≤◌, ◌<◌, ◌≡◌, Bool, false, ◌&&◌, ◌||◌, List, [], ◌∷◌, ◌++◌, leb, eqb, length, get_or, set}
+use Rattle.std.specs.Prelude.{ℕ, ◌+◌, ◌*◌, ◌≤◌, ◌<◌, ◌≡◌, Bool, false, ◌&&◌, ◌||◌, List, [], ◌∷◌, ◌++◌, leb, eqb, length, get_or, set, Result, Ok, Err}
 use Rattle.std.proofs.Math.Option.{some}
 use Rattle.words.specs.Word.{pick}
 use Rattle.expr.specs.Expr.{Expr}
@@ -18,6 +18,8 @@ use Rattle.collect.specs.Diagnostics.{field_twice, contains_itself, field_undefi
 use Rattle.collect.specs.Collect.{FieldInfo, field_rows, given, fields}
 use Rattle.collect.specs.Code.{SomeStmt}
 use Rattle.types.specs.declared.FieldAt.{FieldAt}
+use Rattle.types.specs.declared.Rejected.{Rejected}
+use Rattle.types.specs.declared.Rejected.TheVariants.{Twice, Itself, Undefined}
 use Rattle.types.specs.declared.Kept.{Kept}
 
 -- a TYPE stands there, among at most 1,024 strings
@@ -38,9 +40,9 @@ pub record SomeFields (ws : List ℕ) (at n : ℕ) : Type 0 where
 -- the field there, and the place past it
 pub record FieldIs (ws : List ℕ) (at : ℕ) (r : FieldAt) : Type 0 where
   pub is : (ns : List ℕ) (n : ℕ) (v : Tree Expr (one_row FieldRow)) (end : ℕ) → Stands ws ns n at v end
-      → (r.name ≡ (field_decl v).name) × (r.head ≡ head (field_decl v).ty) × (r.arg ≡ arg (field_decl v).ty) × (r.next ≡ end)
+      → (r.name ≡ (field_decl v).name) × (r.ty.head ≡ head (field_decl v).ty) × (r.ty.arg ≡ arg (field_decl v).ty) × (r.next ≡ end)
   pub name_small : r.name < 16777216
-  pub arg_small : r.arg < 16777216
+  pub arg_small : r.ty.arg < 16777216
 
 -- ---- a field's code: 0 where it is kept, else its diagnostic's
 
@@ -60,6 +62,17 @@ code_of rows owner before name head arg = pick (said rows owner name before) 5 (
 -- the same of a field as it is declared
 abbrev pub field_code : List Row → (owner : ℕ) → (before : List FieldDecl) → FieldDecl → ℕ
 field_code rows owner before f = code_of rows owner before f.name (head f.ty) (arg f.ty)
+
+-- the code that each reason of the program stands for, and that of its answer
+abbrev pub code_of_why : Rejected → ℕ
+code_of_why Twice = 5
+code_of_why Itself = 6
+code_of_why Undefined = 7
+
+-- 0 where the field is kept
+abbrev pub code_told : Result (Unit {0}) Rejected → ℕ
+code_told (Ok u) = 0
+code_told (Err why) = code_of_why why
 
 -- the diagnostic of a code 5, 6 or 7
 unfoldable pub note_of : (code line owner name arg : ℕ) → Row

@@ -3,23 +3,35 @@
 
 ghost use Rattle.std.specs.Prelude.{◌≡◌, List, ℕ, ◌+◌, ◌*◌, ◌≤◌, ◌<◌, length};
 ghost use Rattle.table.specs.Rows.{Row, width, note_width};
-ghost use Rattle.runs.specs.Runs.{Keeps};
+ghost use Rattle.runs.specs.Runs.{KeptIn};
 ghost use Rattle.tree.specs.Sorts.{FieldDecl as FieldRow, type_def};
 ghost use Rattle.tree.specs.Tree.{row as one_row};
 ghost use Rattle.tree.specs.Stands.{SomeTree};
 ghost use Rattle.steps.specs.Held.{Fit, Notes, pushing};
 ghost use Rattle.collect.specs.Code.{CollectsAny};
-ghost use Rattle.types.specs.Types.{SomeType, SomeFields, FieldIs, Below, type_code, note_of, grown as grown_of, Codes, Looks, Checks, KeepsField, Enters, Defines};
+ghost use Rattle.types.specs.Types.{SomeType, SomeFields, FieldIs, Below, type_code, code_told, code_of_why, note_of, grown as grown_of, Codes, Looks, Checks, KeepsField, Enters, Defines};
 
+use lookup::Typed;
 use steps::Counts;
+use table::Rows;
 
 // A field of a TYPE: its name, its type, and the place past it.
 #[derive(Clone, Copy)]
 pub struct FieldAt {
     pub name: u32,
-    pub head: u32,
-    pub arg: u32,
+    pub ty: Typed,
     pub next: usize,
+}
+
+// Why a field is not kept.
+#[derive(Clone, Copy, Debug, PartialEq, Eq)]
+pub enum Rejected {
+    // one of its name is kept
+    Twice,
+    // its type is the TYPE that it is a field of
+    Itself,
+    // its type is no TYPE
+    Undefined,
 }
 
 // The run, how many fields are kept so far, and their words.
@@ -36,83 +48,89 @@ fn field_at(words: &[u32], at: usize) -> FieldAt
     ensures { FieldIs words.now at result }
 {
     let name = words[at] % 16777216;
-    let t = parts::type_ref(words, at + 1);
-    FieldAt {
-        name: name,
-        head: t.head,
-        arg: t.arg,
-        next: t.next,
-    }
+    let (ty, next) = parts::type_ref(words, at + 1);
+    FieldAt { name, ty, next }
 }
 
-// 0 where a type may stand in the TYPE `owner`, else the code of its diagnostic. Its own name is asked first: its row may be there or not.
-fn type_code(b: &[u32], count: usize, owner: u32, head: u32, arg: u32) -> u32
-    requires { (count * width ≤ length b.now) × (arg < 16777216) }
-    ensures { (rows : List Row) → Keeps rows count b.now → result ≡ type_code rows owner head arg }
+// Whether a type may stand in the TYPE `owner`. Its own name is asked first: its row may be there or not.
+fn check_type(rows: &Rows<'_>, owner: u32, ty: Typed) -> Result<(), Rejected>
+    requires { ty.arg < 16777216 }
+    ensures { (rs : List Row) → KeptIn rs rows.now → code_told result ≡ type_code rs owner ty.head ty.arg }
 {
-    if head != 45 {
-        return 0;
+    if ty.head != 45 {
+        return Ok(());
     }
-    if arg == owner {
-        return 6;
+    if ty.arg == owner {
+        return Err(Rejected::Itself);
     }
-    if lookup::has(b, count, 130, arg, 0) {
-        return 0;
+    if lookup::has(rows, 130, ty.arg, 0) {
+        return Ok(());
     }
-    7
+    Err(Rejected::Undefined)
 }
 
-// 0 where the field is kept, else the code of its diagnostic. The names of the fields that were kept have the mark `mark` in `seen`, and this one's gets it
-// where it is kept too.
-fn field_code(b: &[u32], seen: &mut [u8], count: usize, owner: u32, mark: u8, f: FieldAt) -> u32
-    requires { (count * width ≤ length b.now) × (f.name < length seen.old) × (f.arg < 16777216) }
-    ensures { Codes mark owner count f.name f.head f.arg result b.now seen.old seen.new }
+// Whether the field is kept. The names of the fields that were kept have the mark `mark` in `seen`, and this one's gets it where it is kept too.
+fn check_field(
+    rows: &Rows<'_>,
+    seen: &mut [u8],
+    owner: u32,
+    mark: u8,
+    f: FieldAt,
+) -> Result<(), Rejected>
+    requires { (f.name < length seen.old) × (f.ty.arg < 16777216) }
+    ensures { Codes mark owner rows.now.count f.name f.ty.head f.ty.arg (code_told result) rows.now.words.now seen.old seen.new }
 {
     let x = f.name as usize;
     if seen[x] == mark {
-        return 5;
+        return Err(Rejected::Twice);
     }
-    let code = type_code(b, count, owner, f.head, f.arg);
-    if code != 0 {
-        return code;
-    }
+    check_type(rows, owner, f.ty)?;
     seen[x] = mark;
-    0
+    Ok(())
 }
 
 // The diagnostic of a field that is not kept.
-fn reject(d: &mut [u32], s: Counts, code: u32, line: u32, owner: u32, f: FieldAt) -> Counts
-    requires { (s.notes * note_width ≤ length d.old) × (owner < 16777216) × (f.name < 16777216) × (f.arg < 16777216) }
-    ensures { Notes (pushing (note_of code line owner f.name f.arg)) s result d.old d.new }
+fn reject(d: &mut [u32], s: Counts, why: Rejected, line: u32, owner: u32, f: FieldAt) -> Counts
+    requires { (s.notes * note_width ≤ length d.old) × (owner < 16777216) × (f.name < 16777216) × (f.ty.arg < 16777216) }
+    ensures { Notes (pushing (note_of (code_of_why why) line owner f.name f.ty.arg)) s result d.old d.new }
 {
-    match code {
-        5 => steps::push(d, s, 5, line, f.name + 1, owner + 1, 0, 0),
-        6 => steps::push(d, s, 6, line, owner + 1, 0, 0, 0),
-        _ => steps::push(d, s, 7, line, f.name + 1, f.arg + 1, 0, 0),
+    match why {
+        Rejected::Twice => steps::push(d, s, 5, line, f.name + 1, owner + 1, 0, 0),
+        Rejected::Itself => steps::push(d, s, 6, line, owner + 1, 0, 0, 0),
+        Rejected::Undefined => steps::push(d, s, 7, line, f.name + 1, f.ty.arg + 1, 0, 0),
     }
 }
 
 // A field looked at: its diagnostic, or its words, and 9 where they are too many.
-fn look(b: &[u32], d: &mut [u32], s: Kept, code: u32, line: u32, owner: u32, f: FieldAt) -> Kept
-    requires { Fit s.counts (length b.now) (length d.old) × (s.words ≤ 65535) × (s.fields < 16777216) × (owner < 16777216) × (f.name < 16777216) × (f.arg < 16777216) }
-    ensures { Looks line owner code f.name f.head f.arg s result b.now d.old d.new }
+fn look(
+    b: &[u32],
+    d: &mut [u32],
+    s: Kept,
+    told: Result<(), Rejected>,
+    line: u32,
+    owner: u32,
+    f: FieldAt,
+) -> Kept
+    requires { Fit s.counts (length b.now) (length d.old) × (s.words ≤ 65535) × (s.fields < 16777216) × (owner < 16777216) × (f.name < 16777216) × (f.ty.arg < 16777216) }
+    ensures { Looks line owner (code_told told) f.name f.ty.head f.ty.arg s result b.now d.old d.new }
 {
     let c = s.counts;
-    if code != 0 {
-        let t = reject(d, c, code, line, owner, f);
+    if let Err(why) = told {
         return Kept {
-            counts: t,
-            fields: s.fields,
-            words: s.words,
+            counts: reject(d, c, why, line, owner, f),
+            ..s
         };
     }
-    let more = lookup::type_words(b, c.rows, f.head, f.arg);
+    let rows = Rows {
+        words: b,
+        count: c.rows,
+    };
+    let more = lookup::type_words(&rows, f.ty.head, f.ty.arg);
     if collect::TYPE_WORDS - s.words < more {
-        let t = steps::stop(c, 9);
         return Kept {
-            counts: t,
+            counts: steps::stop(c, 9),
             fields: s.fields + 1,
-            words: s.words,
+            ..s
         };
     }
     Kept {
@@ -137,20 +155,21 @@ fn check(
     requires { Fit s (length b.now) (length d.old) × SomeFields words.now at n × (owner < 16777216) × (n < 16777216) × Below 1 seen.old }
     ensures { Checks words.now at n line owner s result b.now d.old d.new × Below 2 seen.new }
 {
-    let rows = s.rows;
+    let rows = Rows {
+        words: b,
+        count: s.rows,
+    };
     let mut c = Kept {
         counts: s,
         fields: 0,
         words: 0,
     };
     let mut a = at;
-    let mut i = 0;
-    while i < n {
+    for _ in 0..n {
         let f = field_at(words, a);
-        let code = field_code(b, seen, rows, owner, 1, f);
-        c = look(b, d, c, code, line, owner, f);
+        let told = check_field(&rows, seen, owner, 1, f);
+        c = look(b, d, c, told, line, owner, f);
         a = f.next;
-        i += 1;
     }
     c
 }
@@ -161,22 +180,29 @@ fn grown(words: u32, more: u32) -> u32
     ensures { (result ≡ grown_of words more) × (result ≤ 65535) }
 {
     if collect::TYPE_WORDS - words < more {
-        return words;
+        words
+    } else {
+        words + more
     }
-    words + more
 }
 
 // A field entered where it is kept.
-fn keep(b: &mut [u32], s: Kept, code: u32, owner: u32, f: FieldAt) -> Kept
-    requires { (s.counts.rows * width ≤ length b.old) × (s.words ≤ 65535) × (s.fields < 16777216) × (owner < 16777216) × (f.arg < 16777216) }
-    ensures { KeepsField owner code f.name f.head f.arg s result b.old b.new }
+fn keep(b: &mut [u32], s: Kept, told: Result<(), Rejected>, owner: u32, f: FieldAt) -> Kept
+    requires { (s.counts.rows * width ≤ length b.old) × (s.words ≤ 65535) × (s.fields < 16777216) × (owner < 16777216) × (f.ty.arg < 16777216) }
+    ensures { KeepsField owner (code_told told) f.name f.ty.head f.ty.arg s result b.old b.new }
 {
-    if code != 0 {
+    if told.is_err() {
         return s;
     }
     let c = s.counts;
-    let w = grown(s.words, lookup::type_words(b, c.rows, f.head, f.arg));
-    let t = steps::enter(b, c, 131, owner, s.fields, f.name, s.words, f.head, f.arg);
+    let rows = Rows {
+        words: b,
+        count: c.rows,
+    };
+    let w = grown(s.words, lookup::type_words(&rows, f.ty.head, f.ty.arg));
+    let t = steps::enter(
+        b, c, 131, owner, s.fields, f.name, s.words, f.ty.head, f.ty.arg,
+    );
     Kept {
         counts: t,
         fields: s.fields + 1,
@@ -203,14 +229,15 @@ fn enter_fields(
         words: 0,
     };
     let mut a = at;
-    let mut i = 0;
-    while i < n {
+    for _ in 0..n {
         let f = field_at(words, a);
-        let t = c.counts;
-        let code = field_code(b, seen, t.rows, owner, 2, f);
-        c = keep(b, c, code, owner, f);
+        let rows = Rows {
+            words: b,
+            count: c.counts.rows,
+        };
+        let told = check_field(&rows, seen, owner, 2, f);
+        c = keep(b, c, told, owner, f);
         a = f.next;
-        i += 1;
     }
     c.counts
 }
@@ -256,8 +283,12 @@ pub fn type_def(
     let line = words[at] % 16777216;
     let name = words[at + 1] % 16777216;
     let n = words[at + 2] % 16777216;
-    let twice = lookup::has(b, s.rows, 130, name, 0);
-    let prev = lookup::word(b, s.rows, 130, name, 0, 3);
+    let rows = Rows {
+        words: b,
+        count: s.rows,
+    };
+    let twice = lookup::has(&rows, 130, name, 0);
+    let prev = lookup::word(&rows, 130, name, 0, 3);
     let t1 = steps::push_if(d, s, twice, 3, line, name + 1, 0, 0, prev);
     let t2 = steps::push_if(d, t1, scope != 0, 4, line, name + 1, 0, 0, 0);
     fields(words, b, d, t2, line, name, at + 3, n)

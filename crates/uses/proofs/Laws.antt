@@ -10,13 +10,11 @@ use borrow.Author.Tests.{eq-eqb, ne_eqb}
 use Rattle.words.specs.Word.{pick}
 use Rattle.words.specs.Told.{Told, stops, gives, after, unless}
 use Rattle.words.specs.Refusals.{refused}
-use Rattle.words.specs.declared.Refusal.TheVariants.{Word, Depth, Lookup}
+use Rattle.words.specs.declared.Refusal.TheVariants.{Word, Lookup}
 use Rattle.expr.specs.Expr.{Expr}
 use Rattle.expr.specs.Got.{Got}
-use Rattle.expr.specs.Answer.{step_of}
+use Rattle.expr.specs.Answer.{step_of, refusal_of, Step}
 use Rattle.expr.specs.declared.Cursor.{Cursor}
-use Rattle.expr.specs.declared.Step.{Step}
-use Rattle.expr.specs.declared.Step.TheVariants.{Read, Wrong, Deep}
 use Rattle.tree.specs.Sorts.{body}
 use Rattle.tree.specs.Tree.{one, Tree, Program}
 use Rattle.tree.specs.Stands.{Stands, SomeTree}
@@ -27,21 +25,18 @@ use Rattle.reader.specs.Program.{program_of, whole_of}
 use Rattle.lent.specs.Rules.{is_marked}
 use Rattle.subscripts.specs.Subscripts.{in_expr, subscript_count}
 use Rattle.subscripts.specs.Code.{use_of}
-use Rattle.subscripts.specs.declared.Use.{Use}
 use Rattle.uses.specs.Count.{count_of, told, WasRead}
-use Rattle.uses.specs.declared.Answer.TheVariants.{Counted, NoUse}
+use Rattle.std.specs.Prelude.{Option as RustOption, Ok, Err, Some, None}
+use Rattle.expr.specs.declared.Misread.{Misread}
+use Rattle.expr.specs.declared.Misread.TheVariants.{Wrong, Deep}
 
 -- ---- what the walk found
 
--- a use was found: its count
-pub counted_told : (u : Use) → u.found ≡ true → told (Counted u.count) ≡ gives (use_of u)
+-- the answer of the walk, told
+pub found_told : (u : RustOption ℕ) → told (Ok u) ≡ gives (use_of u)
 unfolding told use_of
-counted_told u q = rw q refl
-
--- none was: none
-pub none_told : (u : Use) → u.found ≡ false → told NoUse ≡ gives (use_of u)
-unfolding told use_of
-none_told u q = rw q refl
+found_told (Some n) = refl
+found_told None = refl
 
 -- ---- what stands there
 
@@ -84,15 +79,11 @@ module _ {ns ws : List ℕ} {at : ℕ} (R : WasRead ns ws at) where
 
 module _ (ns ws : List ℕ) (name : ℕ) where
   -- it was read, up to a place
-  pub was_read : {s : Step} {c : Cursor} → s ≡ step_of (program_at ws ns (length ns)) → s ≡ Read c → WasRead ns ws c.at
+  pub was_read : {s : Step} {c : Cursor} → s ≡ step_of (program_at ws ns (length ns)) → s ≡ Ok c → WasRead ns ws c.at
   was_read e q = let r = answer_read (program_at ws ns (length ns)) e q in record { body = r.tree; reads = r.is }
 
-  -- a wrong word: 2
-  pub wrong_is : {s : Step} {p : ℕ} → s ≡ step_of (program_at ws ns (length ns)) → s ≡ Wrong p → refused (Word p) ≡ count_of ns ws name
+  -- it was not: the refusal that a `?` makes of what was wrong
+  pub misread_is : {s : Step} {m : Misread} → s ≡ step_of (program_at ws ns (length ns)) → s ≡ Err m → refused (refusal_of m) ≡ count_of ns ws name
   unfolding count_of program_of whole_of refused after
-  wrong_is e q = rw (answer_wrong (program_at ws ns (length ns)) e q) refl
-
-  -- one too deep: 3
-  pub deep_is : {s : Step} {p : ℕ} → s ≡ step_of (program_at ws ns (length ns)) → s ≡ Deep p → refused (Depth p) ≡ count_of ns ws name
-  unfolding count_of program_of whole_of refused after
-  deep_is e q = rw (answer_deep (program_at ws ns (length ns)) e q) refl
+  misread_is {m = Wrong p} e q = rw (answer_wrong (program_at ws ns (length ns)) e q) refl
+  misread_is {m = Deep p} e q = rw (answer_deep (program_at ws ns (length ns)) e q) refl

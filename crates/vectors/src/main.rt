@@ -5,50 +5,38 @@
 ghost use Rattle.std.specs.Prelude.{◌≡◌, ℕ, ◌+◌, ◌/◌, ◌%◌, ◌<◌, ◌≤◌, T, length, ◌==◌};
 ghost use Rattle.std.specs.Float.Ieee.Scale.{finite};
 
-use numbers::{Halves, Narrow, TwoWords, Whole};
+use numbers::{Halves, TwoWords};
 use std::io;
 
 // A line is a letter, two numbers of 16 hexadecimal digits, each after a blank, and a line end.
 const LINE: usize = 36;
 
+// A hexadecimal digit, from 0 or from a on; a line holds no other byte. (Not the library's `to_digit`: it reads capitals too.)
 fn digit(b: u8) -> u32 {
-    if b < 97 {
-        if b < 48 {
-            return 0;
-        }
-        return (b as u32) - 48;
+    match b {
+        0..=47 => 0,
+        48..=96 => u32::from(b) - 48,
+        _ => u32::from(b) - 87,
     }
-    (b as u32) - 87
 }
 
-// Eight digits.
-fn word(s: &[u8], at: usize) -> u32
-    requires { at + 8 ≤ length s.now }
-{
+// Hexadecimal digits, of which the last eight count.
+fn word(digits: &[u8]) -> u32 {
     let mut w: u32 = 0;
-    let mut i = 0;
-    while i < 8 {
-        w = std::num::wrapping_add_u32(w << 4, digit(s[at + i]));
-        i += 1;
+    for &b in digits {
+        w = (w << 4).wrapping_add(digit(b));
     }
     w
 }
 
-fn words(s: &[u8], at: usize) -> TwoWords
-    requires { at + 16 ≤ length s.now }
+// Sixteen digits.
+fn words(digits: &[u8]) -> TwoWords
+    requires { length digits.now ≡ 16 }
 {
-    let high = word(s, at);
     TwoWords {
-        low: word(s, at + 8),
-        high,
+        low: word(&digits[8..]),
+        high: word(&digits[..8]),
     }
-}
-
-fn same(a: TwoWords, b: TwoWords) -> bool {
-    if a.low == b.low {
-        return a.high == b.high;
-    }
-    false
 }
 
 fn not_finite(w: TwoWords) -> bool
@@ -62,44 +50,48 @@ fn float(w: TwoWords) -> f64
     ensures { T (finite result) }
 {
     if not_finite(w) {
-        return 0.0;
+        0.0
+    } else {
+        numbers::of_words(w.low, w.high)
     }
-    numbers::of_words(w.low, w.high)
 }
 
 fn bits(x: f64) -> TwoWords {
     if numbers::is_finite(x) {
-        return numbers::words_of(x);
+        numbers::words_of(x)
+    } else {
+        TwoWords { low: 0, high: 0 }
     }
-    TwoWords { low: 0, high: 0 }
 }
 
 fn narrows(x: TwoWords, y: TwoWords) -> bool {
     match numbers::to_single(float(x)) {
-        Narrow::To(v) => same(bits(v), y),
-        Narrow::Over => not_finite(y),
+        Some(v) => bits(v) == y,
+        None => not_finite(y),
     }
 }
 
 fn rounds(x: TwoWords, y: TwoWords) -> bool {
     match numbers::to_long(Halves::Even, float(x)) {
-        Whole::At(z) => z == numbers::of_whole_words(y.low, y.high),
-        Whole::Out => y.high == 2147483648,
+        Some(z) => z == numbers::of_whole_words(y.low, y.high),
+        None => y.high == 2147483648,
     }
 }
 
 fn widens(x: TwoWords, y: TwoWords) -> bool {
-    same(
-        bits(numbers::to_double(numbers::of_whole_words(x.low, x.high))),
-        y,
-    )
+    bits(numbers::to_double(numbers::of_whole_words(x.low, x.high))) == y
 }
 
-fn right(letter: u8, x: TwoWords, y: TwoWords) -> bool {
-    match letter {
-        110 => narrows(x, y),
-        114 => rounds(x, y),
-        119 => widens(x, y),
+// Whether a line's second number is what becomes of the first.
+fn right(line: &[u8]) -> bool
+    requires { length line.now ≡ LINE }
+{
+    let x = words(&line[2..18]);
+    let y = words(&line[19..35]);
+    match line[0] {
+        b'n' => narrows(x, y),
+        b'r' => rounds(x, y),
+        b'w' => widens(x, y),
         _ => false,
     }
 }
@@ -107,26 +99,19 @@ fn right(letter: u8, x: TwoWords, y: TwoWords) -> bool {
 // How many lines begin with this letter, and how many of them are right.
 #[derive(Clone, Copy)]
 struct Score {
-    all: u64,
-    right: u64,
+    all: usize,
+    right: usize,
 }
 
 fn count(s: &[u8], letter: u8) -> Score {
-    let mut all: u64 = 0;
-    let mut good: u64 = 0;
-    let mut left = s.len() / LINE;
-    let mut at = 0;
-    while 0 < left {
-        if s[at] == letter {
-            all = std::num::wrapping_add_u64(all, 1);
-            if right(letter, words(s, at + 2), words(s, at + 19)) {
-                good = std::num::wrapping_add_u64(good, 1);
-            }
+    let mut score = Score { all: 0, right: 0 };
+    for line in s.chunks_exact(LINE) {
+        if line[0] == letter {
+            score.all += 1;
+            score.right += usize::from(right(line));
         }
-        at += LINE;
-        left -= 1;
     }
-    Score { all, right: good }
+    score
 }
 
 fn print(rt: &impl Print, name: &str, c: Score) -> io::Result<()> {
@@ -134,10 +119,10 @@ fn print(rt: &impl Print, name: &str, c: Score) -> io::Result<()> {
 }
 
 fn main(rt: HostRuntime) -> io::Result<()> {
-    let mut buffer = programs::file_room();
+    let mut buffer: [u8; 65536] = programs::room(0);
     let n = programs::read_full(&mut rt.stdin(), &mut buffer)?;
     let s = &buffer[..n];
-    print(&rt, "narrowed", count(s, 110))?;
-    print(&rt, "rounded", count(s, 114))?;
-    print(&rt, "whole", count(s, 119))
+    print(&rt, "narrowed", count(s, b'n'))?;
+    print(&rt, "rounded", count(s, b'r'))?;
+    print(&rt, "whole", count(s, b'w'))
 }

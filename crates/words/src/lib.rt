@@ -30,7 +30,7 @@ pub fn payload(w: u32) -> u32
 }
 
 // What stops a call, in document 01's order of its numbers, with the place where there is one.
-#[derive(Clone, Copy)]
+#[derive(Clone, Copy, Debug, PartialEq, Eq)]
 pub enum Refusal {
     // over a size: 5
     Size,
@@ -56,40 +56,33 @@ pub enum Refusal {
     TypeWords,
 }
 
-// Document 01's number of a refusal.
-pub fn number(r: Refusal) -> u32
-    ensures { result ≡ number_of r }
-{
-    match r {
-        Refusal::Size => 5,
-        Refusal::Strings(_) => 1,
-        Refusal::Word(_) => 2,
-        Refusal::Depth(_) => 3,
-        Refusal::Erased => 4,
-        Refusal::Rows => 6,
-        Refusal::Lookup => 11,
-        Refusal::Output => 10,
-        Refusal::RowsFull => 7,
-        Refusal::DiagnosticsFull => 8,
-        Refusal::TypeWords => 9,
+impl Refusal {
+    // Document 01's number of it.
+    pub fn number(self) -> u32
+        ensures { result ≡ number_of self }
+    {
+        match self {
+            Refusal::Size => 5,
+            Refusal::Strings(_) => 1,
+            Refusal::Word(_) => 2,
+            Refusal::Depth(_) => 3,
+            Refusal::Erased => 4,
+            Refusal::Rows => 6,
+            Refusal::Lookup => 11,
+            Refusal::Output => 10,
+            Refusal::RowsFull => 7,
+            Refusal::DiagnosticsFull => 8,
+            Refusal::TypeWords => 9,
+        }
     }
-}
 
-// Its place, 0 where it has none.
-pub fn place(r: Refusal) -> usize
-    ensures { result ≡ place_of r }
-{
-    match r {
-        Refusal::Strings(p) => p,
-        Refusal::Word(p) => p,
-        Refusal::Depth(p) => p,
-        Refusal::Size => 0,
-        Refusal::Erased => 0,
-        Refusal::Rows => 0,
-        Refusal::Lookup => 0,
-        Refusal::Output => 0,
-        Refusal::RowsFull => 0,
-        Refusal::DiagnosticsFull => 0,
-        Refusal::TypeWords => 0,
+    // Its place, 0 where it has none.
+    pub fn place(self) -> usize
+        ensures { result ≡ place_of self }
+    {
+        match self {
+            Refusal::Strings(p) | Refusal::Word(p) | Refusal::Depth(p) => p,
+            _ => 0,
+        }
     }
 }

@@ -5,20 +5,20 @@ use Rattle.collecting.specs.Start.{start_ready}
 use Rattle.analyse.proofs.Laws.{check_ready, tabled}
 use Rattle.analyse.proofs.tables.Goals as goal
 
-pub statements-m-requires : goal.statements-m-requires
-statements-m-requires c = (start_ready c.requires.0 c.begin_in-s.ensures, c.requires.1)
+pub statements-c-requires : goal.statements-c-requires
+statements-c-requires c = (start_ready c.requires.0 c.begin_in-s.ensures, c.requires.1)
 
 pub settle-requires : goal.settle-requires
-settle-requires c = c.statements-m.ensures.kept.fit.0
+settle-requires c = c.statements-c.ensures.kept.fit.0
 
 pub collisions-d-requires : goal.collisions-d-requires
-collisions-d-requires c = check_ready c.requires.0 c.statements-m.ensures.kept c.settle.ensures
+collisions-d-requires c = check_ready c.requires.0 c.statements-c.ensures.kept c.settle.ensures
 
 pub finish-requires : goal.finish-requires
 finish-requires c = (c.collisions-d.ensures.does []).fit.0
 
 pub shape_of-rows : goal.shape_of-rows
-shape_of-rows c = c.finish.auto.b ∙ c.settle.auto.b ∙ c.statements-m.auto.b ∙ c.begin_in-s.auto.b
+shape_of-rows c = c.finish.auto.b ∙ c.settle.auto.b ∙ c.statements-c.auto.b ∙ c.begin_in-s.auto.b
 
 pub returns : goal.returns
-returns c = tabled c.requires.0 c.begin_in-s.ensures c.statements-m.ensures c.settle.ensures c.collisions-d.ensures c.finish.ensures
+returns c = tabled c.requires.0 c.begin_in-s.ensures c.statements-c.ensures c.settle.ensures c.collisions-d.ensures c.finish.ensures

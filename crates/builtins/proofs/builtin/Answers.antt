@@ -1,8 +1,7 @@
--- `builtin`: a name that fails the quick test is none, and the code's table is the definition's, by computation. Assumes nothing.
-use mathlib.Core.Path.{refl, sym, ap, ◌∙◌}
-use Rattle.words.specs.Word.{flatten}
+-- builtin: a name that fails the quick test is none, and the code's table is the definition's, by computation.
+use mathlib.Core.Path.{sym, ap, ◌∙◌}
 use Rattle.text.specs.Text.{ascii}
-use Rattle.builtins.specs.Builtins.{cells, builtins, takes, cells_of}
+use Rattle.builtins.specs.Builtins.{builtins, takes, builtin}
 use Rattle.builtins.specs.Answers.{arguments_of}
 use Rattle.builtins.proofs.Names.{no_builtin}
 use Rattle.builtins.proofs.builtin.Goals as goal
@@ -10,6 +9,6 @@ use Rattle.builtins.proofs.builtin.Goals as goal
 pub returns-then-not-may_be : goal.returns-then-not-may_be
 returns-then-not-may_be c = sym (ap arguments_of (no_builtin _ (sym c.may_be.ensures ∙ c.if-not-may_be.true)))
 
-pub search-requires : goal.search-requires
-unfolding flatten cells builtins takes ascii cells_of
-search-requires c = refl
+pub returns : goal.returns
+unfolding builtin builtins takes ascii
+returns c = c.search.ensures

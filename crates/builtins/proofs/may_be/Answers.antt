@@ -1,17 +1,25 @@
--- `may_be` by its tests, in turn: the length, then what the first byte asks of it. Assumes nothing.
-use mathlib.Core.Path.{◌∙◌}
+-- may_be: by the length, and then by what the first byte asks of it.
+use Rattle.std.proofs.Common.{ℕ, ◌≡◌, ◌≤◌, ◌<◌, false, List, length, ◌∙◌, arith}
 use borrow.Author.Tests.{le-leb, lt-leb}
 use Rattle.builtins.specs.Builtins.{may_be}
 use Rattle.builtins.proofs.may_be.Goals as goal
 
-pub returns-then-n-lt3 : goal.returns-then-n-lt3
+too_short : (name : List ℕ) → length name < 3 → false ≡ may_be name
 unfolding may_be
-returns-then-n-lt3 c = simp (lt-leb _ _ c.if-n-lt3.true)
+too_short name h = rw (lt-leb 3 (length name) h)
 
-pub returns-then-n-gt7 : goal.returns-then-n-gt7
+too_long : (name : List ℕ) → 7 < length name → false ≡ may_be name
 unfolding may_be
-returns-then-n-gt7 c = simp (le-leb _ _ c.if-n-lt3.false, lt-leb _ _ c.if-n-gt7.true)
+too_long name h =
+    let k : 3 ≤ length name = omega arith in
+    rw (le-leb 3 (length name) k, lt-leb (length name) 7 h)
 
-pub returns : goal.returns
+pub returns-in-3-to-7 : goal.returns-in-3-to-7
 unfolding may_be
-returns c = c.length_fits.ensures ∙ simp (le-leb _ _ c.if-n-lt3.false, le-leb _ _ c.if-n-gt7.false)
+returns-in-3-to-7 c = c.length_fits.ensures ∙ rw (le-leb 3 (length c.args.name.now) (omega arith), le-leb (length c.args.name.now) 7 (omega arith))
+
+pub returns-in_default : goal.returns-in_default
+returns-in_default c = too_short c.args.name.now (omega arith)
+
+pub returns-in_default-2 : goal.returns-in_default-2
+returns-in_default-2 c = too_long c.args.name.now (omega arith)

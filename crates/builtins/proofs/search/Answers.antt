@@ -1,31 +1,56 @@
--- `search`: the entries from i on decide. Assumes nothing.
-use mathlib.Core.Path.{refl, sym, ap, ◌∙◌}
-use Prim.Native.Nat.{ℕ}
-use native.Mathlib.Omega.{arith}
-use Rattle.builtins.specs.Builtins.{builtin}
-use Rattle.builtins.specs.Answers.{arguments_of}
-use Rattle.builtins.proofs.Names.{entry_at, cell_least, cell_most, entry_here, entry_next, entry_end}
-use Rattle.builtins.specs.declared.Arguments.TheVariants.{Takes}
+-- search: the first entry that has the name is the definition's.
+use Rattle.std.proofs.Common.{ℕ, ◌≡◌, Bool, true, false, eqb, cond, List, [], ◌∷◌, map, Option, Some, refl, ap, ◌∙◌, arith, rules, tests}
+use Rattle.std.specs.Cmp.Lexicographic.{pointwise}
+use Rattle.std.specs.List.{find}
+use Rattle.std.specs.Option.{option_map}
+use Rattle.std.proofs.lemmas.Bool.Decides.{nat_tests}
+use Rattle.std.proofs.Math.Option.{some}
+use Rattle.words.specs.Word.{pick}
+use Rattle.std.proofs.lemmas.Iterator.{YieldsList-from_slice}
+use Rattle.std.proofs.lemmas.Iterator.Search.{find_from_yields_List}
+use Rattle.builtins.specs.declared.Arguments.{Arguments}
+use Rattle.builtins.specs.declared.Takes.{Takes}
+use Rattle.builtins.specs.Builtins.{same, entry_of}
+use Rattle.builtins.specs.Answers.{arguments_of, told}
 use Rattle.builtins.proofs.search.Goals as goal
 
-pub loop-i-init : goal.loop-i-init
-unfolding builtin
-loop-i-init c = (omega arith, refl)
+abbrev given : Takes → Arguments
+given e = record { least = e.1; most = e.2 }
 
-pub is_named-requires : goal.is_named-requires
-is_named-requires c = (c.requires, omega arith)
+abbrev named : List ℕ → Takes → Bool
+named name e = pointwise eqb e.0.now name
 
-pub cell-requires : goal.cell-requires
-cell-requires c = (c.requires, omega (arith, c.loop-i-test.true), omega arith)
+flip : (x y : ℕ) → eqb x y ≡ eqb y x
+flip x y = grind (arith, nat_tests)
 
-pub cell-requires-then-is_named : goal.cell-requires-then-is_named
-cell-requires-then-is_named c = (c.requires, omega (arith, c.loop-i-test.true), omega arith)
+same_as : (a b : List ℕ) → same a b ≡ pointwise eqb b a
+unfolding same
+same_as [] [] = refl
+same_as [] (y ∷ b) = refl
+same_as (x ∷ a) [] = refl
+same_as (x ∷ a) (y ∷ b) = rw (flip x y, same_as a b)
 
-pub returns-then-is_named : goal.returns-then-is_named
-returns-then-is_named c = ap (λ (x : ℕ). Takes x c.cell-then-is_named.result) (c.cell.ensures ∙ cell_least c.loop-i.i c.loop-i-test.true) ∙ ap (λ (x : ℕ). Takes (entry_at c.loop-i.i).least x) (c.cell-then-is_named.ensures ∙ cell_most c.loop-i.i c.loop-i-test.true) ∙ sym (ap arguments_of (c.loop-i.invariant.1 ∙ entry_here c.args.name.now c.loop-i.i c.loop-i-test.true (sym c.is_named.ensures ∙ c.if-is_named.true)))
+found : (name : List ℕ) (l : List Takes) → option_map given (find (named name) l) ≡ arguments_of (entry_of name (map told l))
+unfolding entry_of
+found name [] = refl
+found name (e ∷ l) = rw (same_as name e.0.now) (go (named name e) (found name l))
+  where
+    go : (t : Bool) → option_map given (find (named name) l) ≡ arguments_of (entry_of name (map told l))
+        → option_map given (cond t (Some e) (find (named name) l)) ≡ arguments_of (pick t (some (told e)) (entry_of name (map told l)))
+    go true h = refl
+    go false h = h
 
-pub loop-i-preserved : goal.loop-i-preserved
-loop-i-preserved c = (omega (arith, c.loop-i-test.true), c.loop-i.invariant.1 ∙ entry_next c.args.name.now c.loop-i.i c.loop-i-test.true (sym c.is_named.ensures ∙ c.if-is_named.false))
+answer : (name : List ℕ) (l : List Takes) (r : Option Takes) → r ≡ find (named name) l → option_map given r ≡ arguments_of (entry_of name (map told l))
+answer name l r e = ap (option_map given) e ∙ found name l
+
+pub returns-in_err-entry : goal.returns-in_err-entry
+returns-in_err-entry c =
+    let name = c.args.name.now in
+    let first = find_from_yields_List (named name) _ _ c.find.result c.find.ensures.ran (YieldsList-from_slice c.args.entries.now c.iter.ensures.rest) (λ x b q k. search (rules, tests)) in
+    c.from_residual.ensures ∙ (rw c.in_err-entry.was at (answer name c.args.entries.now _ first))
 
 pub returns : goal.returns
-returns c = sym (ap arguments_of (c.loop-i.invariant.1 ∙ entry_end c.args.name.now c.loop-i.i c.loop-i-test.false))
+returns c =
+    let name = c.args.name.now in
+    let first = find_from_yields_List (named name) _ _ c.find.result c.find.ensures.ran (YieldsList-from_slice c.args.entries.now c.iter.ensures.rest) (λ x b q k. search (rules, tests)) in
+    rw c.in_ok-entry.was at (answer name c.args.entries.now _ first)

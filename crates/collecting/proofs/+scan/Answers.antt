@@ -26,8 +26,8 @@ inside-own-requires t c = (stmt_some c.loop-at.invariant.2 c.loop-at-test.true c
 pub procedure-t-requires : goal.procedure-t-requires
 procedure-t-requires t c = procedure_ready c.loop-at.invariant.2 c.loop-at-test.true c.requires.0 (omega (arith, c.in-84.if-words-at-lt84-own.false)) (omega (arith, c.in-84.if-this-lt86-own.true)) (c.past-e.ensures.gives c.requires.1) c.in-84.if-words-at-lt84-own.false c.in-84.if-this-lt86-own.true
 
-pub overflow_add-m : goal.overflow_add-m
-overflow_add-m t c = omega (arith, scan_fits c.loop-at.invariant.2 c.loop-at-test.true c.requires.0, c.ranges.to)
+pub overflow_add-first : goal.overflow_add-first
+overflow_add-first t c = omega (arith, scan_fits c.loop-at.invariant.2 c.loop-at-test.true c.requires.0, c.ranges.to)
 
 pub scan-t-requires : goal.scan-t-requires
 scan-t-requires t c = (omega (arith, c.decreases, c.loop-at.invariant.2.ahead, (stmt_span c.loop-at.invariant.2 c.loop-at-test.true c.requires.0 (omega (arith, c.in-84.if-words-at-lt84-own.false)) (omega (arith, c.in-84.if-this-lt86-own.true)) (c.past-e.ensures.gives c.requires.1))), (body_ready c.loop-at.invariant.2 c.loop-at-test.true c.requires.0 (omega (arith, c.in-84.if-words-at-lt84-own.false)) (omega (arith, c.in-84.if-this-lt86-own.true)) (λ i. (c.shared_slice_known-1.given i).fits) (c.past-e.ensures.gives c.requires.1) c.inside-own.ensures (stated_kept c.loop-at.invariant.2 c.loop-at-test.true c.requires.0 (omega (arith, c.in-84.if-words-at-lt84-own.false)) (omega (arith, c.in-84.if-this-lt86-own.true)) (λ i. (c.shared_slice_known-1.given i).fits) (c.procedure-t.ensures _)), c.requires.1))

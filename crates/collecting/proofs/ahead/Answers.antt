@@ -15,23 +15,23 @@ offset_bounds-words-at c = omega (arith, some_inside (some_on c.requires c.loop-
 pub bounds-words-at : goal.bounds-words-at
 bounds-words-at c = omega (arith, some_inside (some_on c.requires c.loop-at.invariant), c.loop-at-test.true)
 
-pub returns-then-n-eq0-clause-passes : goal.returns-then-n-eq0-clause-passes
-returns-then-n-eq0-clause-passes c = c.loop-at.invariant
+pub returns-in_default-clause-passes : goal.returns-in_default-clause-passes
+returns-in_default-clause-passes c = c.loop-at.invariant
 
-pub returns-then-n-eq0-clause-doing : goal.returns-then-n-eq0-clause-doing
-returns-then-n-eq0-clause-doing c = λ h. none_taken c.quiet-n.ensures c.if-n-eq0.true
+pub returns-in_default-clause-doing : goal.returns-in_default-clause-doing
+returns-in_default-clause-doing c = λ h. none_taken c.quiet.ensures c.in_default.is
 
 pub overflow_add-at : goal.overflow_add-at
-overflow_add-at c = omega (arith, some_inside (some_on c.requires c.loop-at.invariant), c.loop-at-test.true, few_taken c.quiet-n.ensures)
+overflow_add-at c = omega (arith, some_inside (some_on c.requires c.loop-at.invariant), c.loop-at-test.true, few_taken c.quiet.ensures c.in-Some.is)
 
 pub leaves-at-requires-in-loop-at : goal.leaves-at-requires-in-loop-at
-leaves-at-requires-in-loop-at c = some_on (some_on c.requires c.loop-at.invariant) (pass c.loop-at-test.true c.quiet-n.ensures c.if-n-eq0.false)
+leaves-at-requires-in-loop-at c = some_on (some_on c.requires c.loop-at.invariant) (pass c.loop-at-test.true c.quiet.ensures c.in-Some.is)
 
 pub loop-at-smaller : goal.loop-at-smaller
-loop-at-smaller c = omega (arith, c.leaves-at-in-loop-at.ensures.ahead, c.loop-at-test.true, c.if-n-eq0.false)
+loop-at-smaller c = omega (arith, c.leaves-at-in-loop-at.ensures.ahead, c.loop-at-test.true, few_taken c.quiet.ensures c.in-Some.is)
 
 pub loop-at-preserved : goal.loop-at-preserved
-loop-at-preserved c = passes_then c.loop-at.invariant (passes_then (pass c.loop-at-test.true c.quiet-n.ensures c.if-n-eq0.false) c.leaves-at-in-loop-at.ensures)
+loop-at-preserved c = passes_then c.loop-at.invariant (passes_then (pass c.loop-at-test.true c.quiet.ensures c.in-Some.is) c.leaves-at-in-loop-at.ensures)
 
 pub returns-clause-passes : goal.returns-clause-passes
 returns-clause-passes c = c.loop-at.invariant

@@ -1,10 +1,6 @@
 -- The loop goes past one leaf after the other. Assumes nothing.
-use Prim.Native.Nat.{◌-◌}
 use Rattle.collecting.specs.Walk.{Passes}
 use Rattle.collecting.proofs.leaves.Given as goal
 
 abbrev pub invariant-loop-at : goal.invariant-loop-at
 invariant-loop-at l = Passes l.words l.from l.at l.to
-
-abbrev pub decreases-loop-at : goal.decreases-loop-at
-decreases-loop-at l = l.to - l.at

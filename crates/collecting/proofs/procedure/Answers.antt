@@ -15,5 +15,5 @@ returns-then-words-at-eq84 c = λ erased. sub_done c.if-words-at-eq84.true c.sub
 pub function-requires : goal.function-requires
 function-requires c = function_there c.requires (function_kind_lem c.requires c.if-words-at-eq84.false)
 
-pub returns : goal.returns
-returns c = λ erased. function_done (function_kind_lem c.requires c.if-words-at-eq84.false) c.function.ensures
+pub returns-else-words-at-eq84 : goal.returns-else-words-at-eq84
+returns-else-words-at-eq84 c = λ erased. function_done (function_kind_lem c.requires c.if-words-at-eq84.false) c.function.ensures

@@ -2,8 +2,8 @@
 use Rattle.collecting.proofs.Walk.{memo_ends, whole_scanning, whole_scanned}
 use Rattle.collecting.proofs.statements.Goals as goal
 
-pub scan-c-requires : goal.scan-c-requires
-scan-c-requires c = (whole_scanning c.requires.0, memo_ends c.requires.0 c.requires.1)
+pub scan-requires : goal.scan-requires
+scan-requires c = (whole_scanning c.requires.0, memo_ends c.requires.0 c.requires.1)
 
 pub returns : goal.returns
-returns c = whole_scanned c.requires.0 c.scan-c.ensures
+returns c = whole_scanned c.requires.0 c.scan.ensures

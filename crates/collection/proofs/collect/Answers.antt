@@ -1,33 +1,32 @@
 -- 5, then 1, and then the checks of the tree. Assumes nothing.
-use mathlib.Core.Path.{refl, sym, ◌∙◌}
-use native.Mathlib.Omega.{arith}
-use Rattle.words.specs.Refusals.{refused}
-use Rattle.strings.specs.OpenLaws.{said_sound, answers_size, answers_breaks, answers_inner}
+use Rattle.std.proofs.Common.{refl, sym, ◌∙◌, arith}
+use Rattle.std.proofs.lemmas.Result.{err_from_is_err_and}
+use Rattle.reader.specs.Begun.{begun_opened, begun_stops, begun_gives}
 use Rattle.reader.proofs.Laws.{few_strings', as_many, few_marks}
 use Rattle.collect.specs.PassedLaws.{marks_named}
 use Rattle.collection.specs.Entry.{told}
-use Rattle.collection.proofs.Entry.{leaves_size, leaves_breaks, leaves_told}
+use Rattle.collection.proofs.Entry.{leaves_begun, leaves_told}
 use Rattle.collection.proofs.collect.Goals as goal
 
-pub returns-then-not-sized_program : goal.returns-then-not-sized_program
-unfolding told refused
-returns-then-not-sized_program c = record { answers = answers_size (sym c.sized_program.ensures ∙ c.if-not-sized_program.true) refl; leaves = leaves_size c.args.rows.now c.args.notes.now }
+pub marks-requires : goal.marks-requires
+marks-requires c = λ e. few_strings' c.args.bytes.now c.args.ends.now c.args.words.now c.args.erased.now (sym c.sized_program-sized.ensures ∙ e)
 
-pub returns-in-Breaks : goal.returns-in-Breaks
-unfolding told refused
-returns-in-Breaks c = record { answers = answers_breaks (sym c.sized_program.ensures ∙ c.if-not-sized_program.false) c.check-v.ensures c.in-Breaks.is refl; leaves = leaves_breaks c.args.rows.now c.args.notes.now 0 }
-
-pub names_of-names-requires : goal.names_of-names-requires
-names_of-names-requires c = (said_sound c.check-v.ensures c.in_default.is, (few_strings' c.args.bytes.now c.args.ends.now c.args.words.now c.args.erased.now (sym c.sized_program.ensures ∙ c.if-not-sized_program.false)))
+pub returns-in_err-names : goal.returns-in_err-names
+unfolding told
+returns-in_err-names c =
+    let p = err_from_is_err_and c.from_residual.result c.from_residual.ensures.1 in
+    rw (p.1, p.2) (record { answers = begun_stops (rw c.sized_program-sized.ensures at c.marks.ensures) c.in_err-names.was refl; leaves = leaves_begun _ c.args.bytes.now c.args.ends.now c.args.rows.now c.args.notes.now c.marks.ensures c.in_err-names.was })
 
 pub slice_bounds-names-end : goal.slice_bounds-names-end
-slice_bounds-names-end c = omega (arith, c.names_of-names.ensures.long, (few_strings' c.args.bytes.now c.args.ends.now c.args.words.now c.args.erased.now (sym c.sized_program.ensures ∙ c.if-not-sized_program.false)))
+slice_bounds-names-end c = let o = begun_opened c.marks.ensures c.in_ok-names.was in omega (arith, o.names.long, few_strings' c.args.bytes.now c.args.ends.now c.args.words.now c.args.erased.now (sym c.sized_program-sized.ensures ∙ o.within))
 
 pub slice_bounds-checked-end : goal.slice_bounds-checked-end
-slice_bounds-checked-end c = as_many c.names_of-names.ensures (few_strings' c.args.bytes.now c.args.ends.now c.args.words.now c.args.erased.now (sym c.sized_program.ensures ∙ c.if-not-sized_program.false))
+slice_bounds-checked-end c = let o = begun_opened c.marks.ensures c.in_ok-names.was in as_many o.names (few_strings' c.args.bytes.now c.args.ends.now c.args.words.now c.args.erased.now (sym c.sized_program-sized.ensures ∙ o.within))
 
 pub checked-requires : goal.checked-requires
-checked-requires c = (marks_named (said_sound c.check-v.ensures c.in_default.is) c.names_of-names.ensures, few_marks c.names_of-names.ensures (few_strings' c.args.bytes.now c.args.ends.now c.args.words.now c.args.erased.now (sym c.sized_program.ensures ∙ c.if-not-sized_program.false)))
+checked-requires c =
+    let o = begun_opened c.marks.ensures c.in_ok-names.was in
+    (marks_named o.right o.names, few_marks o.names (few_strings' c.args.bytes.now c.args.ends.now c.args.words.now c.args.erased.now (sym c.sized_program-sized.ensures ∙ o.within)))
 
 pub returns : goal.returns
-returns c = record { answers = answers_inner (sym c.sized_program.ensures ∙ c.if-not-sized_program.false) (said_sound c.check-v.ensures c.in_default.is) c.checked.ensures.is; leaves = leaves_told c.checked.ensures }
+returns c = record { answers = begun_gives (rw c.sized_program-sized.ensures at c.marks.ensures) c.in_ok-names.was c.checked.ensures.is; leaves = leaves_told c.checked.ensures }

@@ -3,11 +3,11 @@ use Rattle.collecting.specs.Start.{start_ready}
 use Rattle.collection.proofs.Entry.{run_tabled}
 use Rattle.collection.proofs.tables.Goals as goal
 
-pub statements-m-requires : goal.statements-m-requires
-statements-m-requires c = (start_ready c.requires.0 c.begin-s.ensures, c.requires.1)
+pub statements-t-requires : goal.statements-t-requires
+statements-t-requires c = (start_ready c.requires.0 c.begin-s.ensures, c.requires.1)
 
 pub finish-requires : goal.finish-requires
-finish-requires c = c.statements-m.ensures.kept.fit.0
+finish-requires c = c.statements-t.ensures.kept.fit.0
 
 pub returns : goal.returns
-returns c = run_tabled (λ i. (c.shared_slice_known-1.given i).fits) c.requires.0 c.begin-s.ensures c.statements-m.ensures c.finish.ensures
+returns c = run_tabled (λ i. (c.shared_slice_known-1.given i).fits) c.requires.0 c.begin-s.ensures c.statements-t.ensures c.finish.ensures

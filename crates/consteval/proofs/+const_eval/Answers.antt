@@ -1,7 +1,7 @@
 -- The proof of `const_eval`, which calls itself: the number of words left falls. Each answer is a law of `Laws` at the place. Assumes nothing.
-use mathlib.Core.Path.{sym, ◌∙◌}
 use native.Mathlib.Omega.{arith}
-use Rattle.consteval.proofs.Laws.{some_expr, holds_consts, literal_at_lem, row, good, moves, here, alone, name_fits, name_is, operand, negated_is, not_is, left_side, right_side, failed_is, combined_is, inner, paren_is, other_is}
+use borrow.Author.Rules.{rules}
+use Rattle.consteval.proofs.Laws.{no_value, some_expr, holds_consts, literal_at_lem, row, good, moves, here, alone, name_fits, name_is, operand, negated_is, not_is, left_side, right_side, failed_is, combined_is, inner, paren_is, other_is}
 use Rattle.consteval.proofs.+const_eval.Goals as goal
 
 pub offset_bounds-words-at : goal.offset_bounds-words-at
@@ -61,8 +61,8 @@ const_eval-l-requires t c = (omega (arith, here (left_side c.in-20.is c.requires
 pub failed-requires : goal.failed-requires
 failed-requires t c = some_expr (right_side c.in-20.is c.const_eval-l.ensures c.requires)
 
-pub returns-then-not-is_value : goal.returns-then-not-is_value
-returns-then-not-is_value t c = failed_is c.in-20.is c.const_eval-l.ensures (sym (c.is_value.ensures c.const_eval-l.result.next c.const_eval-l.result.kind c.const_eval-l.result.low c.const_eval-l.result.high) ∙ c.if-not-is_value.true) c.failed.ensures
+pub returns-then-is_err : goal.returns-then-is_err
+returns-then-is_err t c = failed_is c.in-20.is c.const_eval-l.ensures (no_value c.const_eval-l.result.value (search rules)) c.failed.ensures
 
 pub const_eval-r-requires : goal.const_eval-r-requires
 const_eval-r-requires t c = (omega (arith, moves (left_side c.in-20.is c.requires) c.const_eval-l.ensures, here (right_side c.in-20.is c.const_eval-l.ensures c.requires), c.decreases), right_side c.in-20.is c.const_eval-l.ensures c.requires)
@@ -100,11 +100,11 @@ returns-in-17 t c = name_is c.in-17.is c.constant.ensures
 pub returns-else-words-at-ne0 : goal.returns-else-words-at-ne0
 returns-else-words-at-ne0 t c = negated_is c.in-19.is c.if-words-at-ne0.false c.const_eval.ensures c.negated.ensures
 
-pub returns-else-not-is_value : goal.returns-else-not-is_value
-returns-else-not-is_value t c = combined_is c.in-20.is c.const_eval-l.ensures c.const_eval-r.ensures c.combined.ensures
+pub returns-else-is_err : goal.returns-else-is_err
+returns-else-is_err t c = combined_is c.in-20.is c.const_eval-l.ensures c.const_eval-r.ensures c.combined.ensures
 
 pub returns-in-23 : goal.returns-in-23
 returns-in-23 t c = paren_is c.in-23.is c.const_eval-in-23.ensures
 
 pub returns-in_default : goal.returns-in_default
-returns-in_default t c = other_is c.in_default.in_default-own.rest.0.0.0.0.1 c.in_default.in_default-own.rest.0.0.0.1 c.in_default.in_default-own.rest.0.0.1 c.in_default.in_default-own.rest.0.1 c.in_default.in_default-own.rest.1 c.opaque-in_default.ensures
+returns-in_default t c = other_is (λ e. omega arith) (λ e. omega arith) (λ e. omega arith) (λ e. omega arith) (λ e. omega arith) c.opaque-in_default.ensures

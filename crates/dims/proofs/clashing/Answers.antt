@@ -1,18 +1,21 @@
 -- `clashing`: one law for each answer. Assumes nothing.
-use Rattle.dims.proofs.Asking.{clash_new, clash_kept, clash_same, clash_preserve, clash_other}
+use mathlib.Core.Path.{refl}
+use Rattle.dims.proofs.Asking.{clash_kept, clash_same, clash_other}
+use Rattle.dims.specs.Declarators.{clash_of}
 use Rattle.dims.proofs.clashing.Goals as goal
 
-pub returns-then-not-old : goal.returns-then-not-old
-returns-then-not-old c = clash_new c.args.erased.now c.args.redim c.args.preserve c.args.name c.args.rank c.args.old c.if-not-old.true
+pub returns-in_err-old : goal.returns-in_err-old
+unfolding clash_of
+returns-in_err-old c = rw c.in_err-old.was c.from_residual.ensures
 
 pub returns-then-kept : goal.returns-then-kept
-returns-then-kept c = clash_kept c.args.erased.now c.args.redim c.args.preserve c.args.name c.args.rank c.args.old c.if-not-old.false c.kept.ensures c.if-kept.true
+returns-then-kept c = rw c.in_ok-old.was (clash_kept c.args.erased.now c.args.redim c.args.preserve c.args.name c.args.rank _ c.kept.ensures c.if-kept.true)
 
 pub returns-then-old-rank : goal.returns-then-old-rank
-returns-then-old-rank c = clash_same c.args.erased.now c.args.redim c.args.preserve c.args.name c.args.rank c.args.old c.if-not-old.false c.kept.ensures c.if-kept.false c.if-old-rank.true
+returns-then-old-rank c = rw c.in_ok-old.was (clash_same c.args.erased.now c.args.redim c.args.preserve c.args.name c.args.rank _ c.kept.ensures c.if-kept.false c.if-old-rank.true)
 
 pub returns-then-preserve : goal.returns-then-preserve
-returns-then-preserve c = clash_preserve c.args.erased.now c.args.redim c.args.preserve c.args.name c.args.rank c.args.old c.if-not-old.false c.kept.ensures c.if-kept.false c.if-old-rank.false c.if-preserve.true
+returns-then-preserve c = rw c.in_ok-old.was (clash_other c.args.erased.now c.args.redim c.args.preserve c.args.name c.args.rank _ c.kept.ensures c.if-kept.false c.if-old-rank.false (rw c.if-preserve.true refl))
 
-pub returns : goal.returns
-returns c = clash_other c.args.erased.now c.args.redim c.args.preserve c.args.name c.args.rank c.args.old c.if-not-old.false c.kept.ensures c.if-kept.false c.if-old-rank.false c.if-preserve.false
+pub returns-else-preserve : goal.returns-else-preserve
+returns-else-preserve c = rw c.in_ok-old.was (clash_other c.args.erased.now c.args.redim c.args.preserve c.args.name c.args.rank _ c.kept.ensures c.if-kept.false c.if-old-rank.false (rw c.if-preserve.false refl))

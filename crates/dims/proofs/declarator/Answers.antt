@@ -5,14 +5,14 @@ use Rattle.dims.proofs.declarator.Goals as goal
 pub bounds-words-at : goal.bounds-words-at
 bounds-words-at c = decl_inside c.requires
 
-pub dimensions-d-requires : goal.dimensions-d-requires
-dimensions-d-requires c = decl_dims c.requires
+pub dimensions-rank-requires : goal.dimensions-rank-requires
+dimensions-rank-requires c = decl_dims c.requires
 
-pub lowers-l-requires : goal.lowers-l-requires
-lowers-l-requires c = decl_lows c.requires c.dimensions-d.ensures
+pub lowers-lower-requires : goal.lowers-lower-requires
+lowers-lower-requires c = decl_lows c.requires c.dimensions-rank.ensures
 
-pub as_type-t-requires : goal.as_type-t-requires
-as_type-t-requires c = decl_type c.requires c.dimensions-d.ensures c.lowers-l.ensures
+pub as_type-ty-requires : goal.as_type-ty-requires
+as_type-ty-requires c = decl_type c.requires c.dimensions-rank.ensures c.lowers-lower.ensures
 
 pub returns : goal.returns
-returns c = decl_is c.dimensions-d.ensures c.lowers-l.ensures c.as_type-t.ensures
+returns c = decl_is c.dimensions-rank.ensures c.lowers-lower.ensures c.as_type-ty.ensures

@@ -11,23 +11,17 @@ bounds-words-at c = list_inside c.requires.1.stands
 pub overflow_add-m : goal.overflow_add-m
 overflow_add-m c = omega (arith, list_inside c.requires.1.stands)
 
-pub loop-left-init : goal.loop-left-init
-loop-left-init c = (declare_start c.args.bytes.now c.args.ends.now c.args.erased.now c.args.scope c.args.line c.args.redim c.args.preserve _ _ _ c.requires.0, c.requires.0, refl, refl)
+pub loop-init : goal.loop-init
+loop-init c = (declare_start c.args.bytes.now c.args.ends.now c.args.erased.now c.args.scope c.args.line c.args.redim c.args.preserve _ _ _ c.requires.0, c.requires.0, refl, refl)
 
 pub declarator-v-requires : goal.declarator-v-requires
-declarator-v-requires c = some_row (ready_row c.requires.1 c.loop-left.invariant.0 c.loop-left-test.true)
+declarator-v-requires c = some_row (ready_row c.requires.1 c.loop.invariant.0 c.loop-test.true)
 
 pub declared-c-requires : goal.declared-c-requires
-declared-c-requires c = (c.loop-left.invariant.1, c.declarator-v.ensures.small, ready_name c.requires.1 c.loop-left.invariant.0 c.loop-left-test.true c.declarator-v.ensures)
+declared-c-requires c = (c.loop.invariant.1, c.declarator-v.ensures.small, ready_name c.requires.1 c.loop.invariant.0 c.loop-test.true c.declarator-v.ensures)
 
-pub loop-left-preserved : goal.loop-left-preserved
-loop-left-preserved c = (declare_next c.args.bytes.now c.args.ends.now c.args.erased.now c.args.scope c.args.line c.args.redim c.args.preserve c.loop-left.invariant.0 c.loop-left-test.true c.declarator-v.ensures c.declared-c.ensures, c.declared-c.ensures.fit, c.declared-c.auto.b ∙ c.loop-left.invariant.2, c.declared-c.auto.d ∙ c.loop-left.invariant.3)
-
-pub shape_of-b : goal.shape_of-b
-shape_of-b c = c.loop-left.invariant.2
-
-pub shape_of-d : goal.shape_of-d
-shape_of-d c = c.loop-left.invariant.3
+pub loop-preserved : goal.loop-preserved
+loop-preserved c = (declare_next c.args.bytes.now c.args.ends.now c.args.erased.now c.args.scope c.args.line c.args.redim c.args.preserve c.loop.invariant.0 c.loop-test.true c.declarator-v.ensures c.declared-c.ensures, c.declared-c.ensures.fit, c.declared-c.auto.b ∙ c.loop.invariant.2, c.declared-c.auto.d ∙ c.loop.invariant.3)
 
 pub returns : goal.returns
-returns c = declare_end c.args.bytes.now c.args.ends.now c.args.erased.now c.args.scope c.args.line c.args.redim c.args.preserve c.loop-left.invariant.0 c.loop-left-test.false
+returns c = declare_end c.args.bytes.now c.args.ends.now c.args.erased.now c.args.scope c.args.line c.args.redim c.args.preserve c.loop.invariant.0 c.loop-test.false

@@ -7,8 +7,5 @@ use mathlib.Core.Path.{◌≡◌}
 use Prim.Native.Nat.{◌+◌}
 use Rattle.dims.proofs.declare_all.Given as goal
 
-abbrev pub invariant-loop-left : goal.invariant-loop-left
-invariant-loop-left l = Declaring l.bytes l.ends l.erased l.scope l.line l.redim l.preserve l.words (l.at + 1) (pay_of (get_or l.words l.at 0)) l.m l.left l.initial.c l.c l.initial.b l.initial.d l.b l.d × Fit l.c (length l.b) (length l.d) × (length l.b ≡ length l.initial.b) × (length l.d ≡ length l.initial.d)
-
-abbrev pub decreases-loop-left : goal.decreases-loop-left
-decreases-loop-left l = l.left
+abbrev pub invariant-loop : goal.invariant-loop
+invariant-loop l = Declaring l.bytes l.ends l.erased l.scope l.line l.redim l.preserve l.words (l.at + 1) (pay_of (get_or l.words l.at 0)) l.m l.counter l.initial.c l.c l.initial.b l.initial.d l.b l.d × Fit l.c (length l.b) (length l.d) × (length l.b ≡ length l.initial.b) × (length l.d ≡ length l.initial.d)

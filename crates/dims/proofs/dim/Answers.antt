@@ -1,5 +1,5 @@
 -- `dim`: SHARED, then each declarator. Assumes nothing.
-use Rattle.dims.proofs.Statements.{dim_begun, shares_fit, dim_does}
+use Rattle.dims.proofs.Statements.{dim_begun, begun_flag, shares_fit, dim_does}
 use Rattle.dims.proofs.Doing.{ready_tree}
 use native.Mathlib.Omega.{arith}
 use Rattle.dims.proofs.dim.Goals as goal
@@ -7,14 +7,8 @@ use Rattle.dims.proofs.dim.Goals as goal
 pub bounds-words-at : goal.bounds-words-at
 bounds-words-at c = omega (arith, (dim_begun c.requires.0).inside)
 
-pub past-flag-requires : goal.past-flag-requires
-past-flag-requires c = ready_tree (dim_begun c.requires.0).list
-
-pub offset_bounds-words-flag : goal.offset_bounds-words-flag
-offset_bounds-words-flag c = omega (arith, (dim_begun c.requires.0).flag_inside c.past-flag.ensures)
-
-pub bounds-words-flag : goal.bounds-words-flag
-bounds-words-flag c = (dim_begun c.requires.0).flag_inside c.past-flag.ensures
+pub flag_after-shared-requires : goal.flag_after-shared-requires
+flag_after-shared-requires c = begun_flag (dim_begun c.requires.0)
 
 pub share-t-requires : goal.share-t-requires
 share-t-requires c = (c.requires.1, ready_tree (dim_begun c.requires.0).list)
@@ -23,4 +17,6 @@ pub declare_all-requires : goal.declare_all-requires
 declare_all-requires c = (shares_fit (dim_begun c.requires.0).list c.share-t.ensures, (dim_begun c.requires.0).list)
 
 pub returns : goal.returns
-returns c = dim_does c.past-flag.ensures c.share-t.ensures c.declare_all.ensures
+returns c =
+    let F = c.flag_after-shared.ensures in
+    dim_does F.past (rw F.is at c.share-t.ensures) c.declare_all.ensures

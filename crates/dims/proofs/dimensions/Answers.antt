@@ -8,8 +8,8 @@ bounds-words-at c = dims_inside c.requires
 pub returns-then-w-eq0 : goal.returns-then-w-eq0
 returns-then-w-eq0 c = dims_absent c.if-w-eq0.true
 
-pub exprs-next-requires : goal.exprs-next-requires
-exprs-next-requires c = dims_rows c.if-w-eq0.false c.requires
+pub exprs-requires : goal.exprs-requires
+exprs-requires c = dims_rows c.if-w-eq0.false c.requires
 
 pub returns : goal.returns
-returns c = dims_present c.if-w-eq0.false c.exprs-next.ensures
+returns c = dims_present c.if-w-eq0.false c.exprs.ensures

@@ -1,17 +1,16 @@
 -- `exprs`: so many rows of one expression, each skipped. Assumes nothing.
-use native.Mathlib.Omega.{arith}
 use Rattle.parts.specs.Turns.{turn_start, turn_some, turn_next, turn_end}
 use Rattle.dims.proofs.Reading.{some_expr, row_past}
 use Rattle.dims.proofs.exprs.Goals as goal
 
-pub loop-left-init : goal.loop-left-init
-loop-left-init c = turn_start (λ l. Unit {0}) tt _ _ _
+pub loop-init : goal.loop-init
+loop-init c = turn_start (λ l. Unit {0}) tt _ _ _
 
 pub expr-at-requires : goal.expr-at-requires
-expr-at-requires c = some_expr (turn_some c.loop-left.invariant c.loop-left-test.true c.requires)
+expr-at-requires c = some_expr (turn_some c.loop.invariant c.loop-test.true c.requires)
 
-pub loop-left-preserved : goal.loop-left-preserved
-loop-left-preserved c = turn_next c.loop-left.invariant c.loop-left-test.true (λ l. Unit {0}) c.expr-at.result (λ ns n r end S. (row_past c.expr-at.ensures ns n r end S, λ l p. tt))
+pub loop-preserved : goal.loop-preserved
+loop-preserved c = turn_next c.loop.invariant c.loop-test.true (λ l. Unit {0}) c.expr-at.result (λ ns n r end S. (row_past c.expr-at.ensures ns n r end S, λ l many p. tt))
 
 pub returns : goal.returns
-returns c = λ ns k rs end S e. (turn_end c.loop-left.invariant (omega arith) ns k rs end S e).0
+returns c = λ ns k rs end S e. (turn_end c.loop.invariant c.loop-test.false ns k rs end S e).0

@@ -3,8 +3,5 @@ use Rattle.tree.specs.Sorts.{expr, nil, ◌&◌}
 use Rattle.dims.proofs.Reading.{Passing}
 use Rattle.dims.proofs.exprs.Given as goal
 
-abbrev pub invariant-loop-left : goal.invariant-loop-left
-invariant-loop-left l = Passing (expr & nil) l.words l.from l.n l.at l.left
-
-abbrev pub decreases-loop-left : goal.decreases-loop-left
-decreases-loop-left l = l.left
+abbrev pub invariant-loop : goal.invariant-loop
+invariant-loop l = Passing (expr & nil) l.words l.from l.n l.at l.counter

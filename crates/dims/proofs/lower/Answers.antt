@@ -8,8 +8,8 @@ bounds-words-at c = lower_inside c.requires
 pub returns-then-words-at-eq0 : goal.returns-then-words-at-eq0
 returns-then-words-at-eq0 c = lower_absent c.if-words-at-eq0.true
 
-pub expr-next-requires : goal.expr-next-requires
-expr-next-requires c = lower_expr c.if-words-at-eq0.false c.requires
+pub expr-requires : goal.expr-requires
+expr-requires c = lower_expr c.if-words-at-eq0.false c.requires
 
 pub returns : goal.returns
-returns c = lower_present c.if-words-at-eq0.false c.expr-next.ensures
+returns c = lower_present c.if-words-at-eq0.false c.expr.ensures

@@ -7,17 +7,17 @@ use Rattle.dims.proofs.lowers.Goals as goal
 pub bounds-words-at : goal.bounds-words-at
 bounds-words-at c = list_inside c.requires.stands
 
-pub overflow_add-any : goal.overflow_add-any
-overflow_add-any c = omega (arith, list_inside c.requires.stands)
+pub overflow_add-m : goal.overflow_add-m
+overflow_add-m c = omega (arith, list_inside c.requires.stands)
 
-pub loop-left-init : goal.loop-left-init
-loop-left-init c = low_start _ _ _
+pub loop-init : goal.loop-init
+loop-init c = low_start _ _ _
 
-pub lower-o-requires : goal.lower-o-requires
-lower-o-requires c = turn_some c.loop-left.invariant c.loop-left-test.true (list_rows c.requires)
+pub lower-there-requires : goal.lower-there-requires
+lower-there-requires c = turn_some c.loop.invariant c.loop-test.true (list_rows c.requires)
 
-pub loop-left-preserved : goal.loop-left-preserved
-loop-left-preserved c = low_next c.loop-left.invariant c.loop-left-test.true c.lower-o.ensures c.either.ensures
+pub loop-preserved : goal.loop-preserved
+loop-preserved c = low_next c.loop.invariant c.loop-test.true c.lower-there.ensures
 
 pub returns : goal.returns
-returns c = low_end c.loop-left.invariant c.loop-left-test.false
+returns c = low_end c.loop.invariant c.loop-test.false

@@ -6,8 +6,5 @@ use Rattle.tree.specs.Sorts.{Declarator}
 use Rattle.dims.proofs.Reading.{Passing}
 use Rattle.dims.proofs.past.Given as goal
 
-abbrev pub invariant-loop-left : goal.invariant-loop-left
-invariant-loop-left l = Passing Declarator l.words (l.at + 1) (pay_of (get_or l.words l.at 0)) l.m l.left
-
-abbrev pub decreases-loop-left : goal.decreases-loop-left
-decreases-loop-left l = l.left
+abbrev pub invariant-loop : goal.invariant-loop
+invariant-loop l = Passing Declarator l.words (l.at + 1) (pay_of (get_or l.words l.at 0)) l.m l.counter

@@ -1,23 +1,18 @@
 -- `redim`: each declarator. Assumes nothing.
-use Rattle.dims.proofs.Statements.{redim_begun, redim_does}
-use Rattle.dims.proofs.Doing.{ready_tree}
+use Rattle.dims.proofs.Statements.{redim_begun, begun_flag, redim_does}
 use native.Mathlib.Omega.{arith}
 use Rattle.dims.proofs.redim.Goals as goal
 
 pub bounds-words-at : goal.bounds-words-at
 bounds-words-at c = omega (arith, (redim_begun c.requires.0).inside)
 
-pub past-flag-requires : goal.past-flag-requires
-past-flag-requires c = ready_tree (redim_begun c.requires.0).list
-
-pub offset_bounds-words-flag : goal.offset_bounds-words-flag
-offset_bounds-words-flag c = omega (arith, (redim_begun c.requires.0).flag_inside c.past-flag.ensures)
-
-pub bounds-words-flag : goal.bounds-words-flag
-bounds-words-flag c = (redim_begun c.requires.0).flag_inside c.past-flag.ensures
+pub flag_after-preserve-requires : goal.flag_after-preserve-requires
+flag_after-preserve-requires c = begun_flag (redim_begun c.requires.0)
 
 pub declare_all-requires : goal.declare_all-requires
 declare_all-requires c = (c.requires.1, (redim_begun c.requires.0).list)
 
 pub returns : goal.returns
-returns c = redim_does c.past-flag.ensures c.declare_all.ensures
+returns c =
+    let F = c.flag_after-preserve.ensures in
+    redim_does F.past (rw F.is at c.declare_all.ensures)

@@ -7,8 +7,5 @@ use mathlib.Core.Path.{◌≡◌}
 use Prim.Native.Nat.{◌+◌, ◌*◌, ◌≤◌}
 use Rattle.dims.proofs.share_all.Given as goal
 
-abbrev pub invariant-loop-left : goal.invariant-loop-left
-invariant-loop-left l = Sharing l.words (l.at + 1) (pay_of (get_or l.words l.at 0)) l.m l.left l.initial.c l.c l.initial.b l.b × (l.c.rows * width ≤ length l.b) × (length l.b ≡ length l.initial.b)
-
-abbrev pub decreases-loop-left : goal.decreases-loop-left
-decreases-loop-left l = l.left
+abbrev pub invariant-loop : goal.invariant-loop
+invariant-loop l = Sharing l.words (l.at + 1) (pay_of (get_or l.words l.at 0)) l.m l.counter l.initial.c l.c l.initial.b l.b × (l.c.rows * width ≤ length l.b) × (length l.b ≡ length l.initial.b)

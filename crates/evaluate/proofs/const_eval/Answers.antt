@@ -1,32 +1,27 @@
 -- The entry: 5, then 1, then the rest of its checks and its work. Assumes nothing.
-use mathlib.Core.Path.{sym, ap, ◌∙◌}
-use native.Mathlib.Omega.{arith}
-use Rattle.words.specs.Refusals.{refused}
-use Rattle.strings.specs.OpenLaws.{said_sound, answers_size, answers_breaks, answers_inner}
+use Rattle.std.proofs.Common.{sym, ap, ◌∙◌, arith}
+use Rattle.reader.specs.Begun.{begun_opened, begun_stops, begun_gives}
 use Rattle.reader.proofs.Laws.{few_strings, as_many, few_marks}
 use Rattle.evaluate.specs.Evaluate.{eval_of}
 use Rattle.evaluate.proofs.Laws.{moved_by}
 use Rattle.evaluate.proofs.const_eval.Goals as goal
 
-pub returns-then-not-sized_tree : goal.returns-then-not-sized_tree
-unfolding refused
-returns-then-not-sized_tree c = record { answers = answers_size (sym c.sized_tree.ensures ∙ c.if-not-sized_tree.true) c.refused.ensures.told; moved = moved_by c.refused.ensures }
-
-pub returns-in-Breaks : goal.returns-in-Breaks
-unfolding refused
-returns-in-Breaks c = record { answers = answers_breaks (sym c.sized_tree.ensures ∙ c.if-not-sized_tree.false) c.check-v.ensures c.in-Breaks.is c.refused-in-Breaks.ensures.told; moved = moved_by c.refused-in-Breaks.ensures }
-
-pub names_of-names-requires : goal.names_of-names-requires
-names_of-names-requires c = (said_sound c.check-v.ensures c.in_default.is, few_strings c.args.bytes.now c.args.ends.now c.args.words.now (sym c.sized_tree.ensures ∙ c.if-not-sized_tree.false))
+pub marks-requires : goal.marks-requires
+marks-requires c = λ e. few_strings c.args.bytes.now c.args.ends.now c.args.words.now (sym c.sized_tree.ensures ∙ e)
 
 pub slice_bounds-names-end : goal.slice_bounds-names-end
-slice_bounds-names-end c = omega (arith, c.names_of-names.ensures.long, few_strings c.args.bytes.now c.args.ends.now c.args.words.now (sym c.sized_tree.ensures ∙ c.if-not-sized_tree.false))
+slice_bounds-names-end c = let o = begun_opened c.marks.ensures c.in-Ok.is in omega (arith, o.names.long, few_strings c.args.bytes.now c.args.ends.now c.args.words.now (sym c.sized_tree.ensures ∙ o.within))
 
 pub slice_bounds-eval_at-end : goal.slice_bounds-eval_at-end
-slice_bounds-eval_at-end c = as_many c.names_of-names.ensures (few_strings c.args.bytes.now c.args.ends.now c.args.words.now (sym c.sized_tree.ensures ∙ c.if-not-sized_tree.false))
+slice_bounds-eval_at-end c = let o = begun_opened c.marks.ensures c.in-Ok.is in as_many o.names (few_strings c.args.bytes.now c.args.ends.now c.args.words.now (sym c.sized_tree.ensures ∙ o.within))
 
 pub eval_at-requires : goal.eval_at-requires
-eval_at-requires c = few_marks c.names_of-names.ensures (few_strings c.args.bytes.now c.args.ends.now c.args.words.now (sym c.sized_tree.ensures ∙ c.if-not-sized_tree.false))
+eval_at-requires c = let o = begun_opened c.marks.ensures c.in-Ok.is in few_marks o.names (few_strings c.args.bytes.now c.args.ends.now c.args.words.now (sym c.sized_tree.ensures ∙ o.within))
 
-pub returns : goal.returns
-returns c = record { answers = answers_inner (sym c.sized_tree.ensures ∙ c.if-not-sized_tree.false) (said_sound c.check-v.ensures c.in_default.is) (c.eval_at.ensures.told ∙ ap (λ ns. eval_of ns c.args.words.now c.args.at c.args.rows.now) c.names_of-names.ensures.first); moved = moved_by c.eval_at.ensures }
+pub returns-in-Ok : goal.returns-in-Ok
+returns-in-Ok c =
+    let o = begun_opened c.marks.ensures c.in-Ok.is in
+    record { answers = begun_gives (rw c.sized_tree.ensures at c.marks.ensures) c.in-Ok.is (c.eval_at.ensures.told ∙ ap (λ ns. eval_of ns c.args.words.now c.args.at c.args.rows.now) o.names.first); moved = moved_by c.eval_at.ensures }
+
+pub returns-in-Err : goal.returns-in-Err
+returns-in-Err c = record { answers = begun_stops (rw c.sized_tree.ensures at c.marks.ensures) c.in-Err.is c.refused.ensures.told; moved = moved_by c.refused.ensures }

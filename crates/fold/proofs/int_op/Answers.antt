@@ -1,31 +1,15 @@
--- `fold::int_op` meets its contract: no result leaves 64 bits. Assumes nothing.
+-- `fold::int_op`: a product of two numbers in range stays within 64 bits. Assumes nothing.
 use mathlib.Core.Path.{sym, ap, ◌∙◌, subst}
-use lib.IntN.{ℤ, ◌+ℤ◌, ◌-ℤ◌, ◌*ℤ◌}
+use lib.IntN.{ℤ, ◌*ℤ◌}
 use mir.Syntax.{w64}
 use mir.Val.{SFits}
-use Rattle.numbers.specs.SignedLaws.{read, read2, add_fits, sub_fits, mul_fits}
+use Rattle.numbers.specs.SignedLaws.{read, read2, mul_fits}
 use Rattle.fold.specs.Fold.{int_op}
 use Rattle.fold.specs.declared.Arith.{Arith}
 use Rattle.fold.proofs.int_op.Goals as goal
 
-pub overflow_add-result : goal.overflow_add-result
-overflow_add-result c = let s = c in subst (λ (z : ℤ). SFits w64 z) (sym (read2 ◌+ℤ◌ s.ranges.x s.ranges.y)) (add_fits s.args.x s.args.y s.requires.in_range s.requires.in_range_2)
-
-pub overflow_sub-result : goal.overflow_sub-result
-overflow_sub-result c = let s = c in subst (λ (z : ℤ). SFits w64 z) (sym (read2 ◌-ℤ◌ s.ranges.x s.ranges.y)) (sub_fits s.args.x s.args.y s.requires.in_range s.requires.in_range_2)
-
 pub overflow_mul-result : goal.overflow_mul-result
 overflow_mul-result c = let s = c in subst (λ (z : ℤ). SFits w64 z) (sym (read2 ◌*ℤ◌ s.ranges.x s.ranges.y)) (mul_fits s.args.x s.args.y s.requires.in_range s.requires.in_range_2)
-
-pub returns-in-Add : goal.returns-in-Add
-returns-in-Add c =
-    let s = c in
-    read (overflow_add-result c) ∙ read2 ◌+ℤ◌ s.ranges.x s.ranges.y ∙ ap (λ (o : Arith). int_op o s.args.x s.args.y) (sym c.in-Add.is)
-
-pub returns-in-Sub : goal.returns-in-Sub
-returns-in-Sub c =
-    let s = c in
-    read (overflow_sub-result c) ∙ read2 ◌-ℤ◌ s.ranges.x s.ranges.y ∙ ap (λ (o : Arith). int_op o s.args.x s.args.y) (sym c.in-Sub.is)
 
 pub returns-in-Mul : goal.returns-in-Mul
 returns-in-Mul c =

@@ -1,38 +1,48 @@
--- open: each early return contradicts a fact of an image (`no`), and at the end all facts hold (`whole`) or the padding is not zero.
-use native.Mathlib.Omega.{arith}
-use Rattle.image.specs.Image.{strings, tree_words, erased_names}
-use Rattle.image.proofs.Laws.{no, is_count, unfilled, whole}
+-- open: each return of none contradicts a fact of an image (`no`), and at the end all facts hold (`whole`).
+use Rattle.std.proofs.Common.{◌≡◌, arith, rules}
+use Rattle.std.specs.Prelude.{Option, None}
+use Rattle.std.proofs.lemmas.Grind.{common_steps}
+use Rattle.image.specs.declared.Shape.{Shape}
+use Rattle.image.specs.Image.{opened, strings, tree_words, erased_names}
+use Rattle.image.proofs.Laws.{no, is_count, filled, whole}
 use Rattle.image.proofs.open.Goals as goal
 
 pub returns-then-n-lt12 : goal.returns-then-n-lt12
 returns-then-n-lt12 c = no c.args.image.now (λ f. omega (arith, f.exact))
 
-pub returns-then-strings-gt-MAX_STRINGS : goal.returns-then-strings-gt-MAX_STRINGS
-unfolding strings tree_words erased_names
-returns-then-strings-gt-MAX_STRINGS c = no c.args.image.now (λ f. omega (arith, f.strings_fit, c.count-strings.ensures))
+pub returns-in_err-strings : goal.returns-in_err-strings
+unfolding strings
+returns-in_err-strings c =
+    let e : ◌≡◌ {A = Option Shape} None (opened c.args.image.now) = no c.args.image.now (λ f. omega (arith, f.strings_fit, c.in_err-strings.ensures)) in
+    grind (arith, common_steps)
 
-pub returns-then-words-gt-MAX_WORDS : goal.returns-then-words-gt-MAX_WORDS
-unfolding strings tree_words erased_names
-returns-then-words-gt-MAX_WORDS c = no c.args.image.now (λ f. omega (arith, f.words_fit, c.count-words.ensures))
+pub returns-in_err-words : goal.returns-in_err-words
+unfolding tree_words
+returns-in_err-words c =
+    let e : ◌≡◌ {A = Option Shape} None (opened c.args.image.now) = no c.args.image.now (λ f. omega (arith, f.words_fit, c.in_err-words.ensures)) in
+    grind (arith, common_steps)
 
-pub returns-then-erased-gt-MAX_ERASED : goal.returns-then-erased-gt-MAX_ERASED
-unfolding strings tree_words erased_names
-returns-then-erased-gt-MAX_ERASED c = no c.args.image.now (λ f. omega (arith, f.erased_fit, c.count-erased.ensures))
+pub returns-in_err-erased : goal.returns-in_err-erased
+unfolding erased_names
+returns-in_err-erased c =
+    let e : ◌≡◌ {A = Option Shape} None (opened c.args.image.now) = no c.args.image.now (λ f. omega (arith, f.erased_fit, c.in_err-erased.ensures)) in
+    grind (arith, common_steps)
 
 pub returns-then-n-at : goal.returns-then-n-at
 unfolding strings tree_words erased_names
-returns-then-n-at c = no c.args.image.now (λ f. omega (arith, f.exact, c.count-strings.ensures, c.count-words.ensures, c.count-erased.ensures))
+returns-then-n-at c = no c.args.image.now (λ f. omega (arith, f.exact, c.in_ok-strings.ensures, c.in_ok-words.ensures, c.in_ok-erased.ensures))
 
 pub returns-then-bytes-gt-MAX_BYTES : goal.returns-then-bytes-gt-MAX_BYTES
 unfolding strings tree_words erased_names
-returns-then-bytes-gt-MAX_BYTES c = no c.args.image.now (λ f. omega (arith, f.bytes_fit, is_count c.args.image.now c.count-strings.result c.count-words.result c.count-erased.result c.last_end-bytes.result c.count-strings.ensures c.count-words.ensures c.count-erased.ensures c.last_end-bytes.ensures))
-
-pub returns-then-n-at-2 : goal.returns-then-n-at-2
-unfolding strings tree_words erased_names
-returns-then-n-at-2 c = no c.args.image.now (λ f. c.if-n-at-2.true (omega (arith, f.exact, c.count-strings.ensures, c.count-words.ensures, c.count-erased.ensures, is_count c.args.image.now c.count-strings.result c.count-words.result c.count-erased.result c.last_end-bytes.result c.count-strings.ensures c.count-words.ensures c.count-erased.ensures c.last_end-bytes.ensures)))
-
-pub returns-then-zero_from : goal.returns-then-zero_from
-returns-then-zero_from c = whole c.args.image.now c.count-strings.result c.count-words.result c.count-erased.result c.last_end-bytes.result c.count-strings.ensures c.count-words.ensures c.count-erased.ensures c.last_end-bytes.ensures c.zero_from.result (omega arith) (omega arith) (omega arith) (omega arith) (omega arith) c.zero_from.ensures c.if-zero_from.true
+returns-then-bytes-gt-MAX_BYTES c =
+    let l = c.args.image.now in
+    let s = c.in_ok-strings.ensures in
+    let w = c.in_ok-words.ensures in
+    let x = c.in_ok-erased.ensures in
+    let b = is_count l _ _ _ _ s.0 w.0 x.0 c.last_end-bytes.ensures in
+    no l (λ f. let z = filled l _ _ _ _ s.0 w.0 x.0 c.last_end-bytes.ensures f in grind (arith, common_steps))
 
 pub returns : goal.returns
-returns c = unfilled c.args.image.now c.count-strings.result c.count-words.result c.count-erased.result c.last_end-bytes.result c.count-strings.ensures c.count-words.ensures c.count-erased.ensures c.last_end-bytes.ensures c.zero_from.result c.zero_from.ensures c.if-zero_from.false
+returns c =
+    whole c.args.image.now _ _ _ _ c.in_ok-strings.ensures.0 c.in_ok-words.ensures.0 c.in_ok-erased.ensures.0 c.last_end-bytes.ensures c.zero_from.result
+    c.in_ok-strings.ensures.1 c.in_ok-words.ensures.1 c.in_ok-erased.ensures.1 (omega arith) (omega arith) c.zero_from.ensures (search rules)

@@ -1,6 +1,5 @@
 -- read_words: after i turns the first i words are the image's.
-use mathlib.Core.Path.{◌≡◌, refl}
-use native.Mathlib.Omega.{arith}
+use Rattle.std.proofs.Common.{◌≡◌, refl, arith}
 use lib.ListN.{length-set}
 use Rattle.image.specs.Image.{words_at}
 use Rattle.image.proofs.Laws.{read_more}
@@ -8,13 +7,13 @@ use Rattle.image.proofs.read_words.Goals as goal
 
 pub loop-i-init : goal.loop-i-init
 unfolding words_at
-loop-i-init c = (omega arith, refl, refl)
+loop-i-init c = record { long = refl; read = refl }
 
 pub loop-i-preserved : goal.loop-i-preserved
-loop-i-preserved c = (omega arith, simp length-set c.loop-i.invariant.1, rw c.word.ensures (read_more c.args.image.now c.args.from c.loop-i.i c.args.words.now c.loop-i.words (omega arith) c.loop-i.invariant.2))
-
-pub shape_of-words : goal.shape_of-words
-shape_of-words c = c.loop-i.invariant.1
+loop-i-preserved c = record {
+  long = simp length-set c.loop-i.invariant.long;
+  read = rw c.word.ensures (read_more c.args.image.now c.args.from c.loop-i.i c.args.words.now c.loop-i.words (omega arith) c.loop-i.invariant.read);
+}
 
 pub returns : goal.returns
-returns c = (let e : c.loop-i.i ≡ c.args.n = omega arith in rw e at c.loop-i.invariant.2)
+returns c = (let e : c.loop-i.i ≡ c.args.n = omega arith in rw e at c.loop-i.invariant.read)

@@ -1,17 +1,15 @@
--- zero_from: what is left is zero exactly where the whole is.
-use mathlib.Core.Path.{refl, sym, ◌∙◌}
-use native.Mathlib.Omega.{arith}
-use Rattle.image.proofs.Laws.{zeros_no, zeros_more, zeros_end}
+-- zero_from: the library's test of all bytes.
+use Rattle.std.proofs.Common.{rules, arith, ◌∙◌, ◌-◌, drop, eqb, length, length-drop}
+use lib.Seq.{take_all}
+use Rattle.std.proofs.lemmas.Iterator.{YieldsList-from_slice}
+use Rattle.std.proofs.lemmas.Iterator.Search.{all_from_yields_List}
+use Rattle.image.proofs.Laws.{zeros_are}
 use Rattle.image.proofs.zero_from.Goals as goal
 
-pub loop-i-init : goal.loop-i-init
-loop-i-init c = (omega arith, refl)
-
-pub returns-then-image-i-ne0 : goal.returns-then-image-i-ne0
-returns-then-image-i-ne0 c = sym (c.loop-i.invariant.1 ∙ zeros_no c.args.image.now c.loop-i.i (omega arith) c.if-image-i-ne0.true)
-
-pub loop-i-preserved : goal.loop-i-preserved
-loop-i-preserved c = (omega arith, c.loop-i.invariant.1 ∙ zeros_more c.args.image.now c.loop-i.i (omega arith) c.if-image-i-ne0.false)
-
 pub returns : goal.returns
-returns c = sym (c.loop-i.invariant.1 ∙ zeros_end c.args.image.now c.loop-i.i (omega arith))
+returns c =
+    let l = c.args.image.now in
+    let i = c.args.from in
+    all_from_yields_List (λ b. eqb b 0) _ _ _ c.all.ensures.ran
+    (YieldsList-from_slice (drop i l) (c.iter.ensures.rest ∙ take_all (length l - i) (drop i l) (omega (arith, length-drop i l)))) (λ x b q k. search rules)
+    ∙ zeros_are _

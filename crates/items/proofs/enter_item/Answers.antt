@@ -8,8 +8,8 @@ returns-then-kind-ne134 c = enters_mark c.if-kind-ne134.true _ c.word.ensures c.
 pub returns-then-i : goal.returns-then-i
 returns-then-i c = enters_array c.if-kind-ne134.false c.requires.0 c.if-i.true
 
-pub returns-then-i-eq0 : goal.returns-then-i-eq0
-returns-then-i-eq0 c = enters_untyped c.if-kind-ne134.false c.requires.0 c.if-i.false c.if-i-eq0.true
+pub returns-in-None : goal.returns-in-None
+returns-in-None c = enters_untyped c.if-kind-ne134.false c.requires.0 c.if-i.false c.in-None.is
 
-pub returns : goal.returns
-returns c = enters_typed c.if-kind-ne134.false c.if-i.false c.if-i-eq0.false c.enter-2.ensures
+pub returns-in-Some : goal.returns-in-Some
+returns-in-Some c = enters_typed c.if-kind-ne134.false c.if-i.false c.in-Some.is c.enter-in-Some.ensures

@@ -2,8 +2,5 @@
 use Rattle.items.proofs.Laws.{Going}
 use Rattle.items.proofs.enter_items.Given as goal
 
-abbrev pub invariant-loop-left : goal.invariant-loop-left
-invariant-loop-left l = Going l.words l.at l.kind l.scope l.initial.t l.initial.b l.t l.b l.p l.left
-
-abbrev pub decreases-loop-left : goal.decreases-loop-left
-decreases-loop-left l = l.left
+abbrev pub invariant-loop : goal.invariant-loop
+invariant-loop l = Going l.words l.at l.kind l.scope l.initial.t l.initial.b l.t l.b l.p l.counter

@@ -9,8 +9,8 @@ bounds-words-at c = omega (arith, item_inside c.requires)
 pub bounds-words-at-2 : goal.bounds-words-at-2
 bounds-words-at-2 c = item_inside c.requires
 
-pub as_type-t-requires : goal.as_type-t-requires
-as_type-t-requires c = item_type_lem c.requires
+pub as_type-ty-requires : goal.as_type-ty-requires
+as_type-ty-requires c = item_type_lem c.requires
 
 pub returns-clause-is : goal.returns-clause-is
-returns-clause-is c = item_is c.as_type-t.ensures
+returns-clause-is c = item_is c.as_type-ty.ensures

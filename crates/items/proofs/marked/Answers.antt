@@ -3,13 +3,13 @@ use Rattle.items.proofs.Laws.{marked_array, marked_new_array, marked_variable, m
 use Rattle.items.proofs.marked.Goals as goal
 
 pub returns-then-mark-ge2 : goal.returns-then-mark-ge2
-returns-then-mark-ge2 c = rw c.if-array.true (marked_array (c.args.mark) c.if-mark-ge2.true)
+returns-then-mark-ge2 c = rw c.if-array.true (marked_array c.args.mark c.if-mark-ge2.true)
 
-pub returns-then-array : goal.returns-then-array
-returns-then-array c = rw c.if-array.true (marked_new_array (c.args.mark) c.if-mark-ge2.false)
+pub returns-else-mark-ge2 : goal.returns-else-mark-ge2
+returns-else-mark-ge2 c = rw c.if-array.true (marked_new_array c.args.mark c.if-mark-ge2.false)
 
 pub returns-then-mark-eq1 : goal.returns-then-mark-eq1
-returns-then-mark-eq1 c = rw c.if-array.false (marked_variable (c.args.mark) c.if-mark-eq1.true)
+returns-then-mark-eq1 c = rw c.if-array.false (marked_variable c.args.mark c.if-mark-eq1.true)
 
-pub returns : goal.returns
-returns c = rw c.if-array.false (marked_new_variable (c.args.mark) c.if-mark-eq1.false)
+pub returns-else-mark-eq1 : goal.returns-else-mark-eq1
+returns-else-mark-eq1 c = rw c.if-array.false (marked_new_variable c.args.mark c.if-mark-eq1.false)

@@ -6,7 +6,7 @@ use Rattle.labels.specs.Arrays.{any_array_lem, keeps_small}
 use Rattle.labels.proofs.any_array.Goals as goal
 
 pub any_between-requires : goal.any_between-requires
-any_between-requires c = (c.requires, omega (arith, c.entry_key-from.ensures, c.entry_key-to.ensures))
+any_between-requires c = omega (arith, c.entry_key-from.ensures, c.entry_key-to.ensures)
 
 pub returns : goal.returns
-returns c = λ rows K. c.any_between.ensures rows K ∙ rw (c.entry_key-from.ensures, c.entry_key-to.ensures) (any_array_lem 0 rows (keeps_table K) (keeps_small (λ i. (c.shared_slice_known-1.given i).fits) K))
+returns c = λ rows K. c.any_between.ensures rows K ∙ rw (c.entry_key-from.ensures, c.entry_key-to.ensures) (any_array_lem 0 rows (keeps_table K) (keeps_small c.requires K))

@@ -18,11 +18,11 @@ bounds-words-at-2 c = const_inside c.requires.0
 pub const_eval-f-requires : goal.const_eval-f-requires
 const_eval-f-requires c = const_ready c.requires.0 c.if-s-ne0.false
 
-pub fold_of-g-requires : goal.fold_of-g-requires
-fold_of-g-requires c = good (λ i. (c.shared_slice_known-1.given i).fits) (const_ready c.requires.0 c.if-s-ne0.false) c.const_eval-f.ensures
+pub fold_of-requires : goal.fold_of-requires
+fold_of-requires c = good (λ i. (c.type_inv.words i).fits) (const_ready c.requires.0 c.if-s-ne0.false) c.const_eval-f.ensures
 
 pub folded-requires : goal.folded-requires
-folded-requires c = ((omega (arith, c.push_if-t.ensures.kept, c.requires.1.0), c.push_if-t.ensures.fit), omega arith, subst GoodFold (sym c.fold_of-g.ensures) (good (λ i. (c.shared_slice_known-1.given i).fits) (const_ready c.requires.0 c.if-s-ne0.false) c.const_eval-f.ensures))
+folded-requires c = ((omega (arith, c.push_if-t.ensures.kept, c.requires.1.0), c.push_if-t.ensures.fit), omega arith, subst GoodFold (sym c.fold_of.ensures) (good (λ i. (c.type_inv.words i).fits) (const_ready c.requires.0 c.if-s-ne0.false) c.const_eval-f.ensures))
 
 pub returns : goal.returns
-returns c = const_collects c.fold_of-g.ensures c.requires.1 c.has-twice.ensures c.const_eval-f.ensures c.push_if-t.ensures c.folded.ensures
+returns c = const_collects c.fold_of.ensures c.requires.1 c.has-twice.ensures c.const_eval-f.ensures c.push_if-t.ensures c.folded.ensures

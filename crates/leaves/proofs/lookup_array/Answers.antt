@@ -1,29 +1,16 @@
--- `lookup_array`: what stops the checks stops it, else it is what `lookup` gives for the rows. Assumes nothing.
-use mathlib.Core.Path.{sym, ap, ◌∙◌, subst}
-use mathlib.Core.List.{List}
-use Rattle.words.specs.Told.{gives, after}
-use Rattle.words.specs.Refusals.{refused}
-use Rattle.table.specs.Rows.{Row, rows_of}
+-- `lookup_array`: a stop of the checks, else what `lookup` gives for the rows. Assumes nothing.
 use Rattle.runs.specs.Laws.{holds_keeps}
 use Rattle.lookup.specs.Lookup.{lookup_array}
-use Rattle.leaves.specs.Leaves.{asked, lookup_array_at}
-use Rattle.leaves.specs.Entries.{tell_rows, Known, Ready}
-use Rattle.leaves.specs.declared.Opened.{Opened}
+use Rattle.lookup.specs.Answers.{array}
+use Rattle.leaves.specs.Leaves.{lookup_array_at}
 use Rattle.leaves.specs.declared.Question.TheVariants.{InScope}
-use Rattle.leaves.proofs.Laws.{answers_after}
+use Rattle.leaves.proofs.Laws.{entry_stopped, entry_given}
 use Rattle.leaves.proofs.lookup_array.Goals as goal
 
-pub lookup_array-requires : goal.lookup_array-requires
-lookup_array-requires c =
-    let known : Known c.args.bytes.now c.args.ends.now c.args.rows.now (InScope c.args.scope c.args.name) c.in-Table.n = subst (λ (o : Opened). Ready c.args.bytes.now c.args.ends.now c.args.rows.now (InScope c.args.scope c.args.name) o) c.in-Table.is c.open.ensures.ready in
-    (known.passing.fits, known.small.0, known.small.1)
+pub returns-in_err-held : goal.returns-in_err-held
+unfolding lookup_array_at
+returns-in_err-held c = entry_stopped array c.args.rows.now (InScope c.args.scope c.args.name) (λ rs. lookup_array rs c.args.scope c.args.name) c.in_err-held.field-0.0 c.from_residual.result c.in_err-held.ensures.told c.from_residual.ensures.1
 
-pub returns-in-Shut : goal.returns-in-Shut
-unfolding lookup_array_at asked after refused
-returns-in-Shut c = answers_after (λ (rs : List Row). gives (lookup_array rs c.args.scope c.args.name)) c.open.ensures.told (ap (λ (o : Opened). after (tell_rows c.args.rows.now o) (λ (rs : List Row). gives (lookup_array rs c.args.scope c.args.name))) (sym c.in-Shut.is))
-
-pub returns-in-Table : goal.returns-in-Table
-unfolding lookup_array_at asked after
-returns-in-Table c =
-    let known : Known c.args.bytes.now c.args.ends.now c.args.rows.now (InScope c.args.scope c.args.name) c.in-Table.n = subst (λ (o : Opened). Ready c.args.bytes.now c.args.ends.now c.args.rows.now (InScope c.args.scope c.args.name) o) c.in-Table.is c.open.ensures.ready in
-    answers_after (λ (rs : List Row). gives (lookup_array rs c.args.scope c.args.name)) c.open.ensures.told (ap gives (c.lookup_array.ensures (rows_of c.in-Table.n c.args.rows.now) (holds_keeps known.passing.holds)) ∙ ap (λ (o : Opened). after (tell_rows c.args.rows.now o) (λ (rs : List Row). gives (lookup_array rs c.args.scope c.args.name))) (sym c.in-Table.is))
+pub returns : goal.returns
+unfolding lookup_array_at
+returns c = entry_given c.args.rows.now (InScope c.args.scope c.args.name) (λ rs. lookup_array rs c.args.scope c.args.name) c.in_ok-held.ensures.told (c.lookup_array.ensures _ (holds_keeps c.in_ok-held.ensures.ready.passing.holds))

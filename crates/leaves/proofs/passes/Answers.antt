@@ -1,34 +1,23 @@
 -- `passes`: two sizes, then the string table. Assumes nothing.
-use mathlib.Core.Path.{◌≡◌, refl, ◌∙◌}
-use mathlib.Core.Bool.{true}
-use borrow.Author.Tests.{le-leb, lt-leb}
+use mathlib.Core.Path.{refl}
+use Rattle.std.proofs.lemmas.Result.{err_from_is_err_and}
 use Rattle.words.specs.Refusals.{refused}
 use Rattle.strings.specs.OpenLaws.{said_sound, answers_size, answers_breaks, answers_inner}
-use Rattle.strings.proofs.Laws.{and_true, and_false}
-use Rattle.leaves.specs.Leaves.{sized}
+use Rattle.leaves.proofs.Laws.{sized_no, sized_yes}
 use Rattle.leaves.proofs.passes.Goals as goal
 
 pub returns-then-ends-gt-MAX_STRINGS-clause-told : goal.returns-then-ends-gt-MAX_STRINGS-clause-told
-unfolding sized refused
-returns-then-ends-gt-MAX_STRINGS-clause-told c = answers_size (and_false _ _ (lt-leb _ _ c.if-ends-gt-MAX_STRINGS.true)) refl
+unfolding refused
+returns-then-ends-gt-MAX_STRINGS-clause-told c = answers_size (sized_no c.args.bytes.now c.args.ends.now c.then-ends-gt-MAX_STRINGS.either) refl
 
-pub returns-then-bytes-gt-MAX_BYTES-clause-told : goal.returns-then-bytes-gt-MAX_BYTES-clause-told
-unfolding sized refused
-returns-then-bytes-gt-MAX_BYTES-clause-told c = answers_size (and_true _ _ (le-leb _ _ c.if-ends-gt-MAX_STRINGS.false) ∙ lt-leb _ _ c.if-bytes-gt-MAX_BYTES.true) refl
+pub returns-in_err-check-clause-told : goal.returns-in_err-check-clause-told
+unfolding refused
+returns-in_err-check-clause-told c =
+    let p = err_from_is_err_and c.from_residual.result c.from_residual.ensures.1 in
+    rw (p.1, p.2) (answers_breaks (sized_yes c.args.bytes.now c.args.ends.now c.if-ends-gt-MAX_STRINGS.false c.if-bytes-gt-MAX_BYTES.false) c.check.ensures c.in_err-check.was refl)
 
-pub returns-in-Breaks-clause-told : goal.returns-in-Breaks-clause-told
-unfolding refused sized
-returns-in-Breaks-clause-told c =
-    let sizes : sized c.args.bytes.now c.args.ends.now ≡ true = and_true _ _ (le-leb _ _ c.if-ends-gt-MAX_STRINGS.false) ∙ le-leb _ _ c.if-bytes-gt-MAX_BYTES.false in
-    answers_breaks sizes c.check.ensures c.in-Breaks.is refl
+pub returns-clause-told : goal.returns-clause-told
+returns-clause-told c = answers_inner (sized_yes c.args.bytes.now c.args.ends.now c.if-ends-gt-MAX_STRINGS.false c.if-bytes-gt-MAX_BYTES.false) (said_sound c.check.ensures c.in_ok-check.was) refl
 
-pub returns-in-Sound-clause-told : goal.returns-in-Sound-clause-told
-unfolding refused sized
-returns-in-Sound-clause-told c =
-    let sizes : sized c.args.bytes.now c.args.ends.now ≡ true = and_true _ _ (le-leb _ _ c.if-ends-gt-MAX_STRINGS.false) ∙ le-leb _ _ c.if-bytes-gt-MAX_BYTES.false in
-    answers_inner sizes (said_sound c.check.ensures c.in-Sound.is) refl
-
-pub returns-in-Sound-clause-passed : goal.returns-in-Sound-clause-passed
-unfolding refused sized
-returns-in-Sound-clause-passed c =
-    (said_sound c.check.ensures c.in-Sound.is, c.if-ends-gt-MAX_STRINGS.false)
+pub returns-clause-passed : goal.returns-clause-passed
+returns-clause-passed c = (said_sound c.check.ensures c.in_ok-check.was, c.if-ends-gt-MAX_STRINGS.false)

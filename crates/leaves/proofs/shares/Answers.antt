@@ -1,29 +1,15 @@
--- `shares`: what stops the checks stops it, else it is what `lookup` gives for the rows. Assumes nothing.
-use mathlib.Core.Path.{sym, ap, ◌∙◌, subst}
-use mathlib.Core.List.{List}
-use Rattle.words.specs.Told.{gives, after}
-use Rattle.words.specs.Refusals.{refused}
-use Rattle.table.specs.Rows.{Row, rows_of}
+-- `shares`: a stop of the checks, else what `lookup` gives for the rows. Assumes nothing.
 use Rattle.runs.specs.Laws.{holds_keeps}
 use Rattle.lookup.specs.Lookup.{shares}
-use Rattle.leaves.specs.Leaves.{asked, shares_at}
-use Rattle.leaves.specs.Entries.{tell_rows, Known, Ready}
-use Rattle.leaves.specs.declared.Opened.{Opened}
+use Rattle.leaves.specs.Leaves.{shares_at}
 use Rattle.leaves.specs.declared.Question.TheVariants.{InProc}
-use Rattle.leaves.proofs.Laws.{answers_after}
+use Rattle.leaves.proofs.Laws.{entry_stopped, entry_given}
 use Rattle.leaves.proofs.shares.Goals as goal
 
-pub shares-requires : goal.shares-requires
-shares-requires c =
-    let known : Known c.args.bytes.now c.args.ends.now c.args.rows.now (InProc c.args.proc c.args.name) c.in-Table.n = subst (λ (o : Opened). Ready c.args.bytes.now c.args.ends.now c.args.rows.now (InProc c.args.proc c.args.name) o) c.in-Table.is c.open.ensures.ready in
-    (known.passing.fits, known.small.0, known.small.1)
+pub returns-in_err-held : goal.returns-in_err-held
+unfolding shares_at
+returns-in_err-held c = entry_stopped (λ x. x) c.args.rows.now (InProc c.args.proc c.args.name) (λ rs. shares rs c.args.proc c.args.name c.args.array) c.in_err-held.field-0.0 c.from_residual.result c.in_err-held.ensures.told c.from_residual.ensures.1
 
-pub returns-in-Shut : goal.returns-in-Shut
-unfolding shares_at asked after refused
-returns-in-Shut c = answers_after (λ (rs : List Row). gives (shares rs c.args.proc c.args.name c.args.array)) c.open.ensures.told (ap (λ (o : Opened). after (tell_rows c.args.rows.now o) (λ (rs : List Row). gives (shares rs c.args.proc c.args.name c.args.array))) (sym c.in-Shut.is))
-
-pub returns-in-Table : goal.returns-in-Table
-unfolding shares_at asked after
-returns-in-Table c =
-    let known : Known c.args.bytes.now c.args.ends.now c.args.rows.now (InProc c.args.proc c.args.name) c.in-Table.n = subst (λ (o : Opened). Ready c.args.bytes.now c.args.ends.now c.args.rows.now (InProc c.args.proc c.args.name) o) c.in-Table.is c.open.ensures.ready in
-    answers_after (λ (rs : List Row). gives (shares rs c.args.proc c.args.name c.args.array)) c.open.ensures.told (ap gives (c.shares.ensures (rows_of c.in-Table.n c.args.rows.now) (holds_keeps known.passing.holds)) ∙ ap (λ (o : Opened). after (tell_rows c.args.rows.now o) (λ (rs : List Row). gives (shares rs c.args.proc c.args.name c.args.array))) (sym c.in-Table.is))
+pub returns : goal.returns
+unfolding shares_at
+returns c = entry_given c.args.rows.now (InProc c.args.proc c.args.name) (λ rs. shares rs c.args.proc c.args.name c.args.array) c.in_ok-held.ensures.told (c.shares.ensures _ (holds_keeps c.in_ok-held.ensures.ready.passing.holds))

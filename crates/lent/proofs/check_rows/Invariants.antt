@@ -1,13 +1,10 @@
 -- `check_rows`: after n rows, `scan` from there is what the whole test comes to; each turn is a law of `LentLaws`. Assumes nothing.
 use mathlib.Core.Path.{◌≡◌}
-use Prim.Native.Nat.{◌≤◌, ◌-◌, ◌*◌, ◌/◌, suc}
+use Prim.Native.Nat.{◌-◌, ◌*◌, ◌/◌, suc}
 use lib.ListN.{length, drop}
 use Rattle.table.specs.Rows.{width}
 use Rattle.lent.specs.Lent.{scan, checked}
 use Rattle.lent.proofs.check_rows.Given as goal
 
 abbrev pub invariant-loop-n : goal.invariant-loop-n
-invariant-loop-n l = (l.n ≤ l.cap) × (l.cap ≡ length l.b / width) × (checked l.names l.b ≡ scan l.names (l.cap - l.n) (suc l.last) l.n (drop (l.n * width) l.b))
-
-abbrev pub decreases-loop-n : goal.decreases-loop-n
-decreases-loop-n l = l.cap - l.n
+invariant-loop-n l = checked l.names l.b ≡ scan l.names (length l.b / width - l.n) (suc l.last) l.n (drop (l.n * width) l.b)

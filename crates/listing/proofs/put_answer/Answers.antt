@@ -5,13 +5,13 @@ use Rattle.listing.proofs.Laws.{text_refused, text_done, within_done}
 use Rattle.listing.proofs.put_answer.Goals as goal
 
 pub slice_bounds-put_page-end : goal.slice_bounds-put_page-end
-slice_bounds-put_page-end c = sym (length-take-le _ _ (within_done c.args.a c.in-Done.n c.args.notes.now c.args.rows.now c.args.words.now c.in-Done.is c.requires).2)
+slice_bounds-put_page-end c = sym (length-take-le _ _ (within_done c.args.a c.in-Ok.n c.args.notes.now c.args.rows.now c.args.words.now c.in-Ok.is c.requires).2)
 
 pub put_page-requires : goal.put_page-requires
-put_page-requires c = (let w = within_done c.args.a c.in-Done.n c.args.notes.now c.args.rows.now c.args.words.now c.in-Done.is c.requires in (w.0, w.1))
+put_page-requires c = (let w = within_done c.args.a c.in-Ok.n c.args.notes.now c.args.rows.now c.args.words.now c.in-Ok.is c.requires in (w.0, w.1))
 
-pub returns-in-Refused : goal.returns-in-Refused
-returns-in-Refused c = text_refused c.args.bytes.now c.args.ends.now c.args.notes.now c.args.rows.now c.args.words.now c.in-Refused.is c.number.ensures c.put_refusal.ensures
+pub returns-in-Err : goal.returns-in-Err
+returns-in-Err c = text_refused c.args.bytes.now c.args.ends.now c.args.notes.now c.args.rows.now c.args.words.now c.in-Err.is c.number.ensures c.put_refusal.ensures
 
-pub returns-in-Done : goal.returns-in-Done
-returns-in-Done c = text_done c.args.bytes.now c.args.ends.now c.args.notes.now c.args.rows.now c.args.words.now c.in-Done.is c.put_page.ensures
+pub returns-in-Ok : goal.returns-in-Ok
+returns-in-Ok c = text_done c.args.bytes.now c.args.ends.now c.args.notes.now c.args.rows.now c.args.words.now c.in-Ok.is c.put_page.ensures

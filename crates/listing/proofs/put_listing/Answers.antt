@@ -5,7 +5,7 @@ use Rattle.listing.proofs.Laws.{no_image}
 use Rattle.listing.proofs.put_listing.Goals as goal
 
 pub put_least-requires : goal.put_least-requires
-put_least-requires c = shaped c.args.image.now c.in-Whole.s (sym c.in-Whole.is ∙ c.open.ensures)
+put_least-requires c = shaped c.args.image.now c.in-Some.s (sym c.in-Some.is ∙ c.open.ensures)
 
-pub returns-in-Malformed : goal.returns-in-Malformed
-returns-in-Malformed c = no_image c.args.image.now (not_image c.args.image.now (sym c.in-Malformed.is ∙ c.open.ensures)) c.put_refusal.ensures
+pub returns-in-None : goal.returns-in-None
+returns-in-None c = no_image c.args.image.now (not_image c.args.image.now (sym c.in-None.is ∙ c.open.ensures)) c.put_refusal.ensures

@@ -1,14 +1,9 @@
--- put_small: the sizes that are asked have room in these buffers.
-use Prim.Native.Nat.{◌≤◌}
-use native.Mathlib.Omega.{arith}
-use Rattle.listing.proofs.Laws.{made, again}
+-- put_small: the text of these buffers, or that of the next.
+use Rattle.listing.proofs.Laws.{again}
 use Rattle.listing.proofs.put_small.Goals as goal
 
-pub put_read-t-requires : goal.put_read-t-requires
-put_read-t-requires c = (c.requires, c.if-s-gt64.false, c.if-s-gt512.false, c.if-s-gt64-2.false, (let h : 384 ≤ 12288 = omega arith in h), (let h : 384 ≤ 12288 = omega arith in h), c.if-s-gt512.false, made 384 384)
+pub returns-in-Some : goal.returns-in-Some
+returns-in-Some c = c.put_level.ensures.wrote _ c.in-Some.is
 
-pub returns-then-t : goal.returns-then-t
-returns-then-t c = again c.if-t.true c.put_read-t.ensures c.put_middle-then-t.ensures
-
-pub returns : goal.returns
-returns c = c.put_read-t.ensures.wrote c.if-t.false
+pub returns-in-None : goal.returns-in-None
+returns-in-None c = again c.in-None.is c.put_level.ensures c.put_middle.ensures

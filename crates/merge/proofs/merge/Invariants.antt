@@ -1,16 +1,11 @@
 -- `merge` puts the last of the rows to come in its place, until none is to come; the turns are laws of `Steps`. Assumes nothing.
-use mathlib.Core.Path.{◌≡◌}
-use mathlib.Core.List.{List}
-use Prim.Native.Nat.{◌≤◌}
-use lib.ListN.{length}
+use Rattle.std.specs.Prelude.{List, ◌≤◌}
 use Rattle.table.specs.Rows.{Row, Holds}
 use Rattle.merge.specs.Merge.{Apart, Merging}
 use Rattle.merge.proofs.merge.Given as goal
 
 abbrev pub invariant-loop-j : goal.invariant-loop-j
-invariant-loop-j l =
-    (l.i ≤ l.count) × (l.j ≤ l.m) × (length l.b ≡ length l.initial.b)
-    × ((rows more : List Row) → Holds rows l.count l.initial.b → Holds more l.m l.src → Apart more rows → Merging rows more l.count l.m l.i l.j l.b)
-
-abbrev pub decreases-loop-j : goal.decreases-loop-j
-decreases-loop-j l = l.j
+invariant-loop-j l = record {
+  few : l.i ≤ l.count;
+  merging : (rows more : List Row) → Holds rows l.count l.initial.b → Holds more l.m l.src → Apart more rows → Merging rows more l.count l.m l.i l.j l.b;
+}

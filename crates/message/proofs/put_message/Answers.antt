@@ -1,22 +1,28 @@
--- put_message: a code's row begins with its template, which reaches from its start to the next (`row_text`).
-use mathlib.Core.Path.{sym, ap}
-use lib.Seq.{length-take-le}
-use Rattle.message.proofs.Laws.{bounds, row_text, row_flat, row_fits}
-use Rattle.message.specs.Message.{render}
-use Rattle.text.specs.Laws.{same}
+-- put_message: the code's pieces make the templates, by computation, and what a message's pieces stand for is what its template does.
+use Rattle.std.proofs.Common.{refl, ap, ◌∙◌}
+use mathlib.Core.List.{flat_map}
+use Rattle.text.specs.Text.{ascii}
+use Rattle.message.specs.Message.{templates, render}
+use Rattle.message.specs.Table.{run, table}
+use Rattle.message.specs.Pieces.{template, marks, shown}
+use Rattle.message.proofs.Laws.{all_shown}
+use Rattle.text.specs.Laws.{same, items_none, items_more, items_all}
 use Rattle.message.proofs.put_message.Goals as goal
 
-pub slice_bounds-text-count : goal.slice_bounds-text-count
-slice_bounds-text-count c = (bounds c.args.d.code c.start_of-start.result c.start_of-end.result c.start_of-start.ensures c.start_of-end.ensures).0
+pub message-piece-items-requires : goal.message-piece-items-requires
+unfolding template table run templates ascii marks flat_map
+message-piece-items-requires c = (refl, refl)
 
-pub slice_bounds-text-end : goal.slice_bounds-text-end
-slice_bounds-text-end c = row_fits c.args.d.code c.start_of-start.result c.start_of-end.result c.text_of-text.result c.start_of-start.ensures c.start_of-end.ensures c.text_of-text.ensures
+pub loop-piece-init : goal.loop-piece-init
+loop-piece-init c = items_none (shown c.args.bytes.now c.args.ends.now c.args.d) c.message-piece-items.result.now
 
-pub slice_bounds-put_template-length : goal.slice_bounds-put_template-length
-slice_bounds-put_template-length c = sym (length-take-le _ c.text_of-text.result (row_fits c.args.d.code c.start_of-start.result c.start_of-end.result c.text_of-text.result c.start_of-start.ensures c.start_of-end.ensures c.text_of-text.ensures))
-
-pub put_template-requires : goal.put_template-requires
-put_template-requires c = row_flat c.args.d.code c.start_of-start.result c.start_of-end.result c.text_of-text.result c.start_of-start.ensures c.start_of-end.ensures c.text_of-text.ensures
+pub loop-piece-preserved : goal.loop-piece-preserved
+loop-piece-preserved c = items_more (shown c.args.bytes.now c.args.ends.now c.args.d) c.message-piece-items.result.now _ _ c.loop-piece-test.true c.loop-piece.invariant c.put_piece-next.ensures
 
 pub returns : goal.returns
-returns c = same (ap (render c.args.bytes.now c.args.ends.now c.args.d) (row_text c.args.d.code c.start_of-start.result c.start_of-end.result c.text_of-text.result c.start_of-start.ensures c.start_of-end.ensures c.text_of-text.ensures)) c.put_template.ensures
+returns c =
+    let bytes = c.args.bytes.now in
+    let ends = c.args.ends.now in
+    let d = c.args.d in
+    let pieces = c.message-piece-items.result.now in
+    same (all_shown bytes ends d pieces c.message-piece-items.ensures.1 ∙ ap (render bytes ends d) c.message-piece-items.ensures.0) (items_all (shown bytes ends d) pieces _ c.loop-piece-test.false c.loop-piece.invariant)

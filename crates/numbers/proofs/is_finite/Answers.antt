@@ -1,15 +1,16 @@
 -- `numbers::is_finite` meets its contract: what lies strictly between the two infinities is finite. Assumes nothing.
-use Rattle.std.proofs.Common.{◌≡◌, true, false, sym, refl}
+use Rattle.std.proofs.Common.{◌≡◌, true, false, refl}
 use lib.Ieee.{Float, nan, inf, fin, lt, neg, of_bits, nan_bits}
 use lib.Ieee.Scale.{finite}
 use Rattle.numbers.specs.SignedLaws.{never}
 use Rattle.numbers.proofs.is_finite.Goals as goal
 
-top : (x : Float) → lt x (inf false) ≡ false → false ≡ finite x
+top : (x : Float) → lt x (inf false) ≡ false → lt x (inf false) ≡ finite x
 unfolding lt
 top nan e = refl
-top (inf s) e = refl
-top (fin s m k) e = never (sym e)
+top (inf true) e = e
+top (inf false) e = refl
+top (fin s m k) e = refl
 
 bottom : (x : Float) → lt x (inf false) ≡ true → lt (inf true) x ≡ finite x
 unfolding lt
@@ -26,6 +27,6 @@ pub returns-then-x-top : goal.returns-then-x-top
 unfolding of_bits neg
 returns-then-x-top c = bottom c.args.x c.if-x-top.true
 
-pub returns : goal.returns
+pub returns-else-x-top : goal.returns-else-x-top
 unfolding of_bits
-returns c = top c.args.x c.if-x-top.false
+returns-else-x-top c = top c.args.x c.if-x-top.false

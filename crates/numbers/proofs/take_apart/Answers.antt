@@ -23,5 +23,5 @@ high x s (suc f) t n h = subst (λ (k : ℕ). PartsOf x s k (4503599627370496 + 
 pub returns-then-field-eq0 : goal.returns-then-field-eq0
 returns-then-field-eq0 c = low _ _ _ _ c.if-field-eq0.true (bits_parts c.args.x (held c.before) c.requires)
 
-pub returns : goal.returns
-returns c = high _ _ _ _ c.if-field-eq0.false (bits_parts c.args.x (held c.before) c.requires)
+pub returns-else-field-eq0 : goal.returns-else-field-eq0
+returns-else-field-eq0 c = high _ _ _ _ c.if-field-eq0.false (bits_parts c.args.x (held c.before) c.requires)

@@ -5,24 +5,24 @@ use lib.Ieee.Bits.{nan_bits_is, of_bits-fits}
 use lib.Ieee.Scale.{finite}
 use lib.Ieee.Fits.{and_i, fits_widens}
 use Rattle.numbers.specs.declared.Halves.TheVariants.{Even}
-use Rattle.numbers.specs.declared.Narrow.TheVariants.{To}
 use Rattle.numbers.specs.Numbers.{near, narrowed, finite_to}
 use Rattle.numbers.specs.NumbersLaws.{has_finite, no_nan}
 use Rattle.numbers.proofs.Single.{spare_of, kept_of, kept_le, kept_ge, far_over, single_over, single_in, single_finite, finite_to_lem}
 use Rattle.numbers.proofs.to_single.Goals.{After-near_shift-q, After-sign_bit, Else-b-ge2139095040}
 use Rattle.numbers.proofs.to_single.Goals as goal
+use Rattle.std.specs.Prelude.{Some}
 
 -- the pattern, and the digits that are kept
 kept_here : (c : After-near_shift-q) → c.near_shift-q.result ≡ kept_of c.take_apart-p.result.exp c.take_apart-p.result.sig
 kept_here c =
     let p = c.take_apart-p.result in
-    c.near_shift-q.ensures ∙ ap (λ (k : ℕ). near Even p.sig (2 ^ (925 + k - p.exp))) c.spare-k.ensures
+    c.near_shift-q.ensures ∙ ap (λ (k : ℕ). near Even p.sig (2 ^ (925 + k - p.exp))) c.saturating_sub-k.ensures
 
-pattern_here : (c : After-near_shift-q) → c.spare-k.result * 8388608 + c.near_shift-q.result
+pattern_here : (c : After-near_shift-q) → c.saturating_sub-k.result * 8388608 + c.near_shift-q.result
     ≡ spare_of c.take_apart-p.result.exp * 8388608 + kept_of c.take_apart-p.result.exp c.take_apart-p.result.sig
 pattern_here c =
     let p = c.take_apart-p.result in
-    ap (λ (q : ℕ). c.spare-k.result * 8388608 + q) (kept_here c) ∙ ap (λ (k : ℕ). k * 8388608 + kept_of p.exp p.sig) c.spare-k.ensures
+    ap (λ (q : ℕ). c.saturating_sub-k.result * 8388608 + q) (kept_here c) ∙ ap (λ (k : ℕ). k * 8388608 + kept_of p.exp p.sig) c.saturating_sub-k.ensures
 
 -- where it is below the infinity's
 below : (c : Else-b-ge2139095040) → spare_of c.take_apart-p.result.exp * 8388608
@@ -30,10 +30,10 @@ below : (c : Else-b-ge2139095040) → spare_of c.take_apart-p.result.exp * 83886
 below c = subst (λ (b : ℕ). b < 2139095040) (pattern_here c.before) c.if-b-ge2139095040.false
 
 whole_here : (c : After-sign_bit)
-    → of_bits binary32 (c.sign_bit.result + (c.spare-k.result * 8388608 + c.near_shift-q.result)) ≡ narrowed c.args.x
+    → of_bits binary32 (c.sign_bit.result + (c.saturating_sub-k.result * 8388608 + c.near_shift-q.result)) ≡ narrowed c.args.x
 whole_here c =
     let p = c.take_apart-p.result in
-    ap (λ (s : ℕ). of_bits binary32 (s + (c.spare-k.result * 8388608 + c.near_shift-q.result))) c.sign_bit.ensures
+    ap (λ (s : ℕ). of_bits binary32 (s + (c.saturating_sub-k.result * 8388608 + c.near_shift-q.result))) c.sign_bit.ensures
     ∙ ap (λ (b : ℕ). of_bits binary32 (cond p.neg 2147483648 0 + b)) (pattern_here c.before.before)
     ∙ single_in c.args.x p.neg p.exp p.sig c.take_apart-p.ensures (below c.before)
 
@@ -44,7 +44,7 @@ finite_here c =
     has_finite (narrowed x) p.neg (kept_of p.exp p.sig * 2 ^ spare_of p.exp) (2 ^ 149) (single_finite x p.neg p.exp p.sig c.take_apart-p.ensures (below c.before))
 
 no_nan_here : (c : After-sign_bit)
-    → T (not (is_nan (of_bits binary32 (c.sign_bit.result + (c.spare-k.result * 8388608 + c.near_shift-q.result)))))
+    → T (not (is_nan (of_bits binary32 (c.sign_bit.result + (c.saturating_sub-k.result * 8388608 + c.near_shift-q.result)))))
 no_nan_here c =
     subst (λ (y : Float). T (not (is_nan y))) (sym (whole_here c))
     (no_nan _ (finite_here c))
@@ -74,8 +74,8 @@ float_from_bits-result c = subst (λ (b : Bool). T (not b)) (sym (nan_bits_is bi
 pub float_to_float-result : goal.float_to_float-result
 float_to_float-result c =
     let d = c.before in
-    let n = d.sign_bit.result + (d.spare-k.result * 8388608 + d.near_shift-q.result) in
+    let n = d.sign_bit.result + (d.saturating_sub-k.result * 8388608 + d.near_shift-q.result) in
     and_i (fits binary64 (of_bits binary32 n)) (not (is_nan (of_bits binary32 n))) (fits_widens (of_bits binary32 n) (of_bits-fits binary32 n)) (no_nan_here d)
 
 pub returns : goal.returns
-returns c = ap To (whole_here c.before) ∙ finite_to_lem _ _ _ _ (single_finite _ _ _ _ c.take_apart-p.ensures (below c.before.before))
+returns c = ap Some (whole_here c.before) ∙ finite_to_lem _ _ _ _ (single_finite _ _ _ _ c.take_apart-p.ensures (below c.before.before))

@@ -1,9 +1,15 @@
--- put_page: the three parts, one after the other.
-use Rattle.text.specs.Laws.{then, same}
+-- put_page: the three parts, one after the other; the rows of a buffer are its words cut into arrays.
+use Rattle.std.proofs.Common.{◌≡◌, ◌∙◌, sym}
+use Rattle.text.specs.Laws.{then}
 use Rattle.page.specs.Page.{page}
-use Rattle.page.proofs.Laws.{all_words}
+use Rattle.page.specs.Chunks.{chunks}
+use Rattle.page.proofs.Laws.{rows_cut}
 use Rattle.page.proofs.put_page.Goals as goal
 
 pub returns : goal.returns
 unfolding page
-returns c = then c.put_notes-shown.ensures (then c.put_rows-next.ensures (same (all_words 82 c.args.words.now) c.put_line.ensures))
+returns c =
+    let n = c.args.n in
+    let notes : chunks 6 n.notes c.args.notes.now ≡ c.as_chunks.result.0.now = sym (c.as_chunks.ensures.front ∙ rows_cut n.notes c.args.notes.now c.requires.0) in
+    let rows : chunks 6 n.rows c.args.rows.now ≡ c.as_chunks-2.result.0.now = sym (c.as_chunks-2.ensures.front ∙ rows_cut n.rows c.args.rows.now c.requires.1) in
+    rw (notes, rows) (then c.put_notes-next.ensures (then c.put_rows-next.ensures c.put_line.ensures))

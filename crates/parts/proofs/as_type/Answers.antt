@@ -8,8 +8,8 @@ bounds-words-at c = as_inside c.requires.tree c.requires.stands
 pub returns-then-words-at-eq0 : goal.returns-then-words-at-eq0
 returns-then-words-at-eq0 c = as_none c.if-words-at-eq0.true
 
-pub type_ref-requires : goal.type_ref-requires
-type_ref-requires c = as_inner c.if-words-at-eq0.false c.requires
+pub type_ref-next-requires : goal.type_ref-next-requires
+type_ref-next-requires c = as_inner c.if-words-at-eq0.false c.requires
 
 pub returns : goal.returns
-returns c = as_some c.if-words-at-eq0.false c.type_ref.ensures
+returns c = as_some c.if-words-at-eq0.false c.type_ref-next.ensures

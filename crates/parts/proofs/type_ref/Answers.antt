@@ -5,11 +5,11 @@ use Rattle.parts.proofs.type_ref.Goals as goal
 pub bounds-words-at : goal.bounds-words-at
 bounds-words-at c = (here c.requires.tree c.requires.stands).inside
 
-pub returns-then-k-lt44 : goal.returns-then-k-lt44
-returns-then-k-lt44 c = type_short c.if-k-lt44.true
+pub returns-then-head-lt44 : goal.returns-then-head-lt44
+returns-then-head-lt44 c = type_short c.if-head-lt44.true
 
 pub bounds-words-at-2 : goal.bounds-words-at-2
-bounds-words-at-2 c = type_second c.if-k-lt44.false c.requires
+bounds-words-at-2 c = type_second c.if-head-lt44.false c.requires
 
 pub returns : goal.returns
-returns c = type_long c.if-k-lt44.false
+returns c = type_long c.if-head-lt44.false

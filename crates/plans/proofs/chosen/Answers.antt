@@ -1,5 +1,4 @@
 -- `chosen`: the head's kind tells which row follows it. Assumes nothing.
-use native.Mathlib.Omega.{arith}
 use Rattle.plans.proofs.Fields.{choice_inside, plan_choice}
 use Rattle.plans.proofs.chosen.Goals as goal
 
@@ -8,12 +7,6 @@ bounds-words-at c = (choice_inside c.args.words.now c.args.at c.args.first c.arg
 
 pub overflow_sub-result : goal.overflow_sub-result
 overflow_sub-result c = (choice_inside c.args.words.now c.args.at c.args.first c.args.count c.args.r c.requires.0).1
-
-pub overflow_cast-result : goal.overflow_cast-result
-overflow_cast-result c = omega (arith, c.shared_slice_known-1.given c.args.at)
-
-pub overflow_add-result : goal.overflow_add-result
-overflow_add-result c = omega (arith, c.shared_slice_known-1.given c.args.at, c.requires.1)
 
 pub returns : goal.returns
 returns c = plan_choice c.args.words.now c.args.at c.args.first c.args.count c.args.r c.requires.1

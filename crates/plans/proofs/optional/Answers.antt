@@ -1,13 +1,18 @@
 -- `optional`: the word 0, or a row, which never begins with it. Assumes nothing.
-use Rattle.tree.proofs.Steps.{zero_end, zero_not}
+use Rattle.std.proofs.Common.{arith, ◌<◌, ◌≡◌, length, get_or, false}
+use Rattle.std.proofs.lemmas.Grind.{common_steps}
+use Rattle.tree.specs.Reader.{is_at}
 use Rattle.plans.proofs.Fields.{clear_opt, plan_absent, plan_present}
 use Rattle.plans.proofs.optional.Goals as goal
 
-pub returns-then-words-at-eq0 : goal.returns-then-words-at-eq0
-returns-then-words-at-eq0 c = plan_absent c.args.words.now c.args.at c.args.r (clear_opt c.args.r c.requires.0 c.requires.1) c.if-at-words.true c.if-words-at-eq0.true
+pub returns-then-eq : goal.returns-then-eq
+returns-then-eq c =
+    let here : c.args.at < length c.args.words.now = grind (arith, common_steps) in
+    let zero : get_or c.args.words.now c.args.at 0 ≡ 0 = grind (arith, common_steps) in
+    plan_absent c.args.words.now c.args.at c.args.r (clear_opt c.args.r c.requires.0 c.requires.1) here zero
 
-pub returns-else-words-at-eq0 : goal.returns-else-words-at-eq0
-returns-else-words-at-eq0 c = plan_present c.args.words.now c.args.at c.args.r (zero_not c.args.words.now c.args.at c.if-at-words.true c.if-words-at-eq0.false)
-
-pub returns-else-at-words : goal.returns-else-at-words
-returns-else-at-words c = plan_present c.args.words.now c.args.at c.args.r (zero_end c.args.words.now c.args.at c.if-at-words.false)
+pub returns-else-eq : goal.returns-else-eq
+unfolding is_at
+returns-else-eq c =
+    let other : is_at c.args.words.now 0 c.args.at ≡ false = grind (arith, common_steps) in
+    plan_present c.args.words.now c.args.at c.args.r other

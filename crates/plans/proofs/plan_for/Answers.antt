@@ -3,8 +3,7 @@ use Prim.Native.Nat.{◌-◌}
 use native.Mathlib.Omega.{arith}
 use mathlib.Core.Path.{refl}
 use Rattle.tree.proofs.Steps.{is_own, sort_opt, sort_many, sort_group}
-use Rattle.expr.proofs.Steps.{past}
-use Rattle.plans.proofs.Fields.{is_type, as_sort, of_sort, relisted, down, plan_plain, plan_group}
+use Rattle.plans.proofs.Fields.{is_type, as_sort, of_sort, down, plan_plain, plan_group}
 use Rattle.plans.proofs.plan_for.Goals as goal
 
 pub chosen-requires : goal.chosen-requires
@@ -22,14 +21,8 @@ chosen-requires-in-14 c = (of_sort c.args.sort (is_own 14 c.in-14.is refl) c.req
 pub chosen-requires-in-15 : goal.chosen-requires-in-15
 chosen-requires-in-15 c = (of_sort c.args.sort (is_own 15 c.in-15.is refl) c.requires.0, omega arith)
 
-pub overflow_sub-sort : goal.overflow_sub-sort
-overflow_sub-sort c = past 15 _ (past 14 _ (past 13 _ (past 12 _ (past 11 _ c.in-16-to-63.if-sort-lt11-own.false c.in-16-to-63.in_default-own.rest.0.0.0.0.1) c.in-16-to-63.in_default-own.rest.0.0.0.1) c.in-16-to-63.in_default-own.rest.0.0.1) c.in-16-to-63.in_default-own.rest.0.1) c.in-16-to-63.in_default-own.rest.1
-
-pub optional-requires : goal.optional-requires
-optional-requires c = (relisted (past 15 _ (past 14 _ (past 13 _ (past 12 _ (past 11 _ c.in-16-to-63.if-sort-lt11-own.false c.in-16-to-63.in_default-own.rest.0.0.0.0.1) c.in-16-to-63.in_default-own.rest.0.0.0.1) c.in-16-to-63.in_default-own.rest.0.0.1) c.in-16-to-63.in_default-own.rest.0.1) c.in-16-to-63.in_default-own.rest.1) refl c.requires.1, omega (arith, c.in-16-to-63.if-sort-lt64-own.true))
-
 pub listed-requires : goal.listed-requires
-listed-requires c = of_sort c.args.sort (sort_many c.args.sort c.in-64-to-111.if-sort-lt64-own.false c.in-64-to-111.if-sort-lt112-own.true) c.requires.0
+listed-requires c = of_sort c.args.sort (sort_many c.args.sort (omega arith) (omega arith)) c.requires.0
 
 pub returns-in-11 : goal.returns-in-11
 returns-in-11 c = as_sort c.args.sort (is_own 11 c.in-11.is refl) c.chosen.ensures
@@ -47,13 +40,13 @@ pub returns-in-15 : goal.returns-in-15
 returns-in-15 c = as_sort c.args.sort (is_own 15 c.in-15.is refl) c.chosen-in-15.ensures
 
 pub returns-in_default : goal.returns-in_default
-returns-in_default c = plan_plain c.args.words.now c.args.at c.args.sort (down 9 (down 10 c.in_default.if-sort-lt11-own.true c.requires.3) c.requires.2)
+returns-in_default c = plan_plain c.args.words.now c.args.at c.args.sort (down 9 (down 10 (omega arith) c.requires.3) c.requires.2)
 
 pub returns-in-16-to-63 : goal.returns-in-16-to-63
-returns-in-16-to-63 c = as_sort c.args.sort (sort_opt c.args.sort (past 15 _ (past 14 _ (past 13 _ (past 12 _ (past 11 _ c.in-16-to-63.if-sort-lt11-own.false c.in-16-to-63.in_default-own.rest.0.0.0.0.1) c.in-16-to-63.in_default-own.rest.0.0.0.1) c.in-16-to-63.in_default-own.rest.0.0.1) c.in-16-to-63.in_default-own.rest.0.1) c.in-16-to-63.in_default-own.rest.1) c.in-16-to-63.if-sort-lt64-own.true) c.optional.ensures
+returns-in-16-to-63 c = as_sort c.args.sort (sort_opt c.args.sort (omega arith) (omega arith)) c.optional.ensures
 
 pub returns-in-64-to-111 : goal.returns-in-64-to-111
-returns-in-64-to-111 c = as_sort c.args.sort (sort_many c.args.sort c.in-64-to-111.if-sort-lt64-own.false c.in-64-to-111.if-sort-lt112-own.true) c.listed.ensures
+returns-in-64-to-111 c = as_sort c.args.sort (sort_many c.args.sort (omega arith) (omega arith)) c.listed.ensures
 
 pub returns-in-112-to-255 : goal.returns-in-112-to-255
-returns-in-112-to-255 c = as_sort c.args.sort (sort_group c.args.sort c.in-112-to-255.if-sort-lt112-own.false) (plan_group c.args.words.now c.args.at (c.args.sort - 112))
+returns-in-112-to-255 c = as_sort c.args.sort (sort_group c.args.sort (omega arith)) (plan_group c.args.words.now c.args.at (c.args.sort - 112))

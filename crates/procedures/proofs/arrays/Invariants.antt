@@ -1,10 +1,7 @@
 -- `arrays`: at each turn no more are counted than parameters were read. Assumes nothing.
-use Prim.Native.Nat.{◌-◌, ◌≤◌}
+use Prim.Native.Nat.{◌≤◌}
 use Rattle.procedures.proofs.Walk.{Walked}
 use Rattle.procedures.proofs.arrays.Given as goal
 
-abbrev pub invariant-loop-i : goal.invariant-loop-i
-invariant-loop-i l = (l.n ≤ l.i) × Walked (λ ps. Unit {0}) l.words l.from l.count l.at l.i
-
-abbrev pub decreases-loop-i : goal.decreases-loop-i
-decreases-loop-i l = l.count - l.i
+abbrev pub invariant-loop : goal.invariant-loop
+invariant-loop l = (l.n ≤ l.counter) × Walked (λ ps. Unit {0}) l.words l.from l.count l.at l.counter

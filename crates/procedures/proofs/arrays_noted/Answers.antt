@@ -1,39 +1,17 @@
--- `arrays_noted`: the notes have the first uses in the body; at each turn the arrays among the parameters that were read are entered. Assumes nothing.
+-- `arrays_noted`: notes of zeros note no use; the walk notes the first uses in the body. Assumes nothing.
 use native.Mathlib.Omega.{arith}
-use mathlib.Core.Path.{refl, ◌∙◌}
-use Rattle.steps.proofs.Compose.{each_none}
-use Rattle.collect.specs.Collect.{array_param}
-use Rattle.procedures.specs.Post.{plain}
-use Rattle.procedures.proofs.Walk.{walk_start, walk_place, walk_next, walk_end}
 use Rattle.procedures.proofs.Reading.{body_tree}
-use Rattle.procedures.proofs.Does.{enters_next}
+use Rattle.procedures.proofs.Noted.{blank}
 use Rattle.procedures.proofs.arrays_noted.Goals as goal
 
 pub first_uses-requires : goal.first_uses-requires
-first_uses-requires c = (body_tree c.requires.0, c.requires.3)
+first_uses-requires g c = (body_tree c.requires.0, blank _)
 
-pub loop-i-init : goal.loop-i-init
-loop-i-init c = (refl, refl, c.requires.2, λ t B. walk_start _ _ _ _ (λ d k. each_none (λ x N D. array_param (plain N D) c.args.scope c.args.line t x) (c.requires.2, k)))
+pub arrays_by-requires : goal.arrays_by-requires
+arrays_by-requires g c = (c.requires.0, c.requires.1, c.requires.2, c.first_uses.ensures)
 
-pub param-p-requires : goal.param-p-requires
-param-p-requires c = walk_place (c.loop-i.invariant.3 _ c.requires.0.there) c.loop-i-test.true c.requires.1
+pub whole_as_slice-first_uses : goal.whole_as_slice-first_uses
+whole_as_slice-first_uses g c = omega (arith, c.requires.3)
 
-pub array_noted-c-requires : goal.array_noted-c-requires
-array_noted-c-requires c = (c.requires.0, c.first_uses.ensures, c.param-p.ensures.name_small, c.loop-i.invariant.2)
-
-pub overflow_add-i : goal.overflow_add-i
-overflow_add-i c = omega (arith, c.loop-i-test.true)
-
-pub loop-i-smaller : goal.loop-i-smaller
-loop-i-smaller c = omega (arith, c.loop-i-test.true)
-
-pub loop-i-preserved : goal.loop-i-preserved
-loop-i-preserved c =
-    let G = c.array_noted-c.ensures _ c.requires.0.there in
-    (c.array_noted-c.auto.b ∙ c.loop-i.invariant.0, G.kept ∙ c.loop-i.invariant.1, G.fit, λ t B. walk_next (c.loop-i.invariant.3 t B) _ c.loop-i-test.true c.param-p.ensures (λ done p l o H. enters_next (λ x N D. array_param (plain N D) c.args.scope c.args.line t x) c.loop-i.invariant.1 (c.array_noted-c.ensures t B) done p o H))
-
-pub shape_of-b : goal.shape_of-b
-shape_of-b c = c.loop-i.invariant.0
-
-pub returns : goal.returns
-returns c = λ t B. record { kept = c.loop-i.invariant.1; fit = c.loop-i.invariant.2; does = λ ps T d k. walk_end (c.loop-i.invariant.3 t B) c.loop-i-test.false ps T d k }
+pub shared_whole_as_slice-arrays_by : goal.shared_whole_as_slice-arrays_by
+shared_whole_as_slice-arrays_by g c = omega (arith, c.requires.3)

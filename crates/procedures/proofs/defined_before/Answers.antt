@@ -1,16 +1,14 @@
 -- `defined_before`: what the rows say, asked before the diagnostic; without a row nothing is said. Assumes nothing.
-use mathlib.Core.Path.{◌≡◌, refl, sym, ap, ◌∙◌, subst}
+use mathlib.Core.Path.{◌≡◌, refl, sym, ap, ◌∙◌}
 use mathlib.Core.Bool.{true, false}
 use mathlib.Core.List.{List, [], ◌∷◌}
 use mathlib.Core.Option.{none, some}
-use Prim.Native.Nat.{ℕ, ◌+◌, ◌*◌, ◌<◌}
+use Prim.Native.Nat.{ℕ, ◌+◌, ◌*◌}
 use native.Mathlib.Omega.{arith}
 use lib.ListN.{get_or}
 use Rattle.table.specs.Rows.{Row, width, find}
 use Rattle.runs.specs.Runs.{row_of, row_in, Keeps}
 use Rattle.runs.specs.Places.{row_word_lem}
-use Rattle.table.specs.Answers.{Within}
-use Rattle.table.specs.declared.Found.{Found}
 use Rattle.entries.specs.Entries.{entry_key, has_row, row_word}
 use Rattle.steps.proofs.Laws.{no_note, noting_is}
 use Rattle.procedures.proofs.Does.{defined_acts}
@@ -22,30 +20,10 @@ returns-in_default c =
     λ rows H. ap (row_in c.args.b.now) (sym c.in_default.is) ∙ c.find_entry.ensures.found rows H in
     defined_acts c.args.line c.args.name 0 false c.requires.1.0 (λ rows H. ap has_row (is rows H)) (λ rows H. ap (row_word 3) (is rows H)) (no_note c.args.s c.args.d.now _ c.requires.1.1 false refl)
 
-pub overflow_mul-prev : goal.overflow_mul-prev
-overflow_mul-prev c =
-    let in_table : c.in-At.i < c.args.s.rows = subst (λ (f : Found). Within c.args.s.rows f) c.in-At.is c.find_entry.ensures.within in
-    omega (arith, in_table, c.requires.1.0)
-
-pub overflow_add-prev : goal.overflow_add-prev
-overflow_add-prev c =
-    let in_table : c.in-At.i < c.args.s.rows = subst (λ (f : Found). Within c.args.s.rows f) c.in-At.is c.find_entry.ensures.within in
-    omega (arith, in_table, c.requires.1.0)
-
-pub offset_bounds-b-i : goal.offset_bounds-b-i
-offset_bounds-b-i c =
-    let in_table : c.in-At.i < c.args.s.rows = subst (λ (f : Found). Within c.args.s.rows f) c.in-At.is c.find_entry.ensures.within in
-    omega (arith, in_table, c.requires.1.0)
-
-pub bounds-b-i : goal.bounds-b-i
-bounds-b-i c =
-    let in_table : c.in-At.i < c.args.s.rows = subst (λ (f : Found). Within c.args.s.rows f) c.in-At.is c.find_entry.ensures.within in
-    omega (arith, in_table, c.requires.1.0)
-
 pub returns : goal.returns
 returns c =
-    let i : ℕ = c.in-At.i in
+    let i : ℕ = c.in-Some.i in
     let is : (rows : List Row) → Keeps rows c.args.s.rows c.args.b.now → some (row_of c.args.b.now i) ≡ find (entry_key 135 c.args.name 0) rows =
-    λ rows H. ap (row_in c.args.b.now) (sym c.in-At.is) ∙ c.find_entry.ensures.found rows H in
+    λ rows H. ap (row_in c.args.b.now) (sym c.in-Some.is) ∙ c.find_entry.ensures.found rows H in
     let prev : ℕ = get_or c.args.b.now (i * width + 3) 0 in
     defined_acts c.args.line c.args.name prev true c.requires.1.0 (λ rows H. ap has_row (is rows H)) (λ rows H. sym (row_word_lem c.args.b.now i 3 (omega arith)) ∙ ap (row_word 3) (is rows H)) (noting_is (25 ∷ c.args.line ∷ (c.args.name + 1) ∷ 0 ∷ 0 ∷ prev ∷ []) true refl c.push.ensures)

@@ -2,5 +2,5 @@
 use borrow.Author.Tests.{eqb-false}
 use Rattle.procedures.proofs.follows.Goals as goal
 
-pub returns : goal.returns
-returns c = λ z e k. eqb-false _ 1 z k
+pub returns-then-words-i : goal.returns-then-words-i
+returns-then-words-i c = λ z e k. eqb-false _ 1 z k

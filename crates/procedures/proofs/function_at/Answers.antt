@@ -15,8 +15,8 @@ bounds-words-at-3 c = function_inside c.requires
 pub past_params-m-requires : goal.past_params-m-requires
 past_params-m-requires c = function_params c.requires
 
-pub as_type-t-requires : goal.as_type-t-requires
-as_type-t-requires c = function_clause c.requires c.past_params-m.ensures
+pub as_type-ty-requires : goal.as_type-ty-requires
+as_type-ty-requires c = function_clause c.requires c.past_params-m.ensures
 
 pub overflow_sub-end : goal.overflow_sub-end
 overflow_sub-end c = (last_flags c.requires).0
@@ -34,4 +34,4 @@ pub overflow_sub-result : goal.overflow_sub-result
 overflow_sub-result c = (last_flags c.requires).0
 
 pub returns : goal.returns
-returns c = function_is c.requires c.past_params-m.ensures c.as_type-t.ensures _ _ c.flag-keeps.ensures c.flag-deffn.ensures
+returns c = function_is c.requires c.past_params-m.ensures c.as_type-ty.ensures _ _ c.flag-keeps.ensures c.flag-deffn.ensures

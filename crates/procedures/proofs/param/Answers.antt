@@ -12,8 +12,8 @@ bounds-words-at-2 c = omega (arith, param_inside c.requires)
 pub bounds-words-at-3 : goal.bounds-words-at-3
 bounds-words-at-3 c = omega (arith, param_inside c.requires)
 
-pub as_type-t-requires : goal.as_type-t-requires
-as_type-t-requires c = param_clause c.requires
+pub as_type-ty-requires : goal.as_type-ty-requires
+as_type-ty-requires c = param_clause c.requires
 
 pub returns : goal.returns
-returns c = param_is c.flag-byval.ensures c.flag-array.ensures c.as_type-t.ensures
+returns c = param_is c.flag-byval.ensures c.flag-array.ensures c.as_type-ty.ensures

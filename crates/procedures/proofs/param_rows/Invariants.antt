@@ -1,5 +1,5 @@
 -- `param_rows`: at each turn the rows of the parameters that were read are entered, each under its ordinal. Assumes nothing.
-use Prim.Native.Nat.{ℕ, ◌-◌, ◌*◌, ◌≤◌}
+use Prim.Native.Nat.{ℕ, ◌*◌, ◌≤◌}
 use mathlib.Core.Path.{◌≡◌}
 use mathlib.Core.List.{List}
 use mathlib.Core.Option.{some}
@@ -15,6 +15,3 @@ abbrev pub invariant-loop-i : goal.invariant-loop-i
 invariant-loop-i l =
     (length l.b ≡ length l.initial.b) × (l.c.notes ≡ l.initial.c.notes) × (l.c.rows * width ≤ length l.b)
     × Walked (λ ps. (d : List ℕ) → l.initial.c.notes * note_width ≤ length d → Does (λ N D. each (enter (some N)) (param_rows l.name 0 ps)) l.initial.c l.c l.initial.b d l.b d) l.words l.from l.count l.at l.i
-
-abbrev pub decreases-loop-i : goal.decreases-loop-i
-decreases-loop-i l = l.count - l.i

@@ -1,5 +1,5 @@
 -- `param_strings`: at each turn the parameters that were read are looked at in order, beside any rows. Assumes nothing.
-use Prim.Native.Nat.{ℕ, ◌-◌, ◌*◌, ◌≤◌}
+use Prim.Native.Nat.{ℕ, ◌*◌, ◌≤◌}
 use mathlib.Core.Path.{◌≡◌}
 use mathlib.Core.List.{List}
 use lib.ListN.{length}
@@ -11,10 +11,7 @@ use Rattle.procedures.specs.Post.{plain}
 use Rattle.procedures.proofs.Walk.{Walked}
 use Rattle.procedures.proofs.param_strings.Given as goal
 
-abbrev pub invariant-loop-i : goal.invariant-loop-i
-invariant-loop-i l =
+abbrev pub invariant-loop : goal.invariant-loop
+invariant-loop l =
     (length l.d ≡ length l.initial.d) × (l.c.rows ≡ l.initial.c.rows) × (l.c.notes * note_width ≤ length l.d)
-    × Walked (λ ps. (b : List ℕ) → l.initial.c.rows * width ≤ length b → Does (λ N D. each (param_string (plain N D) l.line l.name) ps) l.initial.c l.c b l.initial.d b l.d) l.words l.from l.count l.at l.i
-
-abbrev pub decreases-loop-i : goal.decreases-loop-i
-decreases-loop-i l = l.count - l.i
+    × Walked (λ ps. (b : List ℕ) → l.initial.c.rows * width ≤ length b → Does (λ N D. each (param_string (plain N D) l.line l.name) ps) l.initial.c l.c b l.initial.d b l.d) l.words l.from l.count l.at l.counter

@@ -5,9 +5,6 @@ use Rattle.procedures.proofs.Reading.{proc_body, proc_params}
 use Rattle.procedures.proofs.Does.{procedure_acts}
 use Rattle.procedures.proofs.procedure.Goals as goal
 
-pub overflow_add-inner : goal.overflow_add-inner
-overflow_add-inner c = omega (arith, c.requires.2)
-
 pub array_params-s4-requires : goal.array_params-s4-requires
 array_params-s4-requires c = (proc_body c.requires.0, proc_params c.requires.0, (c.with_marks-s3.ensures c.args.words.now).fit)
 

@@ -5,8 +5,8 @@ use Rattle.procedures.proofs.typed_param.Goals as goal
 pub returns-then-p : goal.returns-then-p
 returns-then-p c = typed_array c.args.scope c.args.line c.args.p c.if-p.true c.requires.2
 
-pub returns-then-p-eq0 : goal.returns-then-p-eq0
-returns-then-p-eq0 c = typed_none c.args.scope c.args.line c.args.p c.if-p-eq0.true c.requires.2
+pub returns-in_default : goal.returns-in_default
+returns-in_default c = typed_none c.args.scope c.args.line c.args.p c.in_default.is c.requires.2
 
 pub returns : goal.returns
-returns c = typed_some c.args.scope c.args.line c.args.p c.if-p-eq0.false c.undefined-t.ensures c.enter.ensures c.if-p.false
+returns c = typed_some c.args.scope c.args.line c.args.p c.in-Some.is c.undefined-t.ensures c.enter.ensures c.if-p.false

@@ -2,8 +2,8 @@
 use Rattle.procedures.proofs.Does.{undefined_other, undefined_record}
 use Rattle.procedures.proofs.undefined.Goals as goal
 
-pub returns-then-head-ne45 : goal.returns-then-head-ne45
-returns-then-head-ne45 c = undefined_other c.args.line c.args.name c.if-head-ne45.true c.requires.2
+pub returns-then-ty-ne45 : goal.returns-then-ty-ne45
+returns-then-ty-ne45 c = undefined_other c.args.line c.args.name c.if-ty-ne45.true c.requires.2
 
 pub returns : goal.returns
-returns c = undefined_record c.args.line c.args.name c.args.arg c.if-head-ne45.false _ c.requires.2.0 c.has-known.ensures c.push_if.ensures
+returns c = undefined_record c.args.line c.args.name c.args.ty.arg c.if-ty-ne45.false _ c.requires.2.0 c.has-known.ensures c.push_if.ensures

@@ -1,13 +1,18 @@
--- `used`: where no list stands after the name there is no use, else the body is walked. Assumes nothing.
+-- `used`: the notes have the first use where they have room for the name; where no list stands after the name there is no use, else the body is walked.
+-- Assumes nothing.
 use native.Mathlib.Omega.{arith}
 use mathlib.Core.Path.{sym, ◌∙◌}
 use Rattle.subscripts.proofs.Expressions.{unused}
+use Rattle.procedures.proofs.Noted.{room_below}
 use Rattle.procedures.proofs.Reading.{body_inside, body_tree}
 use Rattle.procedures.proofs.Quiet.{quiet_none}
 use Rattle.procedures.proofs.used.Goals as goal
 
-pub overflow_add-name : goal.overflow_add-name
-overflow_add-name c = omega (arith, c.requires.1)
+pub first_use-requires : goal.first_use-requires
+first_use-requires c = room_below _ _ (omega (arith, c.if-name-uses.true))
+
+pub returns-then-name-uses : goal.returns-then-name-uses
+returns-then-name-uses c = λ ns n v s. c.first_use.ensures ∙ c.requires.1.gives ns n v _ s _ (room_below _ _ c.if-name-uses.true)
 
 pub listed-requires : goal.listed-requires
 listed-requires c = body_inside c.requires.0

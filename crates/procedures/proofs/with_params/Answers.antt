@@ -5,4 +5,4 @@ use Rattle.procedures.proofs.with_params.Goals as goal
 
 pub returns : goal.returns
 returns c =
-    with_params_lem c.args.p.line _ (omega (arith, c.well_formed)) c.bit-f.ensures.value c.remove_under-s1.ensures c.enter-s2.ensures c.param_rows.ensures
+    with_params_lem c.args.p.line _ _ _ (omega (arith, c.well_formed)) c.bit-f.ensures.value c.row_words-head.ensures.head c.row_words-head.ensures.arg c.remove_under-s1.ensures c.enter-s2.ensures c.param_rows.ensures

@@ -1,7 +1,13 @@
--- `check_program_with`: what `judged` says of the step that `tree::program_with` gives. Assumes nothing.
-use mathlib.Core.Path.{◌∙◌}
-use Rattle.reader.proofs.Laws.{program_told}
+-- `check_program_with`: what `whole` says of the place where `tree::program_with` ended, or the refusal of what was wrong. Assumes nothing.
+use Rattle.std.proofs.Common.{◌∙◌}
+use Rattle.std.proofs.lemmas.Result.{err_from_is_err_and}
+use Rattle.reader.specs.Program.{told}
+use Rattle.reader.proofs.Laws.{program_ok, program_err}
 use Rattle.reader.proofs.check_program_with.Goals as goal
 
+pub returns-in_err-end : goal.returns-in_err-end
+unfolding told
+returns-in_err-end c = let p = err_from_is_err_and c.from_residual.result c.from_residual.ensures.1 in (rw (p.1, p.2) (program_err c.args.names.now c.args.words.now c.args.erased.now c.program_with.ensures.0 c.in_err-end.was), c.program_with.ensures.1)
+
 pub returns : goal.returns
-returns c = (c.judged.ensures ∙ program_told _ _ _ c.program_with-s.ensures.0, c.program_with-s.ensures.1)
+returns c = (c.whole.ensures ∙ program_ok c.args.names.now c.args.words.now c.args.erased.now c.program_with.ensures.0 c.in_ok-end.was, c.program_with.ensures.1)

@@ -1,10 +1,13 @@
--- `expression_at` is the node that `Cursor::expr` passed, of at most 100 levels. Assumes nothing.
-use Rattle.reader.specs.Reading.{node_of}
-use mathlib.Core.Path.{◌∙◌}
-use Rattle.reader.specs.Reading.{expression_of}
-use Rattle.reader.proofs.Laws.{node_is}
+-- `expression_at`: the node that was read, or the refusal of what was wrong. Assumes nothing.
+use Rattle.std.proofs.lemmas.Result.{err_from_is_err_and}
+use Rattle.reader.specs.Reading.{told, expression_of}
+use Rattle.reader.proofs.Laws.{node_ok, node_err}
 use Rattle.reader.proofs.expression_at.Goals as goal
 
+pub returns-in_err-past : goal.returns-in_err-past
+unfolding told expression_of
+returns-in_err-past c = let p = err_from_is_err_and c.from_residual.result c.from_residual.ensures.1 in rw (p.1, p.2) (node_err c.args.words.now c.args.at _ c.expr.ensures c.in_err-past.was)
+
 pub returns : goal.returns
-unfolding expression_of node_of
-returns c = c.passed.ensures ∙ node_is c.args.words.now c.args.at _ c.expr-s.ensures
+unfolding told expression_of
+returns c = rw c.passed.ensures (node_ok c.args.words.now c.args.at _ c.expr.ensures c.in_ok-past.was)

@@ -1,13 +1,13 @@
 -- `moved_by` by cases: past the node that was read, and no move on a refusal. Assumes nothing.
-use mathlib.Core.Path.{refl, sym}
+use Rattle.std.proofs.Common.{refl, sym}
 use Rattle.reader.specs.Reading.{told, moved_of}
 use Rattle.words.specs.Refusals.{refused}
 use Rattle.reader.proofs.moved_by.Goals as goal
 
-pub returns-in-Read : goal.returns-in-Read
+pub returns-in-Ok : goal.returns-in-Ok
 unfolding told moved_of refused
-returns-in-Read c = (sym c.in-Read.is, rw c.in-Read.is refl)
+returns-in-Ok c = (sym c.in-Ok.is, rw c.in-Ok.is refl)
 
-pub returns-in-Refused : goal.returns-in-Refused
+pub returns-in-Err : goal.returns-in-Err
 unfolding told moved_of refused
-returns-in-Refused c = (refl, rw c.in-Refused.is refl)
+returns-in-Err c = (refl, rw c.in-Err.is refl)

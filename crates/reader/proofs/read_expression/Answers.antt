@@ -1,31 +1,26 @@
--- `read_expression`: 5, then 1, then what `expression_at` gives under the names' marks. Assumes nothing.
-use mathlib.Core.Path.{refl, sym, ap, ◌∙◌}
-use native.Mathlib.Omega.{arith}
-use Rattle.words.specs.Refusals.{refused}
-use Rattle.strings.specs.OpenLaws.{said_sound, answers_size, answers_breaks, answers_inner}
+-- `read_expression`: how an entry begins, then what `expression_at` gives under the names' marks. Assumes nothing.
+use Rattle.std.proofs.Common.{refl, sym, ap, ◌∙◌, arith}
+use Rattle.std.proofs.lemmas.Result.{err_from_is_err_and}
 use Rattle.reader.specs.Reading.{told, expression_of}
+use Rattle.reader.specs.Begun.{begun_opened, begun_stops, begun_gives}
 use Rattle.reader.proofs.Laws.{few_strings, as_many, few_marks}
 use Rattle.reader.proofs.read_expression.Goals as goal
 
-pub returns-then-not-sized_tree : goal.returns-then-not-sized_tree
-unfolding told refused
-returns-then-not-sized_tree c = answers_size (sym c.sized_tree.ensures ∙ c.if-not-sized_tree.true) refl
+pub marks-requires : goal.marks-requires
+marks-requires c = λ e. few_strings c.args.bytes.now c.args.ends.now c.args.words.now (sym c.sized_tree.ensures ∙ e)
 
-pub returns-in-Breaks : goal.returns-in-Breaks
-unfolding told refused
-returns-in-Breaks c = answers_breaks (sym c.sized_tree.ensures ∙ c.if-not-sized_tree.false) c.check-v.ensures c.in-Breaks.is refl
-
-pub names_of-names-requires : goal.names_of-names-requires
-names_of-names-requires c = (said_sound c.check-v.ensures c.in_default.is, few_strings c.args.bytes.now c.args.ends.now c.args.words.now (sym c.sized_tree.ensures ∙ c.if-not-sized_tree.false))
+pub returns-in_err-names : goal.returns-in_err-names
+unfolding told
+returns-in_err-names c = let p = err_from_is_err_and c.from_residual.result c.from_residual.ensures.1 in begun_stops (rw c.sized_tree.ensures at c.marks.ensures) c.in_err-names.was (rw (p.1, p.2) refl)
 
 pub slice_bounds-names-end : goal.slice_bounds-names-end
-slice_bounds-names-end c = omega (arith, c.names_of-names.ensures.long, few_strings c.args.bytes.now c.args.ends.now c.args.words.now (sym c.sized_tree.ensures ∙ c.if-not-sized_tree.false))
+slice_bounds-names-end c = let o = begun_opened c.marks.ensures c.in_ok-names.was in omega (arith, o.names.long, few_strings c.args.bytes.now c.args.ends.now c.args.words.now (sym c.sized_tree.ensures ∙ o.within))
 
 pub slice_bounds-expression_at-end : goal.slice_bounds-expression_at-end
-slice_bounds-expression_at-end c = as_many c.names_of-names.ensures (few_strings c.args.bytes.now c.args.ends.now c.args.words.now (sym c.sized_tree.ensures ∙ c.if-not-sized_tree.false))
+slice_bounds-expression_at-end c = let o = begun_opened c.marks.ensures c.in_ok-names.was in as_many o.names (few_strings c.args.bytes.now c.args.ends.now c.args.words.now (sym c.sized_tree.ensures ∙ o.within))
 
 pub expression_at-requires : goal.expression_at-requires
-expression_at-requires c = few_marks c.names_of-names.ensures (few_strings c.args.bytes.now c.args.ends.now c.args.words.now (sym c.sized_tree.ensures ∙ c.if-not-sized_tree.false))
+expression_at-requires c = let o = begun_opened c.marks.ensures c.in_ok-names.was in few_marks o.names (few_strings c.args.bytes.now c.args.ends.now c.args.words.now (sym c.sized_tree.ensures ∙ o.within))
 
 pub returns : goal.returns
-returns c = answers_inner (sym c.sized_tree.ensures ∙ c.if-not-sized_tree.false) (said_sound c.check-v.ensures c.in_default.is) (c.expression_at.ensures ∙ ap (λ ns. expression_of ns c.args.words.now c.args.at) c.names_of-names.ensures.first)
+returns c = let o = begun_opened c.marks.ensures c.in_ok-names.was in begun_gives (rw c.sized_tree.ensures at c.marks.ensures) c.in_ok-names.was (c.expression_at.ensures ∙ ap (λ ns. expression_of ns c.args.words.now c.args.at) o.names.first)

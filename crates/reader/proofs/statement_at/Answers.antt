@@ -1,10 +1,13 @@
--- `statement_at` is the node that `tree::stmt` passed, of at most 100 levels. Assumes nothing.
-use Rattle.reader.specs.Reading.{node_of}
-use mathlib.Core.Path.{◌∙◌}
-use Rattle.reader.specs.Reading.{statement_of}
-use Rattle.reader.proofs.Laws.{node_is}
+-- `statement_at`: the node that was read, or the refusal of what was wrong. Assumes nothing.
+use Rattle.std.proofs.lemmas.Result.{err_from_is_err_and}
+use Rattle.reader.specs.Reading.{told, statement_of}
+use Rattle.reader.proofs.Laws.{node_ok, node_err}
 use Rattle.reader.proofs.statement_at.Goals as goal
 
+pub returns-in_err-past : goal.returns-in_err-past
+unfolding told statement_of
+returns-in_err-past c = let p = err_from_is_err_and c.from_residual.result c.from_residual.ensures.1 in rw (p.1, p.2) (node_err c.args.words.now c.args.at _ c.stmt.ensures c.in_err-past.was)
+
 pub returns : goal.returns
-unfolding statement_of node_of
-returns c = c.passed.ensures ∙ node_is c.args.words.now c.args.at _ c.stmt-s.ensures
+unfolding told statement_of
+returns c = rw c.passed.ensures (node_ok c.args.words.now c.args.at _ c.stmt.ensures c.in_ok-past.was)

@@ -9,10 +9,10 @@ pub returns-then-at-words : goal.returns-then-at-words
 unfolding told refused
 returns-then-at-words c = end_over c.args.names.now c.args.words.now c.args.erased.now c.args.at c.if-at-words.true
 
-pub returns-then-erased_right : goal.returns-then-erased_right
-unfolding told refused
-returns-then-erased_right c = end_fine c.args.names.now c.args.words.now c.args.erased.now c.args.at c.if-at-words.false (sym c.erased_right.ensures ∙ c.if-erased_right.true)
-
 pub returns : goal.returns
 unfolding told refused
-returns c = end_erased c.args.names.now c.args.words.now c.args.erased.now c.args.at c.if-at-words.false (sym c.erased_right.ensures ∙ c.if-erased_right.false)
+returns c = end_fine c.args.names.now c.args.words.now c.args.erased.now c.args.at c.if-at-words.false (sym c.erased_right.ensures ∙ c.if-not-erased_right.false)
+
+pub returns-then-not-erased_right : goal.returns-then-not-erased_right
+unfolding told refused
+returns-then-not-erased_right c = end_erased c.args.names.now c.args.words.now c.args.erased.now c.args.at c.if-at-words.false (sym c.erased_right.ensures ∙ c.if-not-erased_right.true)

@@ -7,9 +7,9 @@ use Rattle.replay.proofs.judge.Goals as goal
 within : (r : ℕ) (text b last : List ℕ) → r ≡ size text b → length last ≡ length b → r ≤ length last
 within r text b last e l = omega (arith, size_le text b)
 
-pub slice_bounds-same-end : goal.slice_bounds-same-end
-slice_bounds-same-end c = within _ _ _ c.patskneli_listing-k.new.out c.patskneli_listing-k.ensures.0 c.patskneli_listing-k.auto.out
+pub slice_bounds-eq-end : goal.slice_bounds-eq-end
+slice_bounds-eq-end c = within _ _ _ c.patskneli_listing-k.new.out c.patskneli_listing-k.ensures.0 c.patskneli_listing-k.auto.out
 
-pub slice_bounds-same-end-2 : goal.slice_bounds-same-end-2
-slice_bounds-same-end-2 c =
+pub slice_bounds-eq-end-2 : goal.slice_bounds-eq-end-2
+slice_bounds-eq-end-2 c =
     sym (length-take-le _ _ (within _ _ _ c.patskneli_listing-k.new.out c.patskneli_listing-k.ensures.0 c.patskneli_listing-k.auto.out))

@@ -1,5 +1,6 @@
--- `replay` ends, since each turn leaves a record less.
+-- `replay`: no more records came out alike than were read.
+use Rattle.std.proofs.Common.{◌≤◌}
 use Rattle.replay.proofs.replay.Given as goal
 
-abbrev pub decreases-loop-left : goal.decreases-loop-left
-decreases-loop-left g l = l.left
+abbrev pub invariant-loop-all : goal.invariant-loop-all
+invariant-loop-all g l = l.right ≤ l.all

@@ -6,4 +6,4 @@ pub returns-then-scope_ok : goal.returns-then-scope_ok
 returns-then-scope_ok c = rw (sym c.scope_ok.ensures ∙ c.if-scope_ok.true) c.is_name.ensures
 
 pub returns-else-scope_ok : goal.returns-else-scope_ok
-returns-else-scope_ok c = rw (sym c.scope_ok.ensures ∙ c.if-scope_ok.false) refl
+returns-else-scope_ok c = c.if-scope_ok.false ∙ rw (sym c.scope_ok.ensures ∙ c.if-scope_ok.false) refl

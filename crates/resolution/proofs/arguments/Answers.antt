@@ -2,8 +2,8 @@
 use Prim.Native.Nat.{◌-◌}
 use mathlib.Core.Path.{◌∙◌}
 use native.Mathlib.Omega.{arith}
-use lib.ListN.{length-set}
-use lib.ListN.{length}
+use lib.ListN.{length-set, length}
+use Rattle.std.proofs.lemmas.Result.{err_from_is_err_and}
 use Rattle.resolution.proofs.Laws.{stopped, ruled_as, passed_as, list_span, room_first, ready_args, name_fits, args_shut, args_told}
 use Rattle.resolution.proofs.arguments.Goals as goal
 
@@ -17,10 +17,10 @@ pub bounds-words-at : goal.bounds-words-at
 bounds-words-at c = omega (arith, list_span c.args.names.now c.args.words.now c.args.rows.now (length c.args.out.now) c.args.scope c.args.name c.args.at c.args.end c.requires.1 c.requires.0)
 
 pub bounds-out-0 : goal.bounds-out-0
-bounds-out-0 c = omega (arith, room_first c.args.names.now c.args.words.now c.args.rows.now (length c.args.out.now) c.args.scope c.args.name c.args.at c.args.end c.requires.1 c.requires.0 (passed_as c.admits.ensures (rw c.in-Table.is at c.ruled.ensures)))
+bounds-out-0 c = omega (arith, room_first c.args.names.now c.args.words.now c.args.rows.now (length c.args.out.now) c.args.scope c.args.name c.args.at c.args.end c.requires.1 c.requires.0 (passed_as c.admits-right.ensures (rw c.in_ok-held.was at c.ruled.ensures).1))
 
-pub offset_bounds-words-at-in-Table : goal.offset_bounds-words-at-in-Table
-offset_bounds-words-at-in-Table c = omega (arith, list_span c.args.names.now c.args.words.now c.args.rows.now (length c.args.out.now) c.args.scope c.args.name c.args.at c.args.end c.requires.1 c.requires.0)
+pub offset_bounds-words-at-2 : goal.offset_bounds-words-at-2
+offset_bounds-words-at-2 c = omega (arith, list_span c.args.names.now c.args.words.now c.args.rows.now (length c.args.out.now) c.args.scope c.args.name c.args.at c.args.end c.requires.1 c.requires.0)
 
 pub slice_bounds-resolve_args-count : goal.slice_bounds-resolve_args-count
 slice_bounds-resolve_args-count c = omega (arith, (list_span c.args.names.now c.args.words.now c.args.rows.now (length c.args.out.now) c.args.scope c.args.name c.args.at c.args.end c.requires.1 c.requires.0).0)
@@ -31,14 +31,14 @@ slice_bounds-resolve_args-start c = omega (arith, (list_span c.args.names.now c.
 pub slice_bounds-resolve_args-end : goal.slice_bounds-resolve_args-end
 slice_bounds-resolve_args-end c = omega (arith, (list_span c.args.names.now c.args.words.now c.args.rows.now (length c.args.out.now) c.args.scope c.args.name c.args.at c.args.end c.requires.1 c.requires.0).1)
 
-pub resolve_args-s-requires : goal.resolve_args-s-requires
-resolve_args-s-requires c = (ready_args c.args.names.now c.args.words.now c.args.rows.now (length c.args.out.now) c.args.scope c.args.name c.args.at c.args.end c.requires.1 c.requires.0 (length-set c.args.out.now 0 _) (passed_as c.admits.ensures (rw c.in-Table.is at c.ruled.ensures)), name_fits c.args.names.now c.args.words.now c.args.rows.now (length c.args.out.now) c.args.scope c.args.name c.args.at c.args.end c.requires.1 c.requires.0 (passed_as c.admits.ensures (rw c.in-Table.is at c.ruled.ensures)))
+pub resolve_args-past-requires : goal.resolve_args-past-requires
+resolve_args-past-requires c = rw (rw c.in_ok-held.was at c.ruled.ensures).0 ((ready_args c.args.names.now c.args.words.now c.args.rows.now (length c.args.out.now) c.args.scope c.args.name c.args.at c.args.end c.requires.1 c.requires.0 (length-set c.args.out.now 0 _) (passed_as c.admits-right.ensures (rw c.in_ok-held.was at c.ruled.ensures).1), name_fits c.args.names.now c.args.words.now c.args.rows.now (length c.args.out.now) c.args.scope c.args.name c.args.at c.args.end c.requires.1 c.requires.0 (passed_as c.admits-right.ensures (rw c.in_ok-held.was at c.ruled.ensures).1)))
 
-pub returns-in-Shut : goal.returns-in-Shut
-returns-in-Shut c = stopped _ _ (args_shut c.args.names.now c.args.words.now c.args.rows.now (length c.args.out.now) c.args.scope c.args.name c.args.at c.args.end c.requires.1 c.requires.0 _ (ruled_as c.args.names.now c.args.rows.now (c.args.end - c.args.at) (length c.args.out.now) _ c.admits.ensures (rw c.in-Shut.is at c.ruled.ensures)))
+pub returns-in_err-held : goal.returns-in_err-held
+returns-in_err-held c = let p = err_from_is_err_and c.from_residual.result c.from_residual.ensures.1 in rw (p.1, p.2) (stopped _ _ (args_shut c.args.names.now c.args.words.now c.args.rows.now (length c.args.out.now) c.args.scope c.args.name c.args.at c.args.end c.requires.1 c.requires.0 _ (ruled_as c.args.names.now c.args.rows.now (c.args.end - c.args.at) (length c.args.out.now) _ c.admits-right.ensures (rw c.in_err-held.was at c.ruled.ensures))))
 
 pub shape_of-out : goal.shape_of-out
-shape_of-out c = c.resolve_args-s.auto.out ∙ length-set c.args.out.now 0 _
+shape_of-out c = c.resolve_args-past.auto.out ∙ length-set c.args.out.now 0 _
 
-pub returns-in-Table : goal.returns-in-Table
-returns-in-Table c = args_told c.args.names.now c.args.words.now c.args.rows.now (length c.args.out.now) c.args.scope c.args.name c.args.at c.args.end c.requires.1 c.requires.0 (passed_as c.admits.ensures (rw c.in-Table.is at c.ruled.ensures)) c.resolve_args-s.ensures
+pub returns : goal.returns
+returns c = args_told c.args.names.now c.args.words.now c.args.rows.now (length c.args.out.now) c.args.scope c.args.name c.args.at c.args.end c.requires.1 c.requires.0 (passed_as c.admits-right.ensures (rw c.in_ok-held.was at c.ruled.ensures).1) (rw (rw c.in_ok-held.was at c.ruled.ensures).0 at c.resolve_args-past.ensures)

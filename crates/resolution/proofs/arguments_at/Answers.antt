@@ -1,14 +1,12 @@
 -- Numbers 2 and 3, or a list that was read. Assumes nothing.
 use lib.ListN.{length}
 use Rattle.reader.specs.Answered.{answer_read}
-use Rattle.resolution.proofs.Laws.{stopped, args_wrong, args_deep}
+use Rattle.std.proofs.lemmas.Result.{err_from_is_err_and}
+use Rattle.resolution.proofs.Laws.{stopped, args_misread}
 use Rattle.resolution.proofs.arguments_at.Goals as goal
 
 pub arguments-requires : goal.arguments-requires
-arguments-requires c = (answer_read _ c.list-s.ensures c.in-Read.is, c.requires)
+arguments-requires c = (answer_read _ c.list.ensures c.in_ok-past.was, c.requires)
 
-pub returns-in-Wrong : goal.returns-in-Wrong
-returns-in-Wrong c = stopped _ _ (args_wrong c.args.names.now c.args.words.now c.args.rows.now (length c.args.out.now) c.args.scope c.args.name c.args.at c.list-s.ensures c.in-Wrong.is)
-
-pub returns-in-Deep : goal.returns-in-Deep
-returns-in-Deep c = stopped _ _ (args_deep c.args.names.now c.args.words.now c.args.rows.now (length c.args.out.now) c.args.scope c.args.name c.args.at c.list-s.ensures c.in-Deep.is)
+pub returns-in_err-past : goal.returns-in_err-past
+returns-in_err-past c = let p = err_from_is_err_and c.from_residual.result c.from_residual.ensures.1 in rw (p.1, p.2) (stopped _ _ (args_misread c.args.names.now c.args.words.now c.args.rows.now (length c.args.out.now) c.args.scope c.args.name c.args.at c.list.ensures c.in_err-past.was))

@@ -3,6 +3,7 @@ use Prim.Native.Nat.{◌-◌}
 use mathlib.Core.Path.{refl}
 use native.Mathlib.Omega.{arith}
 use lib.ListN.{length}
+use Rattle.std.proofs.lemmas.Result.{err_from_is_err_and}
 use Rattle.resolution.proofs.Laws.{stopped, ruled_as, passed_as, expr_span, ready_expr, expr_shut, expr_told}
 use Rattle.resolution.proofs.expression.Goals as goal
 
@@ -21,11 +22,11 @@ slice_bounds-resolve_expr-start c = omega (arith, (expr_span c.args.names.now c.
 pub slice_bounds-resolve_expr-end : goal.slice_bounds-resolve_expr-end
 slice_bounds-resolve_expr-end c = omega (arith, (expr_span c.args.names.now c.args.words.now c.args.rows.now (length c.args.out.now) c.args.scope c.args.at c.args.end c.requires.1 c.requires.0).1)
 
-pub resolve_expr-s-requires : goal.resolve_expr-s-requires
-resolve_expr-s-requires c = ready_expr c.args.names.now c.args.words.now c.args.rows.now (length c.args.out.now) c.args.scope c.args.at c.args.end c.requires.1 c.requires.0 (passed_as c.scope_ok.ensures (rw c.in-Table.is at c.ruled.ensures))
+pub resolve_expr-past-requires : goal.resolve_expr-past-requires
+resolve_expr-past-requires c = rw (rw c.in_ok-held.was at c.ruled.ensures).0 (ready_expr c.args.names.now c.args.words.now c.args.rows.now (length c.args.out.now) c.args.scope c.args.at c.args.end c.requires.1 c.requires.0 (passed_as c.scope_ok-right.ensures (rw c.in_ok-held.was at c.ruled.ensures).1))
 
-pub returns-in-Shut : goal.returns-in-Shut
-returns-in-Shut c = stopped _ _ (expr_shut c.args.names.now c.args.words.now c.args.rows.now (length c.args.out.now) c.args.scope c.args.at c.args.end c.requires.1 c.requires.0 _ (ruled_as c.args.names.now c.args.rows.now (c.args.end - c.args.at) (length c.args.out.now) _ c.scope_ok.ensures (rw c.in-Shut.is at c.ruled.ensures)))
+pub returns-in_err-held : goal.returns-in_err-held
+returns-in_err-held c = let p = err_from_is_err_and c.from_residual.result c.from_residual.ensures.1 in rw (p.1, p.2) (stopped _ _ (expr_shut c.args.names.now c.args.words.now c.args.rows.now (length c.args.out.now) c.args.scope c.args.at c.args.end c.requires.1 c.requires.0 _ (ruled_as c.args.names.now c.args.rows.now (c.args.end - c.args.at) (length c.args.out.now) _ c.scope_ok-right.ensures (rw c.in_err-held.was at c.ruled.ensures))))
 
-pub returns-in-Table : goal.returns-in-Table
-returns-in-Table c = expr_told c.args.names.now c.args.words.now c.args.rows.now (length c.args.out.now) c.args.scope c.args.at c.args.end c.requires.1 c.requires.0 refl (passed_as c.scope_ok.ensures (rw c.in-Table.is at c.ruled.ensures)) c.resolve_expr-s.ensures
+pub returns : goal.returns
+returns c = expr_told c.args.names.now c.args.words.now c.args.rows.now (length c.args.out.now) c.args.scope c.args.at c.args.end c.requires.1 c.requires.0 refl (passed_as c.scope_ok-right.ensures (rw c.in_ok-held.was at c.ruled.ensures).1) (rw (rw c.in_ok-held.was at c.ruled.ensures).0 at c.resolve_expr-past.ensures)

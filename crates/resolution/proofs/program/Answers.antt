@@ -1,13 +1,14 @@
 -- A whole tree: the refusals of `ruled`, or what `accesses` writes. Assumes nothing.
 use lib.ListN.{length}
+use Rattle.std.proofs.lemmas.Result.{err_from_is_err_and}
 use Rattle.resolution.proofs.Laws.{stopped, all_shut, ready_all, all_told}
 use Rattle.resolution.proofs.program.Goals as goal
 
 pub resolve_array_accesses-count-requires : goal.resolve_array_accesses-count-requires
-resolve_array_accesses-count-requires c = ready_all c.args.names.now c.args.words.now c.args.rows.now (length c.args.out.now) c.requires.0 c.requires.1 (rw c.in-Table.is at c.ruled.ensures)
+resolve_array_accesses-count-requires c = rw (rw c.in_ok-held.was at c.ruled.ensures).0 (ready_all c.args.names.now c.args.words.now c.args.rows.now (length c.args.out.now) c.requires.0 c.requires.1 (rw c.in_ok-held.was at c.ruled.ensures).1)
 
-pub returns-in-Shut : goal.returns-in-Shut
-returns-in-Shut c = stopped _ _ (all_shut c.args.names.now c.args.words.now c.args.rows.now (length c.args.out.now) c.requires.0 _ (rw c.in-Shut.is at c.ruled.ensures))
+pub returns-in_err-held : goal.returns-in_err-held
+returns-in_err-held c = let p = err_from_is_err_and c.from_residual.result c.from_residual.ensures.1 in rw (p.1, p.2) (stopped _ _ (all_shut c.args.names.now c.args.words.now c.args.rows.now (length c.args.out.now) c.requires.0 _ (rw c.in_err-held.was at c.ruled.ensures)))
 
-pub returns-in-Table : goal.returns-in-Table
-returns-in-Table c = all_told c.args.names.now c.args.words.now c.args.rows.now (length c.args.out.now) c.requires.0 (rw c.in-Table.is at c.ruled.ensures) c.resolve_array_accesses-count.ensures
+pub returns : goal.returns
+returns c = all_told c.args.names.now c.args.words.now c.args.rows.now (length c.args.out.now) c.requires.0 (rw c.in_ok-held.was at c.ruled.ensures).1 (rw (rw c.in_ok-held.was at c.ruled.ensures).0 at c.resolve_array_accesses-count.ensures)

@@ -1,7 +1,28 @@
--- The entry, asked for an expression. Assumes nothing.
-use Rattle.resolution.specs.Inner.{asked}
+-- The entry: how it begins, then what `expression_at` gives under the names' marks. Assumes nothing.
+use Rattle.std.proofs.Common.{refl, sym, ap, ◌∙◌, arith, length}
+use Rattle.std.proofs.lemmas.Result.{err_from_is_err_and}
+use Rattle.reader.specs.Begun.{begun_opened, begun_stops, begun_gives}
+use Rattle.reader.proofs.Laws.{few_strings, as_many, few_marks}
+use Rattle.resolution.specs.Entries.{resolve_expr_at}
+use Rattle.resolution.proofs.Laws.{stopped, rewrites}
 use Rattle.resolution.proofs.resolve_expr.Goals as goal
 
+pub marks-requires : goal.marks-requires
+marks-requires c = λ e. few_strings c.args.bytes.now c.args.ends.now c.args.words.now (sym c.sized_tree.ensures ∙ e)
+
+pub returns-in_err-names : goal.returns-in_err-names
+returns-in_err-names c = let p = err_from_is_err_and c.from_residual.result c.from_residual.ensures.1 in rw (p.1, p.2) (rewrites (begun_stops (rw c.sized_tree.ensures at c.marks.ensures) c.in_err-names.was refl) (stopped _ _ refl))
+
+pub slice_bounds-names-end : goal.slice_bounds-names-end
+slice_bounds-names-end c = let o = begun_opened c.marks.ensures c.in_ok-names.was in omega (arith, o.names.long, few_strings c.args.bytes.now c.args.ends.now c.args.words.now (sym c.sized_tree.ensures ∙ o.within))
+
+pub slice_bounds-expression_at-end : goal.slice_bounds-expression_at-end
+slice_bounds-expression_at-end c = let o = begun_opened c.marks.ensures c.in_ok-names.was in as_many o.names (few_strings c.args.bytes.now c.args.ends.now c.args.words.now (sym c.sized_tree.ensures ∙ o.within))
+
+pub expression_at-requires : goal.expression_at-requires
+expression_at-requires c = let o = begun_opened c.marks.ensures c.in_ok-names.was in few_marks o.names (few_strings c.args.bytes.now c.args.ends.now c.args.words.now (sym c.sized_tree.ensures ∙ o.within))
+
 pub returns : goal.returns
-unfolding asked
-returns c = c.entry.ensures
+returns c =
+    let o = begun_opened c.marks.ensures c.in_ok-names.was in
+    rewrites (begun_gives (rw c.sized_tree.ensures at c.marks.ensures) c.in_ok-names.was (ap (λ ns. resolve_expr_at ns c.args.words.now c.args.rows.now (length c.args.out.now) c.args.scope c.args.at) o.names.first)) c.expression_at.ensures

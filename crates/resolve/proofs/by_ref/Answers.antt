@@ -5,11 +5,8 @@ use Rattle.resolve.specs.FromRows.{by_ref}
 use Rattle.resolve.proofs.Asked.{known, unknown}
 use Rattle.resolve.proofs.by_ref.Goals as goal
 
-pub takes-requires : goal.takes-requires
-takes-requires c = (c.requires.0, c.find_entry.ensures.within)
-
 pub returns-then-has : goal.returns-then-has
 returns-then-has c = λ rows H. known rows c.args.f c.args.i _ (sym (c.has.ensures rows (holds_keeps H)) ∙ c.if-has.true) (c.takes.ensures ∙ ap by_ref (c.find_entry.ensures.found rows (holds_keeps H)))
 
-pub returns : goal.returns
-returns c = λ rows H. unknown rows c.args.f c.args.i (sym (c.has.ensures rows (holds_keeps H)) ∙ c.if-has.false)
+pub returns-else-has : goal.returns-else-has
+returns-else-has c = λ rows H. c.if-has.false ∙ unknown rows c.args.f c.args.i (sym (c.has.ensures rows (holds_keeps H)) ∙ c.if-has.false)

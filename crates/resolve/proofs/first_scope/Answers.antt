@@ -1,15 +1,19 @@
 -- The row at the place of the module's key tells the least scope. Assumes nothing.
 use Prim.Native.Nat.{ℕ}
-use mathlib.Core.Path.{ap, ◌∙◌}
+use mathlib.Core.Path.{sym, ap, ◌∙◌}
 use Rattle.table.specs.Rows.{rank}
+use Rattle.resolve.specs.Scopes.{scope_of}
 use Rattle.resolve.proofs.Arrays.{first_there, first_other, first_end}
 use Rattle.resolve.proofs.first_scope.Goals as goal
 
-pub returns-then-b-at : goal.returns-then-b-at
-returns-then-b-at c = λ rows H. first_there H c.args.f c.lower_bound-p.result (c.lower_bound-p.ensures.ranked rows H ∙ ap (λ (k : ℕ). rank k rows) c.entry_key.ensures) c.if-p-count.true c.if-b-at.true
+pub returns-then-k-from : goal.returns-then-k-from
+unfolding scope_of
+returns-then-k-from c = λ rows H. first_there H c.args.f c.lower_bound-p.result (c.lower_bound-p.ensures.ranked rows H ∙ ap (λ (k : ℕ). rank k rows) c.entry_key.ensures) c.key-k.result c.key-k.ensures c.if-p-rows.true (c.if-k-from.true ∙ c.from.ensures)
 
-pub returns-else-b-at : goal.returns-else-b-at
-returns-else-b-at c = λ rows H. first_other H c.args.f c.lower_bound-p.result (c.lower_bound-p.ensures.ranked rows H ∙ ap (λ (k : ℕ). rank k rows) c.entry_key.ensures) c.if-p-count.true c.if-b-at.false (c.shared_slice_known-1.given _).fits
+pub returns-else-k-from : goal.returns-else-k-from
+unfolding scope_of
+returns-else-k-from c = λ rows H. first_other H c.args.f c.lower_bound-p.result (c.lower_bound-p.ensures.ranked rows H ∙ ap (λ (k : ℕ). rank k rows) c.entry_key.ensures) c.key-k.result c.key-k.ensures c.if-p-rows.true (λ e. c.if-k-from.false (e ∙ sym c.from.ensures))
 
-pub returns-else-p-count : goal.returns-else-p-count
-returns-else-p-count c = λ rows H. first_end H c.args.f c.lower_bound-p.result (c.lower_bound-p.ensures.ranked rows H ∙ ap (λ (k : ℕ). rank k rows) c.entry_key.ensures) c.if-p-count.false
+pub returns-else-p-rows : goal.returns-else-p-rows
+unfolding scope_of
+returns-else-p-rows c = λ rows H. first_end H c.args.f c.lower_bound-p.result (c.lower_bound-p.ensures.ranked rows H ∙ ap (λ (k : ℕ). rank k rows) c.entry_key.ensures) c.if-p-rows.false

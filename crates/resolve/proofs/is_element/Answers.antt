@@ -1,11 +1,12 @@
 -- `is_element` is `element`: a procedure's row decides first, then the array. Assumes nothing.
-use mathlib.Core.Path.{sym, ◌∙◌}
+use mathlib.Core.Bool.{not}
+use mathlib.Core.Path.{sym, ap, ◌∙◌}
 use Rattle.runs.specs.Laws.{holds_keeps}
 use Rattle.resolve.proofs.Asked.{a_procedure, no_procedure}
 use Rattle.resolve.proofs.is_element.Goals as goal
 
-pub returns-then-has : goal.returns-then-has
-returns-then-has c = λ rows H. a_procedure rows c.args.f c.args.scope (sym (c.has.ensures rows (holds_keeps H)) ∙ c.if-has.true)
+pub returns-else-not-has : goal.returns-else-not-has
+returns-else-not-has c = λ rows H. ap not c.if-not-has.false ∙ a_procedure rows c.args.f c.args.scope (sym (c.has.ensures rows (holds_keeps H)) ∙ c.if-not-has.false)
 
-pub returns : goal.returns
-returns c = λ rows H. no_procedure rows c.args.f c.args.scope _ (sym (c.has.ensures rows (holds_keeps H)) ∙ c.if-has.false) (c.is_array.ensures rows H)
+pub returns-then-not-has : goal.returns-then-not-has
+returns-then-not-has c = λ rows H. no_procedure rows c.args.f c.args.scope _ (sym (c.has.ensures rows (holds_keeps H)) ∙ c.if-not-has.true) (c.is_array.ensures rows H)

@@ -7,5 +7,5 @@ use Rattle.resolver.proofs.headed.Goals as goal
 pub returns-then-element : goal.returns-then-element
 returns-then-element c = ap (λ (b : Bool). word_of (pick b 18 21) 0) (sym c.if-element.true)
 
-pub returns : goal.returns
-returns c = ap (λ (b : Bool). word_of (pick b 18 21) 0) (sym c.if-element.false)
+pub returns-else-element : goal.returns-else-element
+returns-else-element c = ap (λ (b : Bool). word_of (pick b 18 21) 0) (sym c.if-element.false)

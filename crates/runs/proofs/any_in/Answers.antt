@@ -2,4 +2,4 @@
 use Rattle.runs.proofs.any_in.Goals as goal
 
 pub returns : goal.returns
-returns c = λ rows H. rw (c.lower_bound-from.ensures.ranked rows H, c.lower_bound-to.ensures.ranked rows H)
+returns c = λ rows H. rw (c.lower_bound.ensures.ranked rows H, c.lower_bound-2.ensures.ranked rows H)

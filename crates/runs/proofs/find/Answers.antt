@@ -4,10 +4,7 @@ use Rattle.runs.specs.Places.{row_filled}
 use Rattle.runs.specs.Parts.{found_part}
 use Rattle.runs.proofs.find.Goals as goal
 
-pub returns-then-count-lt32-clause-within : goal.returns-then-count-lt32-clause-within
-returns-then-count-lt32-clause-within c = c.find.ensures.within
-
-pub returns-then-count-lt32-clause-found : goal.returns-then-count-lt32-clause-found
-returns-then-count-lt32-clause-found c = λ rows K.
-    let H = keeps_short K c.if-count-lt32.true in
-    found_part c.args.b.now H (row_filled H.filled) c.args.k c.find.result c.find.ensures.within (c.find.ensures.found rows H)
+pub returns-then-rows-lt32-clause-found : goal.returns-then-rows-lt32-clause-found
+returns-then-rows-lt32-clause-found c = λ rows K.
+    let H = keeps_short K c.if-rows-lt32.true in
+    found_part c.args.rows.now.words.now H (row_filled H.filled) c.args.k c.find.result c.find.ensures.within (c.find.ensures.found rows H)

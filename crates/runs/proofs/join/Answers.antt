@@ -1,22 +1,19 @@
 -- `join` has nothing to do where a run has no rows or the late one comes after the first; else the late rows are copied, cleared and merged in. Assumes nothing.
-use mathlib.Core.Path.{◌≡◌, refl, subst}
-use Prim.Native.Nat.{ℕ, ◌+◌, ◌-◌}
-use native.Mathlib.Omega.{arith}
+use Rattle.std.specs.Prelude.{◌≡◌, refl, ℕ, ◌+◌, ◌-◌}
+use Rattle.std.proofs.Common.{subst, arith}
 use Rattle.table.specs.Rows.{insert_all, Holds}
 use Rattle.runs.specs.Parts.{runs_short, runs_none, runs_order, late_copied, late_cleared}
+use Rattle.runs.proofs.join.Goals.{then-m-eq0-via-then-m-eq0, then-m-eq0-via-else-m-eq0+then-m-count, then-m-eq0-via-else-m-eq0+else-m-count+then-key_at}
 use Rattle.runs.proofs.join.Goals as goal
 
 pub returns-then-m-eq0 : goal.returns-then-m-eq0
-returns-then-m-eq0 c = λ first late R. runs_short first late R refl c.if-m-eq0.true
-
-pub returns-then-m-count : goal.returns-then-m-count
-returns-then-m-count c = λ first late R. runs_none first late R c.if-m-count.true
-
-pub returns-then-key_at : goal.returns-then-key_at
-returns-then-key_at c =
-    λ first late R.
-    runs_order R c.key_at.result c.key_at-2.result (omega (arith, c.if-m-eq0.false)) (omega (arith, c.if-m-count.false, c.requires.1)) c.key_at.ensures
-    c.key_at-2.ensures c.if-key_at.true
+returns-then-m-eq0 c = λ first late R. elim c.then-m-eq0.branch [
+  | then-m-eq0-via-then-m-eq0 w ↦ runs_short first late R refl w.if-m-eq0.true
+  | then-m-eq0-via-else-m-eq0+then-m-count w ↦ runs_none first late R w.if-m-count.true
+  | then-m-eq0-via-else-m-eq0+else-m-count+then-key_at w ↦
+      runs_order R w.key_at.result w.key_at-else-m-count.result (omega (arith, w.if-m-eq0.false)) (omega (arith, w.if-m-count.false, c.requires.1)) w.key_at.ensures
+      w.key_at-else-m-count.ensures w.if-key_at.true
+]
 
 pub returns : goal.returns
 returns c =

@@ -1,32 +1,17 @@
 -- `remove` takes rows out of the late run; where the first has some too, it makes the runs one first. Assumes nothing.
 use mathlib.Core.Path.{sym, ◌∙◌, subst}
 use mathlib.Core.List.{List}
-use native.Mathlib.Omega.{arith}
-use native.Mathlib.Nat.{le_of_eq}
-use lib.Seq.{length-take-le}
 use Rattle.table.specs.Rows.{Row, Holds}
 use Rattle.runs.specs.Laws.{out_holds}
 use Rattle.runs.specs.Parts.{first_holds}
 use Rattle.runs.specs.Entering.{out_late}
 use Rattle.runs.proofs.remove.Goals as goal
 
-pub slice_bounds-any_in-end-2 : goal.slice_bounds-any_in-end-2
-slice_bounds-any_in-end-2 c = sym (length-take-le _ _ (omega (arith, c.split-m.ensures.within, c.requires.0)))
-
-pub any_in-requires : goal.any_in-requires
-any_in-requires c = le_of_eq (sym (length-take-le _ _ (omega (arith, c.split-m.ensures.within, c.requires.0))))
-
-pub returns-then-any_in-clause-fewer : goal.returns-then-any_in-clause-fewer
-returns-then-any_in-clause-fewer c = c.remove.ensures.fewer
-
 pub returns-then-any_in-clause-after : goal.returns-then-any_in-clause-after
 returns-then-any_in-clause-after c = λ rows K.
     let P = c.split-m.ensures.parted rows K in
     let H : Holds rows c.args.count c.join.new.b = subst (λ (l : List Row). Holds l c.args.count c.join.new.b) (sym P.all) (c.join.ensures P.first P.late P.runs) in
     out_holds H c.args.lo c.args.hi c.requires.1 (c.remove.ensures.after rows H)
-
-pub returns-clause-fewer : goal.returns-clause-fewer
-returns-clause-fewer c = omega (arith, c.remove-n.ensures.fewer, c.split-m.ensures.within)
 
 pub returns-clause-after : goal.returns-clause-after
 returns-clause-after c = λ rows K.

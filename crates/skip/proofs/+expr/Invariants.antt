@@ -7,10 +7,6 @@ use Rattle.skip.proofs.+expr.Given as goal
 abbrev pub decreases-expr : goal.decreases-expr
 decreases-expr l = length l.words.now - l.at
 
-abbrev pub invariant-loop-left : goal.invariant-loop-left
-invariant-loop-left l =
-    (l.at < l.m) × Left l.words l.at l.m l.left l.s.back
-
-abbrev pub decreases-loop-left : goal.decreases-loop-left
-decreases-loop-left l =
-    l.left
+abbrev pub invariant-loop : goal.invariant-loop
+invariant-loop l =
+    (l.at < l.m) × Left l.words l.at l.m (l.s.children - l.counter) l.s.back

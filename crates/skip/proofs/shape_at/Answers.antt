@@ -37,4 +37,4 @@ pub returns-in-22 : goal.returns-in-22
 returns-in-22 c = told c.sizes-in-22.ensures (shape_22 c.in-22.is)
 
 pub returns-in_default : goal.returns-in_default
-returns-in_default c = told c.sizes-in_default.ensures (shape_23 c.in_default.in_default-own.rest.0.0.0.0.0.1 c.in_default.in_default-own.rest.0.0.0.0.1 c.in_default.in_default-own.rest.0.0.0.1 c.in_default.in_default-own.rest.0.0.1 c.in_default.in_default-own.rest.0.1 c.in_default.in_default-own.rest.1)
+returns-in_default c = told c.sizes-in_default.ensures (shape_23 (λ q. omega arith) (λ q. omega arith) (λ q. grind arith) (λ q. omega arith) (λ q. omega arith) (λ q. omega arith))

@@ -2,11 +2,8 @@
 use Rattle.steps.proofs.Laws.{no_note, noting_is}
 use Rattle.steps.proofs.push_if.Goals as goal
 
-pub returns-then-not-yes : goal.returns-then-not-yes
-returns-then-not-yes c =
-    let k = c in
-    let a = k.args in
-    no_note a.s a.d.now _ k.requires _ c.if-not-yes.true
+pub returns-then-yes : goal.returns-then-yes
+returns-then-yes c = noting_is _ _ c.if-yes.true c.push.ensures
 
-pub returns : goal.returns
-returns c = noting_is _ _ c.if-not-yes.false c.push.ensures
+pub returns-else-yes : goal.returns-else-yes
+returns-else-yes c = no_note c.args.s c.args.d.now _ c.requires _ c.if-yes.false

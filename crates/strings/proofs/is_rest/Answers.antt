@@ -1,25 +1,24 @@
--- `is_rest`: what is left from i on decides; the last byte may be a suffix. Assumes nothing.
-use mathlib.Core.Path.{refl, sym, ◌∙◌}
-use native.Mathlib.Omega.{arith}
-use mathlib.Mathlib.Data.Bool.Basic.{or_inl}
-use Rattle.words.specs.Laws.{or_false}
-use Rattle.strings.proofs.Laws.{and_true, and_false, rest_more, rest_last, rest_none}
+-- `is_rest`: all but the last are inner bytes, and the last may be a suffix. Assumes nothing.
+use Rattle.std.proofs.Common.{arith, rules, sym, ◌-◌, length, take}
+use Rattle.std.proofs.lemmas.Grind.{common_steps}
+use Rattle.std.proofs.lemmas.Iterator.{YieldsList-from_slice}
+use Rattle.std.proofs.lemmas.Iterator.Search.{all_from_yields_List}
+use Rattle.strings.specs.Name.{inner}
+use Rattle.strings.proofs.Laws.{rest_of, rest_none}
 use Rattle.strings.proofs.is_rest.Goals as goal
 
-pub loop-i-init : goal.loop-i-init
-loop-i-init c = (c.requires, refl)
+pub returns-in-empty : goal.returns-in-empty
+returns-in-empty c = sym (rest_none _ (omega arith))
 
-pub returns-then-not-is_inner : goal.returns-then-not-is_inner
-returns-then-not-is_inner c = sym (c.loop-i.invariant.1 ∙ rest_more _ c.loop-i.i (omega arith) ∙ and_false _ _ (sym c.is_inner.ensures ∙ c.if-not-is_inner.true))
+pub returns-then-is_suffix : goal.returns-then-is_suffix
+returns-then-is_suffix c =
+    let s = c.args.s.now in
+    let a = all_from_yields_List inner _ _ c.all.result c.all.ensures.ran (YieldsList-from_slice (take (length s - 1) s) c.iter.ensures.rest) (λ x b q k. search rules) in
+    let e = rest_of s (length s - 1) (omega arith) in
+    grind (arith, common_steps)
 
-pub loop-i-preserved : goal.loop-i-preserved
-loop-i-preserved c = (omega arith, c.loop-i.invariant.1 ∙ rest_more _ c.loop-i.i (omega arith) ∙ and_true _ _ (sym c.is_inner.ensures ∙ c.if-not-is_inner.false))
-
-pub returns-then-s-i : goal.returns-then-s-i
-returns-then-s-i c = sym (c.loop-i.invariant.1 ∙ rest_none _ c.loop-i.i (omega arith))
-
-pub returns-then-is_inner : goal.returns-then-is_inner
-returns-then-is_inner c = sym (c.loop-i.invariant.1 ∙ rest_last _ c.loop-i.i (omega arith) (omega arith) ∙ or_inl _ _ (sym c.is_inner-2.ensures ∙ c.if-is_inner.true))
-
-pub returns : goal.returns
-returns c = c.is_suffix.ensures ∙ sym (c.loop-i.invariant.1 ∙ rest_last _ c.loop-i.i (omega arith) (omega arith) ∙ or_false _ _ (sym c.is_inner-2.ensures ∙ c.if-is_inner.false))
+pub returns-else-is_suffix : goal.returns-else-is_suffix
+returns-else-is_suffix c =
+    let s = c.args.s.now in
+    let e = rest_of s (length s - 1) (omega arith) in
+    grind (arith, common_steps)

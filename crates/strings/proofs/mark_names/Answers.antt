@@ -1,31 +1,45 @@
 -- `mark_names`: the first i marks are those of the first i strings. Assumes nothing.
-use mathlib.Core.Path.{refl, sym, ap, ◌∙◌}
-use mathlib.Core.List.{◌++◌, ◌∷◌, []}
-use native.Mathlib.Omega.{arith}
-use native.Mathlib.Numerals.{add-one}
-use borrow.Author.Rules.{rules}
+use Rattle.std.proofs.Common.{◌≡◌, Bool, true, false, refl, sym, ap, ◌∙◌, ◌++◌, ◌∷◌, [], arith, add-one, rules}
 use lib.ListN.{length-set}
 use lib.Seq.{take-suc-set, take_all}
 use Rattle.strings.proofs.Laws.{start_zero, start_next, ends_in, sound_at, marks_none, marks_more, marks_all}
+use Rattle.words.specs.Word.{pick}
+use Rattle.std.specs.Int.{from_bool}
 use Rattle.strings.proofs.mark_names.Goals as goal
 
+byte_of : (b : Bool) → from_bool b ≡ pick b 1 0
+byte_of true = refl
+byte_of false = refl
+
 pub loop-i-init : goal.loop-i-init
-loop-i-init c = (omega arith, sym (start_zero _ 0 refl), c.requires.1, sym (marks_none c.args.bytes.now c.args.ends.now))
+loop-i-init c = record {
+  here = sym (start_zero _ 0 refl);
+  long = c.requires.1;
+  marked = sym (marks_none c.args.bytes.now c.args.ends.now);
+}
 
-pub overflow_cast-to : goal.overflow_cast-to
-overflow_cast-to c = omega (arith, c.shared_slice_known-in-loop-i-1.given c.loop-i.i)
+pub slice_bounds-is_name-count : goal.slice_bounds-is_name-count
+slice_bounds-is_name-count c =
+    let h = ends_in c.args.bytes.now c.args.ends.now c.loop-i.i (sound_at c.args.bytes.now c.args.ends.now c.loop-i.i c.requires.0 (omega arith)) in
+    omega (arith, c.loop-i.invariant.here)
 
-pub slice_bounds-mark-count : goal.slice_bounds-mark-count
-slice_bounds-mark-count c = let h = ends_in c.args.bytes.now c.args.ends.now c.loop-i.i (sound_at c.args.bytes.now c.args.ends.now c.loop-i.i c.requires.0 (omega arith)) in omega (arith, c.loop-i.invariant.1)
+pub slice_bounds-is_name-start : goal.slice_bounds-is_name-start
+slice_bounds-is_name-start c =
+    let h = ends_in c.args.bytes.now c.args.ends.now c.loop-i.i (sound_at c.args.bytes.now c.args.ends.now c.loop-i.i c.requires.0 (omega arith)) in
+    search rules
 
-pub slice_bounds-mark-start : goal.slice_bounds-mark-start
-slice_bounds-mark-start c = let h = ends_in c.args.bytes.now c.args.ends.now c.loop-i.i (sound_at c.args.bytes.now c.args.ends.now c.loop-i.i c.requires.0 (omega arith)) in search rules
-
-pub slice_bounds-mark-end : goal.slice_bounds-mark-end
-slice_bounds-mark-end c = let h = ends_in c.args.bytes.now c.args.ends.now c.loop-i.i (sound_at c.args.bytes.now c.args.ends.now c.loop-i.i c.requires.0 (omega arith)) in search rules
+pub slice_bounds-is_name-end : goal.slice_bounds-is_name-end
+slice_bounds-is_name-end c =
+    let h = ends_in c.args.bytes.now c.args.ends.now c.loop-i.i (sound_at c.args.bytes.now c.args.ends.now c.loop-i.i c.requires.0 (omega arith)) in
+    search rules
 
 pub loop-i-preserved : goal.loop-i-preserved
-loop-i-preserved c = (omega arith, start_next _ _, simp length-set c.loop-i.invariant.2, rw (add-one c.loop-i.i) (take-suc-set _ c.loop-i.i _ (omega arith)) ∙ ap (λ l. l ++ (c.mark.result ∷ [])) c.loop-i.invariant.3 ∙ sym (marks_more c.args.bytes.now c.args.ends.now c.loop-i.i c.loop-i.invariant.1 refl c.mark.ensures))
+loop-i-preserved c = record {
+  here = start_next _ _;
+  long = simp length-set c.loop-i.invariant.long;
+  marked = (rw (add-one c.loop-i.i) (take-suc-set _ c.loop-i.i _ (omega arith)) ∙ ap (λ l. l ++ (c.from.result ∷ [])) c.loop-i.invariant.marked
+      ∙ sym (marks_more c.args.bytes.now c.args.ends.now c.loop-i.i c.loop-i.invariant.here refl (c.from.ensures ∙ byte_of _ ∙ ap (λ t. pick t 1 0) c.is_name.ensures)));
+}
 
 pub returns : goal.returns
-returns c = sym (take_all c.loop-i.i c.loop-i.names (omega arith)) ∙ c.loop-i.invariant.3 ∙ marks_all c.args.bytes.now c.args.ends.now c.loop-i.i (omega arith)
+returns c = sym (take_all c.loop-i.i c.loop-i.names (omega arith)) ∙ c.loop-i.invariant.marked ∙ marks_all c.args.bytes.now c.args.ends.now c.loop-i.i (omega arith)

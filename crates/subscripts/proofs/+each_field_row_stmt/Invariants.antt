@@ -1,5 +1,4 @@
 -- What falls from call to call, and what the loops keep.
-use mathlib.Core.Path.{◌≡◌}
 use lib.ListN.{length, drop}
 use Rattle.tree.specs.Codes.{codes, decode, sort_at, row_of}
 use Rattle.tree.proofs.Steps.{size_s, size_r}
@@ -21,18 +20,10 @@ decreases-row l = (length l.words.now - l.at) * 1000 + size_r (row_of l.r)
 abbrev pub decreases-stmt : goal.decreases-stmt
 decreases-stmt l = (length l.words.now - l.at) * 1000
 
-abbrev pub invariant-each-loop-i : goal.invariant-each-loop-i
-invariant-each-loop-i l =
-    (length l.t ≡ length l.initial.t) × WalkedRows (row_of l.r) l.n l.words l.at l.next l.i (Counted l.k l.at l.next (mark_at l.base l.initial.t) (mark_at l.base l.t))
-
-abbrev pub decreases-each-loop-i : goal.decreases-each-loop-i
-decreases-each-loop-i l =
-    l.n - l.i
+abbrev pub invariant-each-loop : goal.invariant-each-loop
+invariant-each-loop l =
+    WalkedRows (row_of l.r) l.n l.words l.at l.next l.counter (Counted l.k l.at l.next (mark_at l.base l.initial.t) (mark_at l.base l.t))
 
 abbrev pub invariant-row-loop-i : goal.invariant-row-loop-i
 invariant-row-loop-i l =
-    (length l.t ≡ length l.initial.t) × (size_r (decode (drop l.i (codes l.r))) ≤ size_r (row_of l.r)) × WalkedRow l.r l.words l.at l.next l.i (Counted l.k l.at l.next (mark_at l.base l.initial.t) (mark_at l.base l.t))
-
-abbrev pub decreases-row-loop-i : goal.decreases-row-loop-i
-decreases-row-loop-i l =
-    6 - l.i
+    (size_r (decode (drop l.i (codes l.r))) ≤ size_r (row_of l.r)) × WalkedRow l.r l.words l.at l.next l.i (Counted l.k l.at l.next (mark_at l.base l.initial.t) (mark_at l.base l.t))

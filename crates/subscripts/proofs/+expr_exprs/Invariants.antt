@@ -1,5 +1,4 @@
 -- What falls from call to call, and what the loop over a list keeps.
-use mathlib.Core.Path.{◌≡◌}
 use lib.ListN.{length}
 use Rattle.subscripts.specs.Notes.{mark_at}
 use Rattle.subscripts.proofs.Expressions.{ExprsRead}
@@ -12,10 +11,6 @@ decreases-expr l = (length l.words.now - l.at) * 2
 abbrev pub decreases-exprs : goal.decreases-exprs
 decreases-exprs l = (length l.words.now - l.at) * 2 + 1
 
-abbrev pub invariant-exprs-loop-i : goal.invariant-exprs-loop-i
-invariant-exprs-loop-i l =
-    (length l.t ≡ length l.initial.t) × ExprsRead l.words l.at l.n l.k (mark_at l.base l.initial.t) (mark_at l.base l.t) l.next l.i
-
-abbrev pub decreases-exprs-loop-i : goal.decreases-exprs-loop-i
-decreases-exprs-loop-i l =
-    l.n - l.i
+abbrev pub invariant-exprs-loop : goal.invariant-exprs-loop
+invariant-exprs-loop l =
+    ExprsRead l.words l.at l.n l.k (mark_at l.base l.initial.t) (mark_at l.base l.t) l.next l.counter

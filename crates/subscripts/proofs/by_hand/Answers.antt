@@ -3,8 +3,8 @@ use Rattle.plans.proofs.Walk.{head_range}
 use Rattle.subscripts.proofs.ByKind.{read_kind}
 use Rattle.subscripts.proofs.by_hand.Goals as goal
 
-pub bounds-words-at : goal.bounds-words-at
-bounds-words-at c = (head_range c.requires.0.stands).2
-
 pub read-requires : goal.read-requires
 read-requires c = record { some = c.requires.0; kind = read_kind _ c.requires.1 c.in_default.in_default-own.rest.0.0.0.0.1 c.in_default.in_default-own.rest.0.0.0.1 c.in_default.in_default-own.rest.0.0.1 c.in_default.in_default-own.rest.0.1 c.in_default.in_default-own.rest.1 }
+
+pub bounds-words-at : goal.bounds-words-at
+bounds-words-at c = (head_range c.requires.0.stands).2

@@ -3,17 +3,14 @@ use Rattle.subscripts.proofs.Targets.{indexed_here, indexed_there, indexed_absen
 use mathlib.Core.Path.{refl}
 use Rattle.subscripts.proofs.indexed.Goals as goal
 
-pub bounds-words-at : goal.bounds-words-at
-bounds-words-at c = indexed_here c.requires
-
 pub returns-then-words-at-eq0 : goal.returns-then-words-at-eq0
 returns-then-words-at-eq0 c = indexed_absent c.if-words-at-eq0.true (λ x. refl)
-
-pub bounds-words-at-2 : goal.bounds-words-at-2
-bounds-words-at-2 c = indexed_here c.requires
 
 pub exprs-requires : goal.exprs-requires
 exprs-requires c = indexed_there c.if-words-at-eq0.false c.requires
 
 pub returns : goal.returns
 returns c = indexed_done c.if-words-at-eq0.false c.note.ensures c.exprs.ensures
+
+pub bounds-words-at : goal.bounds-words-at
+bounds-words-at c = indexed_here c.requires

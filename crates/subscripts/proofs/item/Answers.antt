@@ -3,9 +3,6 @@ use mathlib.Core.Path.{refl}
 use Rattle.subscripts.proofs.Lists.{item_here, item_there, item_done, item_alone}
 use Rattle.subscripts.proofs.item.Goals as goal
 
-pub bounds-words-at : goal.bounds-words-at
-bounds-words-at c = item_here c.requires
-
 pub expr-requires : goal.expr-requires
 expr-requires c = item_there c.if-words-at-eq32.true c.requires
 
@@ -14,3 +11,6 @@ returns-then-words-at-eq32 c = item_done c.if-words-at-eq32.true c.expr.ensures
 
 pub returns : goal.returns
 returns c = item_alone c.if-words-at-eq32.false (λ x. refl)
+
+pub bounds-words-at : goal.bounds-words-at
+bounds-words-at c = item_here c.requires

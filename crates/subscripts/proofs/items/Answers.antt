@@ -1,33 +1,19 @@
 -- The items of PRINT, one after another. Assumes nothing.
-use native.Mathlib.Omega.{arith}
-use mathlib.Core.Path.{refl, ◌∙◌}
 use Rattle.subscripts.specs.Notes.{mark_at}
 use Rattle.subscripts.proofs.Lists.{list_here, items_start, items_next, items_step, items_done}
 use Rattle.subscripts.proofs.items.Goals as goal
 
-pub bounds-words-at : goal.bounds-words-at
-bounds-words-at c = list_here c.requires
-
-pub overflow_add-next : goal.overflow_add-next
-overflow_add-next c = omega (arith, list_here c.requires, c.well_formed)
-
-pub loop-i-init : goal.loop-i-init
-loop-i-init c = (refl, items_start c.args.words.now c.args.at c.args.k (mark_at c.args.base c.args.t.now))
+pub loop-init : goal.loop-init
+loop-init c = items_start c.args.words.now c.args.at c.args.k (mark_at c.args.base c.args.t.now)
 
 pub item-next-requires : goal.item-next-requires
-item-next-requires c = items_next c.loop-i.invariant.1 c.requires c.loop-i-test.true
+item-next-requires c = items_next c.loop.invariant c.requires c.loop-test.true
 
-pub overflow_add-i : goal.overflow_add-i
-overflow_add-i c = omega (arith, c.loop-i-test.true)
-
-pub loop-i-smaller : goal.loop-i-smaller
-loop-i-smaller c = omega (arith, c.loop-i-test.true)
-
-pub loop-i-preserved : goal.loop-i-preserved
-loop-i-preserved c = (c.item-next.auto.t ∙ c.loop-i.invariant.0, items_step c.loop-i.invariant.1 c.loop-i-test.true c.item-next.ensures)
-
-pub shape_of-t : goal.shape_of-t
-shape_of-t c = c.loop-i.invariant.0
+pub loop-preserved : goal.loop-preserved
+loop-preserved c = items_step c.loop.invariant c.loop-test.true c.item-next.ensures
 
 pub returns : goal.returns
-returns c = items_done c.loop-i.invariant.1 c.loop-i-test.false
+returns c = items_done c.loop.invariant c.loop-test.false
+
+pub bounds-words-at : goal.bounds-words-at
+bounds-words-at c = list_here c.requires

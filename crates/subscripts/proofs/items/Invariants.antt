@@ -1,13 +1,7 @@
 -- The items of PRINT, one after another. Assumes nothing.
-use Prim.Native.Nat.{◌-◌}
-use mathlib.Core.Path.{◌≡◌}
-use lib.ListN.{length}
 use Rattle.subscripts.specs.Notes.{mark_at}
 use Rattle.subscripts.proofs.Lists.{ItemsRead}
 use Rattle.subscripts.proofs.items.Given as goal
 
-abbrev pub invariant-loop-i : goal.invariant-loop-i
-invariant-loop-i l = (length l.t ≡ length l.initial.t) × ItemsRead l.words l.at l.n l.k (mark_at l.base l.initial.t) (mark_at l.base l.t) l.next l.i
-
-abbrev pub decreases-loop-i : goal.decreases-loop-i
-decreases-loop-i l = l.n - l.i
+abbrev pub invariant-loop : goal.invariant-loop
+invariant-loop l = ItemsRead l.words l.at l.n l.k (mark_at l.base l.initial.t) (mark_at l.base l.t) l.next l.counter

@@ -6,6 +6,9 @@ use Rattle.subscripts.proofs.lvalue.Goals as goal
 pub indexed-next-requires : goal.indexed-next-requires
 indexed-next-requires c = target_there c.requires
 
+pub returns : goal.returns
+returns c = target_done c.indexed-next.ensures
+
 pub overflow_add-result : goal.overflow_add-result
 overflow_add-result c = omega (arith, target_fits c.requires c.indexed-next.ensures, c.well_formed)
 
@@ -17,6 +20,3 @@ bounds-words-next c = (target_fits c.requires c.indexed-next.ensures).0
 
 pub overflow_add-result-2 : goal.overflow_add-result-2
 overflow_add-result-2 c = omega (arith, target_fits c.requires c.indexed-next.ensures, c.well_formed)
-
-pub returns : goal.returns
-returns c = target_done c.indexed-next.ensures

@@ -3,9 +3,6 @@ use mathlib.Core.Path.{refl}
 use Rattle.subscripts.proofs.Lists.{option_here, option_there, option_done, option_absent}
 use Rattle.subscripts.proofs.option.Goals as goal
 
-pub bounds-words-at : goal.bounds-words-at
-bounds-words-at c = option_here c.requires
-
 pub returns-then-words-at-eq0 : goal.returns-then-words-at-eq0
 returns-then-words-at-eq0 c = option_absent c.if-words-at-eq0.true (λ x. refl)
 
@@ -14,3 +11,6 @@ expr-requires c = option_there c.if-words-at-eq0.false c.requires
 
 pub returns : goal.returns
 returns c = option_done c.if-words-at-eq0.false c.expr.ensures
+
+pub bounds-words-at : goal.bounds-words-at
+bounds-words-at c = option_here c.requires

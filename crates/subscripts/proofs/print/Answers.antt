@@ -9,14 +9,14 @@ option-list-requires c = print_file c.requires
 pub items-newline-requires : goal.items-newline-requires
 items-newline-requires c = print_items c.requires c.option-list.ensures
 
-pub overflow_add-newline : goal.overflow_add-newline
-overflow_add-newline c = omega (arith, print_fits c.requires c.option-list.ensures c.items-newline.ensures, c.well_formed)
-
 pub option-write-requires : goal.option-write-requires
 option-write-requires c = print_pattern c.requires c.option-list.ensures c.items-newline.ensures
 
-pub overflow_add-result : goal.overflow_add-result
-overflow_add-result c = omega (arith, print_ends c.requires c.option-list.ensures c.items-newline.ensures c.option-write.ensures, c.well_formed)
-
 pub returns : goal.returns
 returns c = print_done c.requires c.option-list.ensures c.items-newline.ensures c.option-write.ensures
+
+pub overflow_add-newline : goal.overflow_add-newline
+overflow_add-newline c = omega (arith, print_fits c.requires c.option-list.ensures c.items-newline.ensures, c.well_formed)
+
+pub overflow_add-result : goal.overflow_add-result
+overflow_add-result c = omega (arith, print_ends c.requires c.option-list.ensures c.items-newline.ensures c.option-write.ensures, c.well_formed)

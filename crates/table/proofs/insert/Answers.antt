@@ -7,7 +7,7 @@ use lib.ListN.{get_or}
 use Rattle.table.specs.Rows.{Row, key, key_of, rank}
 use Rattle.table.specs.Images.{holds_fits}
 use Rattle.table.specs.Buffers.{key_there, replaced, full, added}
-use Rattle.table.proofs.insert.Goals.{then-p-count+else-key_at-k, else-p-count}
+use Rattle.table.proofs.insert.Goals.{else-p-count-via-then-p-count+else-key_at-k, else-p-count-via-else-p-count}
 use Rattle.table.proofs.insert.Goals as goal
 
 -- p is the place of the row's key, whose number is k
@@ -38,10 +38,10 @@ returns-then-b-end-lt-WIDTH-clause-after c = λ rows H.
     let p = c.lower_bound-p.result in
     let at = place row rows p c.key_of-k.result (c.lower_bound-p.ensures.ranked rows H) c.key_of-k.ensures in
     full rows n b H row p at
-    (λ h e. elim c.if-p-count.branch [
-      | then-p-count+else-key_at-k w ↦
+    (λ h e. elim c.else-p-count.branch [
+      | else-p-count-via-then-p-count+else-key_at-k w ↦
           absurd (w.if-key_at-k.false (key_there rows n b H (key row) p at w.if-p-count.true w.key_at.result w.key_at.ensures ∙ e ∙ sym (key_is row c.key_of-k.result c.key_of-k.ensures)))
-      | else-p-count w ↦ omega (arith, w.if-p-count.false, at, H.filled.count)
+      | else-p-count-via-else-p-count w ↦ omega (arith, w.if-p-count.false, at, H.filled.count)
     ])
     c.if-b-end-lt-WIDTH.true
 
@@ -53,10 +53,10 @@ returns-clause-after c = λ rows H.
     let p = c.lower_bound-p.result in
     let at = place row rows p c.key_of-k.result (c.lower_bound-p.ensures.ranked rows H) c.key_of-k.ensures in
     added rows n b H row p at
-    (λ h e. elim c.if-p-count.branch [
-      | then-p-count+else-key_at-k w ↦
+    (λ h e. elim c.else-p-count.branch [
+      | else-p-count-via-then-p-count+else-key_at-k w ↦
           absurd (w.if-key_at-k.false (key_there rows n b H (key row) p at w.if-p-count.true w.key_at.result w.key_at.ensures ∙ e ∙ sym (key_is row c.key_of-k.result c.key_of-k.ensures)))
-      | else-p-count w ↦ omega (arith, w.if-p-count.false, at, H.filled.count)
+      | else-p-count-via-else-p-count w ↦ omega (arith, w.if-p-count.false, at, H.filled.count)
     ])
     (omega (arith, c.if-b-end-lt-WIDTH.false, holds_fits H.filled))
     c.shift_up.new.b c.put_words-2.new.b

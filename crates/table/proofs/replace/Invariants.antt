@@ -1,14 +1,11 @@
 -- `replace` takes the old rows out and enters the new ones, one in each turn of the loop; the turns are laws of `Turns`. Assumes nothing.
-use mathlib.Core.Path.{◌≡◌}
-use mathlib.Core.List.{List}
-use Prim.Native.Nat.{◌≤◌, ◌-◌, ◌*◌}
-use lib.ListN.{length}
+use Rattle.std.specs.Prelude.{List, ◌*◌, ◌≤◌, length}
 use Rattle.table.specs.Rows.{width, Row, Holds}
 use Rattle.table.proofs.Turns.{Turn}
 use Rattle.table.proofs.replace.Given as goal
 
 abbrev pub invariant-loop-i : goal.invariant-loop-i
-invariant-loop-i l = (l.i ≤ l.n) × (length l.b ≡ length l.initial.b) × (l.m * width ≤ length l.b) × ((rows : List Row) → Holds rows l.initial.m l.initial.b → Turn l.src l.n rows l.b l.m l.i)
-
-abbrev pub decreases-loop-i : goal.decreases-loop-i
-decreases-loop-i l = l.n - l.i
+invariant-loop-i l = record {
+  fit : l.m * width ≤ length l.b;
+  turn : (rows : List Row) → Holds rows l.initial.m l.initial.b → Turn l.src l.n rows l.b l.m l.i;
+}

@@ -1,4 +1,5 @@
 -- digit: by the test that its definition makes.
+use Rattle.std.proofs.Common.{arith}
 use borrow.Author.Tests.{lt-ltb, le-ltb}
 use Rattle.text.specs.Text.{digit}
 use Rattle.text.proofs.digit.Goals as goal
@@ -9,4 +10,4 @@ returns-then-n-lt10 c = rw (lt-ltb _ _ c.if-n-lt10.true)
 
 pub returns-else-n-lt10 : goal.returns-else-n-lt10
 unfolding digit
-returns-else-n-lt10 c = rw (le-ltb _ _ c.if-n-lt10.false)
+returns-else-n-lt10 c = rw (le-ltb _ _ c.if-n-lt10.false) (omega arith)

@@ -1,6 +1,8 @@
--- put_word: the bytes that blank_and_digits gives are written.
+-- put_word: where the word doesn't fit, the nine bytes that `lay_word` leaves are the word's, and they are written.
+use Rattle.text.specs.Text.{hex8}
 use Rattle.text.specs.Laws.{same}
 use Rattle.text.proofs.put_word.Goals as goal
 
 pub returns : goal.returns
-returns c = same c.blank_and_digits-d.ensures c.put_bytes.ensures
+unfolding hex8
+returns c = same c.lay_word-2.ensures.now c.put_bytes.ensures

@@ -1,11 +1,11 @@
 -- `call`: a name, and then a list. Assumes nothing.
+use mathlib.Core.Path.{refl, sym}
 use Rattle.expr.proofs.Steps.{halt}
-use Rattle.tree.proofs.Frames.{told_goes, call_goes}
-use borrow.Enum.Refused.{opened}
+use Rattle.tree.proofs.Frames.{failed_goes, call_goes}
 use Rattle.tree.proofs.call.Goals as goal
 
-pub returns-in_default : goal.returns-in_default
-returns-in_default c = λ n. told_goes _ _ n _ (halt _ c.name-s.ensures (opened c.in_default.in_default-own.keys2)) c.told.ensures
+pub returns-in_err-d : goal.returns-in_err-d
+returns-in_err-d c = λ n. failed_goes _ _ n (sym (halt _ c.name.ensures c.in_err-d.was refl)) c.from_residual.ensures.1
 
 pub returns : goal.returns
-returns c = λ n. call_goes _ _ n _ _ c.name-s.ensures c.in-Read.is (c.list.ensures _ n)
+returns c = λ n. call_goes _ _ n _ _ c.name.ensures c.in_ok-d.was (c.list.ensures _ n)

@@ -1,16 +1,12 @@
 -- `look`: by the number of the sort. Assumes nothing.
 use mathlib.Core.Path.{refl, sym}
 use mathlib.Core.Logic.{inr}
-use Rattle.words.specs.Laws.{PastArms, beyond}
+use native.Mathlib.Omega.{arith}
 use Rattle.tree.specs.Sorts.{name, text, mark}
 use Rattle.tree.specs.Frames.{goes}
 use Rattle.tree.proofs.Steps.{name_word, is_own, is_target, is_item, sort_opt, sort_many, sort_group, leaf_arm, never_arm, group_arm}
 use Rattle.tree.proofs.Frames.{told_goes, row_same, look_arm}
 use Rattle.tree.proofs.look.Goals as goal
-
-pub overflow_sub-sort : goal.overflow_sub-sort
-unfolding PastArms
-overflow_sub-sort c = beyond 16 _ c.in-16-to-63.in_default-own.rest
 
 pub returns-in-0 : goal.returns-in-0
 returns-in-0 c = look_arm _ _ _ _ (is_own 0 c.in-0.is refl) (goes (told_goes _ _ _ _ (never_arm _ _ _ _ _ _ c.nowhere.ensures) c.told.ensures))
@@ -61,11 +57,10 @@ pub returns-in-15 : goal.returns-in-15
 returns-in-15 c = look_arm _ _ _ _ (is_own 15 c.in-15.is refl) (goes (c.choice-in-15.ensures _ _))
 
 pub returns-in-16-to-63 : goal.returns-in-16-to-63
-unfolding PastArms
-returns-in-16-to-63 c = look_arm _ _ _ _ (sort_opt _ (beyond 16 _ c.in-16-to-63.in_default-own.rest) c.in-16-to-63.if-sort-lt64-own.true) (c.optional.ensures _ _)
+returns-in-16-to-63 c = look_arm _ _ _ _ (sort_opt _ (omega arith) (omega arith)) (c.optional.ensures _ _)
 
 pub returns-in-64-to-111 : goal.returns-in-64-to-111
-returns-in-64-to-111 c = look_arm _ _ _ _ (sort_many _ c.in-64-to-111.if-sort-lt64-own.false c.in-64-to-111.if-sort-lt112-own.true) (goes (c.list.ensures _ _))
+returns-in-64-to-111 c = look_arm _ _ _ _ (sort_many _ (omega arith) (omega arith)) (goes (c.list.ensures _ _))
 
 pub returns-in_default : goal.returns-in_default
-returns-in_default c = look_arm _ _ _ _ (sort_group _ c.in_default.if-sort-lt112-own.false) (row_same _ _ _ c.one_row.ensures (inr refl) (sym (group_arm _ _ _ _ _ _ _ refl)))
+returns-in_default c = look_arm _ _ _ _ (sort_group _ (omega arith)) (row_same _ _ _ c.one_row.ensures (inr refl) (sym (group_arm _ _ _ _ _ _ _ refl)))

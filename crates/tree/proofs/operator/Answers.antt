@@ -2,13 +2,13 @@
 use mathlib.Core.Path.{refl, sym}
 use native.Mathlib.Omega.{arith}
 use Rattle.expr.proofs.Steps.{on, halt, leaf_read}
-use Rattle.tree.specs.Frames.{into}
-use Rattle.tree.proofs.Frames.{told_goes}
-use borrow.Enum.Refused.{opened}
+use Rattle.tree.proofs.Frames.{failed_goes, fields_go}
 use Rattle.tree.proofs.operator.Goals as goal
 
-pub returns-in_default : goal.returns-in_default
-returns-in_default c = λ ns n. told_goes _ ns n _ (halt _ c.leaf-s.ensures (opened c.in_default.in_default-own.keys2)) c.told.ensures
+pub returns-in_err-d : goal.returns-in_err-d
+returns-in_err-d c = λ ns n. failed_goes _ ns n (sym (halt _ c.leaf.ensures c.in_err-d.was refl)) c.from_residual.ensures.1
 
 pub returns : goal.returns
-returns c = λ ns n. into (sym (on _ c.leaf-s.ensures c.in-Read.is refl)) (omega (arith, (leaf_read c.leaf-s.ensures c.in-Read.is).to)) (omega (arith, (leaf_read c.leaf-s.ensures c.in-Read.is).inside, (leaf_read c.leaf-s.ensures c.in-Read.is).to)) c.requires (omega arith)
+returns c =
+    let h = leaf_read c.leaf.ensures c.in_ok-d.was in
+    λ ns n. fields_go _ ns n c.one_field.ensures (sym (on _ c.leaf.ensures c.in_ok-d.was refl)) (omega arith) (omega arith) c.requires

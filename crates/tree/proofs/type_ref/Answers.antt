@@ -1,25 +1,31 @@
--- `tree::type_ref` meets its contract: each head of a type is an alternative of the definition. Assumes nothing.
+-- `type_ref`: its head, and what follows a head of its kind. Assumes nothing.
+use mathlib.Core.Path.{ap, ◌∙◌}
 use native.Mathlib.Omega.{arith}
-use Rattle.tree.proofs.Steps.{type_end, type_no, type_plain, type_length, type_name, name_word}
+use Rattle.std.specs.Prelude.{Ok}
+use Rattle.expr.proofs.Steps.{head_read}
+use Rattle.tree.proofs.Steps.{type_stop, type_plain, type_length, type_name, name_word}
 use Rattle.tree.proofs.type_ref.Goals as goal
 
-pub returns-then-words-at : goal.returns-then-words-at
-returns-then-words-at c = type_end _ _ _ _ _ _ c.if-words-at.true
+pub returns-in_err-next : goal.returns-in_err-next
+returns-in_err-next c = type_stop _ _ _ _ _ _ c.head.ensures c.in_err-next.was c.from_residual.ensures.1
 
-pub returns-then-w-ne0 : goal.returns-then-w-ne0
-returns-then-w-ne0 c = type_no _ _ _ _ _ _ (omega arith) (λ p a b. c.if-w-ne0.true p)
+pub offset_bounds-words-c : goal.offset_bounds-words-c
+offset_bounds-words-c c = let h = head_read c.head.ensures c.in_ok-next.was in omega arith
+
+pub bounds-words-c : goal.bounds-words-c
+bounds-words-c c = (head_read c.head.ensures c.in_ok-next.was).inside
 
 pub returns-in-44 : goal.returns-in-44
-returns-in-44 c = type_length _ _ _ _ _ _ (omega arith) c.if-w-ne0.false c.in-44.is c.mark.ensures
-
-pub returns-in-45 : goal.returns-in-45
-returns-in-45 c = type_name _ _ _ _ _ _ (omega arith) c.if-w-ne0.false c.in-45.is (name_word _ _ _ c.name.ensures)
-
-pub returns-in-40-to-43 : goal.returns-in-40-to-43
-returns-in-40-to-43 c = type_plain _ _ _ _ _ _ (omega arith) c.if-w-ne0.false (omega arith) (omega arith)
+returns-in-44 c =
+    let h = head_read c.head.ensures c.in_ok-next.was in
+    type_length _ _ _ _ _ _ h.inside h.pay c.in-44.is (rw h.to at c.mark.ensures)
 
 pub returns-in_default : goal.returns-in_default
-returns-in_default c = type_no _ _ _ _ _ _ (omega arith) (λ p a b. omega arith)
+returns-in_default c =
+    let h = head_read c.head.ensures c.in_ok-next.was in
+    type_name _ _ _ _ _ _ h.inside h.pay (omega arith) (name_word _ _ _ (rw h.to at c.name.ensures))
 
-pub returns-in_default-2 : goal.returns-in_default-2
-returns-in_default-2 c = type_no _ _ _ _ _ _ (omega arith) (λ p a b. omega arith)
+pub returns-in-40-to-43 : goal.returns-in-40-to-43
+returns-in-40-to-43 c =
+    let h = head_read c.head.ensures c.in_ok-next.was in
+    ap (λ x. Ok (record { at = x })) h.to ∙ type_plain _ _ _ _ _ _ h.inside h.pay h.from (omega arith)

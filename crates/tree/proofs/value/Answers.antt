@@ -1,9 +1,6 @@
 -- `value`: by the kind of the head. Assumes nothing.
-use Prim.Native.Nat.{ℕ, ◌≤◌}
-use mathlib.Core.Logic.{inl, inr}
-use native.Mathlib.Nat.{le_antisymm}
 use native.Mathlib.Omega.{arith}
-use Rattle.expr.proofs.Steps.{past, body_16, body_17}
+use Rattle.expr.proofs.Steps.{body_16, body_17}
 use Rattle.tree.proofs.Frames.{told_goes, goes_before, call_body, unary_body, binary_body, field_body, paren_body}
 use Rattle.tree.proofs.value.Goals as goal
 
@@ -23,12 +20,7 @@ pub returns-in-20 : goal.returns-in-20
 returns-in-20 c = λ at h. goes_before _ _ _ (omega (arith, h)) (binary_body _ _ _ _ _ _ c.in-20.is (c.operator-in-20.ensures _ _))
 
 pub returns-in-22 : goal.returns-in-22
-returns-in-22 c = λ at h. field_body _ _ _ _ _ _ c.in-22.is h c.requires.2
+returns-in-22 c = λ at h. field_body _ _ _ _ _ c.in-22.is c.one_field.ensures h c.requires.2
 
 pub returns-in_default : goal.returns-in_default
-returns-in_default c =
-    let r = c.in_default.in_default-own.rest in
-    let k : ℕ = c.args.k in
-    let a19 : 19 ≤ k = past 18 k (past 17 k (past 16 k c.requires.0 r.0.0.0.0.0.1) r.0.0.0.0.1) (λ e. r.0.0.0.1 (inl e)) in
-    let a23 : 23 ≤ k = past 22 k (past 21 k (past 20 k (past 19 k a19 r.0.0.1) r.0.1) (λ e. r.0.0.0.1 (inr e))) r.1 in
-    λ at h. paren_body _ _ _ _ _ _ (le_antisymm c.requires.1 a23) h c.requires.2
+returns-in_default c = λ at h. paren_body _ _ _ _ _ (grind arith) c.one_field-in_default.ensures h c.requires.2

@@ -1,12 +1,8 @@
 -- The loop of the second pass: what is left to enter does the same as all of it. Assumes nothing.
-use Prim.Native.Nat.{◌-◌}
 use mathlib.Core.Path.{◌≡◌}
 use lib.ListN.{length}
 use Rattle.types.proofs.Entering.{EnteringMid}
 use Rattle.types.proofs.enter_fields.Given as goal
 
-abbrev pub invariant-loop-i : goal.invariant-loop-i
-invariant-loop-i l = (length l.b ≡ length l.initial.b) × (length l.seen ≡ length l.initial.seen) × EnteringMid l.words l.at l.n l.owner l.initial.c.counts l.initial.b l.c l.a l.i l.b l.seen
-
-abbrev pub decreases-loop-i : goal.decreases-loop-i
-decreases-loop-i l = l.n - l.i
+abbrev pub invariant-loop : goal.invariant-loop
+invariant-loop l = (length l.b ≡ length l.initial.b) × (length l.seen ≡ length l.initial.seen) × EnteringMid l.words l.at l.n l.owner l.initial.c.counts l.initial.b l.c l.a l.counter l.b l.seen

@@ -5,8 +5,8 @@ use Rattle.types.proofs.field_at.Goals as goal
 pub bounds-words-at : goal.bounds-words-at
 bounds-words-at c = field_inside c.requires
 
-pub type_ref-t-requires : goal.type_ref-t-requires
-type_ref-t-requires c = field_type c.requires
+pub type_ref-next-requires : goal.type_ref-next-requires
+type_ref-next-requires c = field_type c.requires
 
 pub returns : goal.returns
-returns c = field_is c.type_ref-t.result c.type_ref-t.ensures
+returns c = field_is c.type_ref-next.ensures

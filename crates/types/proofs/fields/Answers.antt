@@ -11,8 +11,5 @@ returns-then-s-ne0 c = defines_stopped c.requires.0 c.if-s-ne0.true
 pub check-c-requires : goal.check-c-requires
 check-c-requires c = (c.requires.0, c.requires.1, omega (arith, c.requires.2), c.requires.3, below_one 1024 refl)
 
-pub enter_fields-requires : goal.enter_fields-requires
-enter_fields-requires c = (c.enter-t2.ensures.fit, c.requires.1, omega (arith, c.requires.2), c.requires.3, c.check-c.ensures.1)
-
 pub returns : goal.returns
 returns c = defines_done c.if-s-ne0.false c.requires.3 c.check-c.ensures.0 c.remove_under-t1.ensures c.enter-t2.ensures c.enter_fields.ensures

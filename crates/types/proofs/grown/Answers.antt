@@ -6,5 +6,5 @@ use Rattle.types.proofs.grown.Goals as goal
 pub returns-then-words-more : goal.returns-then-words-more
 returns-then-words-more c = (grown_no c.args.words c.args.more c.requires c.if-words-more.true, c.requires)
 
-pub returns : goal.returns
-returns c = (grown_yes c.args.words c.args.more c.requires c.if-words-more.false, omega (arith, c.if-words-more.false, c.requires))
+pub returns-else-words-more : goal.returns-else-words-more
+returns-else-words-more c = (grown_yes c.args.words c.args.more c.requires c.if-words-more.false, omega (arith, c.if-words-more.false, c.requires))

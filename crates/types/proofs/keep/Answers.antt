@@ -1,9 +1,10 @@
 -- A field entered, or passed over. Assumes nothing.
-use Rattle.types.proofs.Turns.{keep_none, keep_some}
+use mathlib.Core.Path.{sym, ◌∙◌}
+use Rattle.types.proofs.Turns.{failed_some, passed_none, keep_none, keep_some}
 use Rattle.types.proofs.keep.Goals as goal
 
-pub returns-then-code-ne0 : goal.returns-then-code-ne0
-returns-then-code-ne0 c = keep_none c.args.owner c.args.code c.args.f.name c.args.f.head c.args.f.arg c.args.s c.args.b.now c.requires.1 c.requires.0 c.if-code-ne0.true
+pub returns-then-is_err : goal.returns-then-is_err
+returns-then-is_err c = keep_none c.args.owner _ c.args.f.name c.args.f.ty.head c.args.f.ty.arg c.args.s c.args.b.now c.requires.1 c.requires.0 (failed_some _ (sym c.is_err.ensures.value ∙ c.if-is_err.true))
 
 pub returns : goal.returns
-returns c = keep_some c.args.owner c.args.code c.args.f.name c.args.f.head c.args.f.arg c.args.s c.args.b.now c.if-code-ne0.false _ _ c.type_words.ensures c.grown-w.ensures.0 c.grown-w.ensures.1 c.enter-t.ensures
+returns c = keep_some c.args.owner _ c.args.f.name c.args.f.ty.head c.args.f.ty.arg c.args.s c.args.b.now (passed_none _ (sym c.is_err.ensures.value ∙ c.if-is_err.false)) _ _ c.type_words.ensures c.grown-w.ensures.0 c.grown-w.ensures.1 c.enter-t.ensures

@@ -1,16 +1,15 @@
--- The diagnostic by the code. Assumes nothing.
-use borrow.Author.Tests.{ne_eqb}
+-- The diagnostic by the reason. Assumes nothing.
 use Rattle.types.specs.Types.{note_of}
 use Rattle.types.proofs.reject.Goals as goal
 
-pub returns-in-5 : goal.returns-in-5
+pub returns-in-Twice : goal.returns-in-Twice
 unfolding note_of
-returns-in-5 c = rw c.in-5.is c.push.ensures
+returns-in-Twice c = rw c.in-Twice.is c.push.ensures
 
-pub returns-in-6 : goal.returns-in-6
+pub returns-in-Itself : goal.returns-in-Itself
 unfolding note_of
-returns-in-6 c = rw c.in-6.is c.push-in-6.ensures
+returns-in-Itself c = rw c.in-Itself.is c.push-in-Itself.ensures
 
-pub returns-in_default : goal.returns-in_default
+pub returns-in-Undefined : goal.returns-in-Undefined
 unfolding note_of
-returns-in_default c = rw (ne_eqb _ _ c.in_default.in_default-own.rest.0.1, ne_eqb _ _ c.in_default.in_default-own.rest.1) c.push-in_default.ensures
+returns-in-Undefined c = rw c.in-Undefined.is c.push-in-Undefined.ensures

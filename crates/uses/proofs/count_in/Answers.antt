@@ -1,7 +1,7 @@
 -- Words over, number 11, or the first use. Assumes nothing.
 use mathlib.Core.Path.{sym, ◌∙◌}
 use Rattle.uses.specs.Count.{told}
-use Rattle.uses.proofs.Laws.{body_there, over_is, no_name_is, counted_is}
+use Rattle.uses.proofs.Laws.{body_there, over_is, no_name_is, counted_is, found_told}
 use Rattle.uses.proofs.count_in.Goals as goal
 
 pub returns-then-at-words : goal.returns-then-at-words
@@ -16,4 +16,4 @@ pub subscript_count-requires : goal.subscript_count-requires
 subscript_count-requires c = body_there c.requires
 
 pub returns : goal.returns
-returns c = counted_is c.requires c.args.name c.if-at-words.false (sym c.is_name.ensures ∙ c.if-not-is_name.false) c.subscript_count.ensures c.found.ensures
+returns c = counted_is c.requires c.args.name c.if-at-words.false (sym c.is_name.ensures ∙ c.if-not-is_name.false) c.subscript_count.ensures (found_told c.subscript_count.result)

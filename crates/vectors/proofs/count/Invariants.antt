@@ -1,9 +1,11 @@
--- `vectors::count` is safe and ends: the lines that are left lie within the slice. Assumes nothing.
-use Rattle.std.proofs.Common.{◌+◌, ◌*◌, ◌≤◌, length}
+-- `count`: no more lines are right than there are, and no more of them were counted than were read.
+use Rattle.std.proofs.Common.{◌≤◌, length}
 use Rattle.vectors.proofs.count.Given as goal
 
-abbrev pub invariant-loop-left : goal.invariant-loop-left
-invariant-loop-left l = l.at + l.left * 36 ≤ length l.s
-
-abbrev pub decreases-loop-left : goal.decreases-loop-left
-decreases-loop-left l = l.left
+abbrev pub invariant-loop-line : goal.invariant-loop-line
+invariant-loop-line l = record {
+  can_next : (goal.iterator-loop-line).can_next l.line-iterator;
+  finite : (goal.iterator-loop-line).is_finite l.line-iterator;
+  right_few : l.score.right ≤ l.score.all;
+  all_few : l.score.all ≤ length l.yielded;
+}

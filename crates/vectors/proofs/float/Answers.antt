@@ -19,7 +19,7 @@ of_words-requires c =
     let w = c.args.w in
     finite_words w.high w.low _ (search rules) (search rules) c.not_finite.ensures c.if-not_finite.false
 
-pub returns : goal.returns
-returns c =
+pub returns-else-not_finite : goal.returns-else-not_finite
+returns-else-not_finite c =
     let w = c.args.w in
     subst (λ (x : Float). T (finite x)) (sym c.of_words.ensures) (finite_words w.high w.low _ (search rules) (search rules) c.not_finite.ensures c.if-not_finite.false)

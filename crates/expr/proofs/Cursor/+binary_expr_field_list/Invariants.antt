@@ -1,5 +1,5 @@
 -- What falls from call to call, the levels left, and what the loop over a list keeps.
-use Prim.Native.Nat.{◌+◌}
+use Prim.Native.Nat.{◌+◌, ◌-◌}
 use mathlib.Core.Path.{◌≡◌}
 use Rattle.expr.specs.Reader.{exprs_at, expr_at}
 use Rattle.expr.specs.Answer.{step_of}
@@ -17,10 +17,7 @@ decreases-field l = l.left + l.left + 1
 abbrev pub decreases-list : goal.decreases-list
 decreases-list l = l.left + l.left + 1
 
-abbrev pub invariant-list-loop-count : goal.invariant-list-loop-count
-invariant-list-loop-count l =
-    step_of (exprs_at l.words (record { count = l.n; names = l.names }) (expr_at l.words (record { count = l.n; names = l.names }) l.left) l.initial.count l.initial.c.at) ≡ step_of (exprs_at l.words (record { count = l.n; names = l.names }) (expr_at l.words (record { count = l.n; names = l.names }) l.left) l.count l.c.at)
-
-abbrev pub decreases-list-loop-count : goal.decreases-list-loop-count
-decreases-list-loop-count l =
-    l.count
+abbrev pub invariant-list-loop : goal.invariant-list-loop
+invariant-list-loop l =
+    let sub = expr_at l.words (record { count = l.n; names = l.names }) l.left in
+    step_of (exprs_at l.words (record { count = l.n; names = l.names }) sub l.count l.initial.c.at) ≡ step_of (exprs_at l.words (record { count = l.n; names = l.names }) sub (l.count - l.counter) l.c.at)

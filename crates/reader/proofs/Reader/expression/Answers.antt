@@ -4,5 +4,5 @@ use Rattle.reader.proofs.Reader.expression.Goals as goal
 
 pub returns : goal.returns
 returns c =
-    let same : c.moved_by.result.answer ≡ c.read_expression-r.result = c.moved_by.ensures.0 in
-    (rw same c.read_expression-r.ensures, c.moved_by.ensures.1 ∙ rw same refl)
+    let same : c.moved_by.result.answer ≡ c.read_expression.result = c.moved_by.ensures.0 in
+    (rw same c.read_expression.ensures, c.moved_by.ensures.1 ∙ rw same refl)

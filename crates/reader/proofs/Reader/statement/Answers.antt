@@ -4,5 +4,5 @@ use Rattle.reader.proofs.Reader.statement.Goals as goal
 
 pub returns : goal.returns
 returns c =
-    let same : c.moved_by.result.answer ≡ c.read_statement-r.result = c.moved_by.ensures.0 in
-    (rw same c.read_statement-r.ensures, c.moved_by.ensures.1 ∙ rw same refl)
+    let same : c.moved_by.result.answer ≡ c.read_statement.result = c.moved_by.ensures.0 in
+    (rw same c.read_statement.ensures, c.moved_by.ensures.1 ∙ rw same refl)

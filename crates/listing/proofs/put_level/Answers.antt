@@ -1,0 +1,1 @@
+-- put_level: the sizes that are asked have room in these buffers.

@@ -1,0 +1,6 @@
+-- `array_params`: without notes each is asked of the body. Assumes nothing.
+use Rattle.procedures.proofs.Noted.{told_nothing}
+use Rattle.procedures.proofs.array_params.Goals as goal
+
+pub arrays_by-requires : goal.arrays_by-requires
+arrays_by-requires c = (c.requires.0, c.requires.1, c.requires.2, told_nothing _ _)

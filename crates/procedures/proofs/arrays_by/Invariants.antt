@@ -1,0 +1,20 @@
+-- `arrays_by`: at each turn the arrays among the parameters that were read are entered. Assumes nothing.
+use Prim.Native.Nat.{ℕ, ◌*◌, ◌≤◌}
+use mathlib.Core.Path.{◌≡◌}
+use mathlib.Core.List.{List}
+use lib.ListN.{length}
+use Rattle.tree.specs.Sorts.{body as body_sort}
+use Rattle.tree.specs.Tree.{one, Tree}
+use Rattle.table.specs.Rows.{width, note_width}
+use Rattle.steps.specs.State.{each}
+use Rattle.steps.specs.Held.{Does}
+use Rattle.collect.specs.Seen.{Seen}
+use Rattle.collect.specs.Collect.{array_param}
+use Rattle.procedures.specs.Post.{plain, BodyAt}
+use Rattle.procedures.proofs.Walk.{Walked}
+use Rattle.procedures.proofs.arrays_by.Given as goal
+
+abbrev pub invariant-loop : goal.invariant-loop
+invariant-loop l =
+    (length l.b ≡ length l.initial.b) × (l.c.notes ≡ l.initial.c.notes) × (l.c.rows * width ≤ length l.b)
+    × ((t : Tree Seen (one body_sort)) → BodyAt l.words l.body l.past t → Walked (λ ps. (d : List ℕ) → l.initial.c.notes * note_width ≤ length d → Does (λ N D. each (array_param (plain N D) l.scope l.line t) ps) l.initial.c l.c l.initial.b d l.b d) l.words l.from l.count l.at l.counter)

@@ -1,6 +1,5 @@
 -- A SUB or FUNCTION in a scan, and the scan itself, one token after another. Assumes nothing.
 use Prim.Native.Nat.{ℕ, ◌+◌, ◌≤◌, ◌<◌}
-use native.Mathlib.Nat.{add-zero}
 use native.Mathlib.Omega.{arith}
 use mathlib.Core.Path.{◌≡◌, refl, sym, ap, ◌∙◌}
 use mathlib.Core.List.{List, [], ◌∷◌, ◌++◌, append-nil, append_assoc}
@@ -13,7 +12,6 @@ use Rattle.expr.specs.Expr.{Expr}
 use Rattle.tree.specs.Sorts.{stmt, sorts}
 use Rattle.tree.specs.Tree.{one, row, Tree, Stmt, depth_t, words_t}
 use Rattle.tree.specs.Stands.{SomeTree}
-use Rattle.tree.specs.Memo.{Remembers, Past}
 use Rattle.tree.proofs.Complete.{one_tree, clear}
 use Rattle.plans.specs.Pieces.{written}
 use Rattle.plans.specs.Plans.{InsideAt}
@@ -30,12 +28,6 @@ use Rattle.accesses.specs.Post.{resolved, Moved, ReadyToken, DoneToken, ReadySca
 use Rattle.accesses.proofs.Resolved.{parted, tree_is}
 use Rattle.accesses.proofs.Statements.{stmt_words, view_inside}
 use Rattle.accesses.proofs.Steps.{room_at}
-
--- ---- the place past a statement
-
--- the reader's answer, or the memo's, is that place
-pub past_stmt : {ns ws memo : List ℕ} {at r : ℕ} → Past ws ns (length ns) memo at r → Remembers ws ns (length ns) memo → PastStmt ns ws at r
-past_stmt p R = record { gives = λ v e t h. p.gives R v e t h }
 
 -- ---- a SUB or FUNCTION
 
@@ -75,31 +67,29 @@ module _ {ns ws buf : List ℕ} {count scope at to size : ℕ} (r : ReadyToken n
   some_stmt = record { names = ns; strings = length ns; tree = Stmt here.kind here.line here.fields; end = here.mid; stands = here.whole }
 
   -- its fields may be scanned, in its scope, up to its end
-  pub ready_inner : {end inner size' : ℕ} → PastStmt ns ws at end → InsideAt ws at scope inner → size' ≡ size → ReadyScan ns ws buf count inner (at + 1) end (to + 1) size'
-  ready_inner P I q =
+  pub ready_inner : {end inner size' a t : ℕ} → PastStmt ns ws at end → InsideAt ws at scope inner → size' ≡ size → a ≡ at + 1 → t ≡ to + 1 → ReadyScan ns ws buf count inner a end t size'
+  ready_inner P I q x y =
       let e = P.gives (Stmt here.kind here.line here.fields) here.mid here.whole here.shallow in
       record {
-        room = record { rows = r.room.rows; holds = r.room.holds; held = r.room.held; scoped = I.fits; behind = omega (arith, r.room.behind); fits = omega (arith, r.room.fits) };
+        room = record { rows = r.room.rows; holds = r.room.holds; held = r.room.held; scoped = I.fits; behind = omega (arith, x, y, r.room.behind); fits = omega (arith, r.room.fits) };
         few = r.few;
         items = tree_item here.fields ∷ [];
-        there = rw e (inner_items here);
+        there = rw (e, x) (inner_items here);
       }
 
 -- its head copied and its fields scanned: the statement is done
-pub procedure_done : {ns ws buf out last : List ℕ} {count scope at to end inner t : ℕ} → 84 ≤ kind_of (get_or ws at 0) → kind_of (get_or ws at 0) < 86 → PastStmt ns ws at end → InsideAt ws at scope inner
-    → DoneScan ns ws buf (set out to (get_or ws at 0)) last count inner (at + 1) end (to + 1) t → DoneToken ns ws buf out last count scope at to end t
-procedure_done {ns} {ws} {scope = scope} {at} {end = end} l u P I d = record {
+pub procedure_done : {ns ws buf out one last : List ℕ} {count scope at to a₀ t₀ end inner t : ℕ} → 84 ≤ kind_of (get_or ws at 0) → kind_of (get_or ws at 0) < 86 → PastStmt ns ws at end → InsideAt ws at scope inner
+    → (a₀ ≡ at + 1) × (t₀ ≡ to + 1) × (one ≡ set out to (get_or ws at 0)) → DoneScan ns ws buf one last count inner a₀ end t₀ t → DoneToken ns ws buf out last count scope at to end t
+procedure_done {ns} {ws} {scope = scope} {at} {end = end} l u P I o d = record {
   gives = λ rs H xs end' s z.
+      let D = rw (o.0, o.1, o.2) at d in
       let S = at_stmt s z (omega (arith, l)) (omega (arith, u)) in
       let e : end ≡ S.mid = P.gives (Stmt S.kind S.line S.fields) S.mid S.whole S.shallow in
       let i : StandsAll ws ns (length ns) max_depth (at + 1) (tree_item S.fields ∷ []) end = rw e (inner_items S) in
-      (procedure_moved S (tables_of rs) scope (λ k. omega (arith, k, u)) e I (d.gives rs H (tree_item S.fields ∷ []) i), omega (arith, items_inside i));
+      (procedure_moved S (tables_of rs) scope (λ k. omega (arith, k, u)) e I (D.gives rs H (tree_item S.fields ∷ []) i), omega (arith, items_inside i));
 }
 
 -- ---- the loop
-
-moved_start : (T : Tables) (σ : ℕ) {ns ws : List ℕ} {xs : List Item} {at end : ℕ} (to : ℕ) (out : List ℕ) → StandsAll ws ns (length ns) max_depth at xs end → Moved T σ ns ws xs at end to out at to out
-moved_start T σ {xs = xs} to out s = record { left = xs; there = s; wrote = []; upto = sym (add-zero to); short = omega arith; is = refl; rest = refl }
 
 moved_on : {T : Tables} {σ : ℕ} {ns ws : List ℕ} {xs : List Item} {at end to : ℕ} {out : List ℕ} {a t : ℕ} {now : List ℕ} (p : Moved T σ ns ws xs at end to out a t now) {a' t' : ℕ} {last : List ℕ} → Moved T σ ns ws p.left a end t now a' t' last → Moved T σ ns ws xs at end to out a' t' last
 moved_on {T} {σ} {to = to} {out} {t = t} p q = record {
@@ -115,10 +105,6 @@ moved_on {T} {σ} {to = to} {out} {t = t} p q = record {
 -- scanned up to a
 pub record Scanned (ns ws buf out : List ℕ) (count scope at end to a t : ℕ) (now : List ℕ) : Type 0 where
   pub gives : (rs : List Row) → Holds rs count buf → (xs : List Item) → StandsAll ws ns (length ns) max_depth at xs end → Moved (tables_of rs) scope ns ws xs at end to out a t now
-
--- at the start nothing is written
-pub scan_start : (ns ws buf out : List ℕ) (count scope at end to : ℕ) → Scanned ns ws buf out count scope at end to at to out
-scan_start ns ws buf out count scope at end to = record { gives = λ rs H xs s. moved_start (tables_of rs) scope to out s }
 
 module _ {ns ws buf out : List ℕ} {count scope at end to size a t : ℕ} {now : List ℕ} (r : ReadyScan ns ws buf count scope at end to size) (w : Scanned ns ws buf out count scope at end to a t now) where
   own : Moved (tables_of r.room.rows) scope ns ws r.items at end to out a t now

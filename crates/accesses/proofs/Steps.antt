@@ -309,10 +309,10 @@ module _ {ns ws buf : List ℕ} {count scope at to size : ℕ} (r : ReadyToken n
       record { some = record { strings = strings ns (length ns); tree = Call C.name C.args; end = C.mid; stands = C.whole }; room = r.room }
 
   -- so may the arguments of a CALL
-  pub ready_args : kind_of (get_or ws at 0) ≡ 86 → {size' : ℕ} → size' ≡ size → ReadyAll ws buf count scope (at + 3) (to + 3) size' (pay_of (get_or ws (at + 2) 0))
-  ready_args k q =
+  pub ready_args : kind_of (get_or ws at 0) ≡ 86 → {size' a t : ℕ} → size' ≡ size → a ≡ at + 3 → t ≡ to + 3 → ReadyAll ws buf count scope a t size' (pay_of (get_or ws (at + 2) 0))
+  ready_args k {size'} {a} {t} q x y =
       let C = calling_head r.there r.before k in
-      record { strings = strings ns (length ns); trees = C.parts.args; end = C.mid; stands = C.parts.there; counted = N.many_is C.parts; room = room_at r.room (at + 3) (to + 3) (omega (arith, r.room.behind)) q }
+      record { strings = strings ns (length ns); trees = C.parts.args; end = C.mid; stands = rw x C.parts.there; counted = N.many_is C.parts; room = room_at r.room a t (omega (arith, x, y, r.room.behind)) q }
 
 module _ {ns ws buf out : List ℕ} {count scope at to : ℕ} where
   -- the head alone
@@ -345,13 +345,13 @@ module _ {ns ws buf out : List ℕ} {count scope at to : ℕ} where
   }
 
   -- a CALL with its arguments resolved
-  pub calling_done : {one last : List ℕ} {a t : ℕ} → kind_of (get_or ws at 0) ≡ 86 → one ≡ sets out to (get_or ws at 0 ∷ get_or ws (at + 1) 0 ∷ get_or ws (at + 2) 0 ∷ []) → ResolvedArgs (pay_of (get_or ws (at + 1) 0)) (pay_of (get_or ws (at + 2) 0)) ws buf one last count scope (at + 3) (to + 3) a t → DoneToken ns ws buf out last count scope at to a t
-  calling_done {one} {last} {a} {t} k n d = record {
+  pub calling_done : {one last : List ℕ} {a₀ t₀ a t : ℕ} → kind_of (get_or ws at 0) ≡ 86 → (a₀ ≡ at + 3) × (t₀ ≡ to + 3) × (one ≡ sets out to (get_or ws at 0 ∷ get_or ws (at + 1) 0 ∷ get_or ws (at + 2) 0 ∷ [])) → ResolvedArgs (pay_of (get_or ws (at + 1) 0)) (pay_of (get_or ws (at + 2) 0)) ws buf one last count scope a₀ t₀ a t → DoneToken ns ws buf out last count scope at to a t
+  calling_done {one} {last} {a₀} {t₀} {a} {t} k n d = record {
     gives = λ rs H xs end s z.
         let T : Tables = tables_of rs in
         let C = calling_head s z k in
         let u = C.parts.there in
-        let e = d.gives rs H (strings ns (length ns)) C.parts.args C.mid C.parts.there (N.many_is C.parts) in
-        let e' : Put (words_all (resolve_args T scope (places T C.parts.name) C.parts.args)) one last (to + 3) a t C.mid = subst (λ (f : ℕ). Put (words_all (resolve_args T scope (places T f) C.parts.args)) one last (to + 3) a t C.mid) (N.name_is C.parts) e in
-        (args_moved C T scope n e', omega (arith, e.past, u.wrote.span));
+        let e = d.gives rs H (strings ns (length ns)) C.parts.args C.mid (rw n.0 C.parts.there) (N.many_is C.parts) in
+        let e' : Put (words_all (resolve_args T scope (places T C.parts.name) C.parts.args)) one last (to + 3) a t C.mid = subst (λ (f : ℕ). Put (words_all (resolve_args T scope (places T f) C.parts.args)) one last (to + 3) a t C.mid) (N.name_is C.parts) (rw n.1 at e) in
+        (args_moved C T scope n.2 e', omega (arith, e.past, u.wrote.span));
   }

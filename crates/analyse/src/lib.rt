@@ -1,18 +1,19 @@
 // Collecting, the collision check and resolving in one call: rows, diagnostics and resolved words into three lent buffers.
 #![tactic(auto)]
 
-ghost use Rattle.std.specs.Prelude.{◌≡◌, true, ◌≤◌, length};
+ghost use Rattle.std.specs.Prelude.{◌≡◌, ◌≤◌, length};
 ghost use Rattle.words.specs.Sizes.{max_strings};
-ghost use Rattle.strings.specs.Table.{sound};
 ghost use Rattle.tree.specs.Memo.{Remembers};
 ghost use Rattle.steps.specs.Held.{Fresh};
-ghost use Rattle.collect.specs.Code.{Named};
 ghost use Rattle.collect.specs.Passed.{Passed};
 ghost use Rattle.analyse.specs.Analyse.{Tells, Analyses, work};
-ghost use Rattle.analyse.specs.Run.{Tabled, Blank};
+ghost use Rattle.analyse.specs.Run.{Tabled};
 
+use collecting::Program;
 use steps::Counts;
+use strings::{Sound, Strings};
 use table::Rows;
+use tree::Source;
 use words::Refusal;
 
 // How many diagnostics, rows and resolved words stand in their buffers.
@@ -23,47 +24,49 @@ pub struct Given {
     pub words: usize,
 }
 
+// A program whose names are not marked yet: a tree, its strings, which meet their rule, and the names whose declarations are erased.
+#[derive(Clone, Copy)]
+struct Unmarked<'a> {
+    words: &'a [u32],
+    strings: Sound<'a>,
+    erased: &'a [u32],
+}
+
+// Rows, diagnostics and output stay three arguments, and what `fresh` says of the first two a `requires`: each function over one struct of these `&mut`s would promise
+// further that every field keeps its ghost name, and beside a `&mut` no ghost field is had. What a memo remembers is a `requires` as well: `noted` writes the memo, and
+// only two functions here just read it.
+
 // Rows and diagnostics of a program that passed the checks; a run that stops leaves zeros.
 fn tables(
-    words: &[u32],
-    names: &[u8],
-    bytes: &[u8],
-    ends: &[u32],
-    erased: &[u32],
+    program: &Program<'_>,
     rows: &mut [u32],
     notes: &mut [u32],
     memo: &[u32],
     fresh: bool,
 ) -> Counts
-    requires { Passed bytes.now ends.now erased.now words.now names.now × Remembers words.now names.now (length names.now) memo.now × Fresh fresh rows.old notes.old }
-    ensures { Tabled bytes.now ends.now erased.now words.now result rows.old notes.old rows.new notes.new }
+    requires { Passed program.now.strings.bytes.now program.now.strings.ends.now program.now.erased.now program.now.source.words.now program.now.source.names.now × Remembers program.now.source.words.now program.now.source.names.now (length program.now.source.names.now) memo.now × Fresh fresh rows.old notes.old }
+    ensures { Tabled program.now.strings.bytes.now program.now.strings.ends.now program.now.erased.now program.now.source.words.now result rows.old notes.old rows.new notes.new }
 {
     let s = steps::begin_in(rows, notes, fresh);
-    let c = collecting::statements(
-        words, names, bytes, ends, erased, rows, notes, s, 0, 0, memo,
-    );
+    let c = collecting::statements(program, rows, notes, s, 0, 0, memo);
     steps::settle(rows, c);
-    let d = collisions::collisions(bytes, ends, rows, notes, c);
+    let d = collisions::collisions(&program.strings, rows, notes, c);
     steps::finish(rows, notes, d)
 }
 
 // A program that passed the checks, into an output that is long enough.
 fn run(
-    words: &[u32],
-    names: &[u8],
-    bytes: &[u8],
-    ends: &[u32],
-    erased: &[u32],
+    program: &Program<'_>,
     notes: &mut [u32],
     rows: &mut [u32],
     out: &mut [u32],
     memo: &[u32],
     fresh: bool,
 ) -> Result<Given, Refusal>
-    requires { Passed bytes.now ends.now erased.now words.now names.now × (length words.now ≤ length out.old) × Remembers words.now names.now (length names.now) memo.now × Fresh fresh rows.old notes.old }
-    ensures { Tells result notes.old rows.old out.old notes.new rows.new out.new (work (length rows.old) (length notes.old) (length out.old) bytes.now ends.now erased.now words.now) }
+    requires { Passed program.now.strings.bytes.now program.now.strings.ends.now program.now.erased.now program.now.source.words.now program.now.source.names.now × (length program.now.source.words.now ≤ length out.old) × Remembers program.now.source.words.now program.now.source.names.now (length program.now.source.names.now) memo.now × Fresh fresh rows.old notes.old }
+    ensures { Tells result notes.old rows.old out.old notes.new rows.new out.new (work (length rows.old) (length notes.old) (length out.old) program.now.strings.bytes.now program.now.strings.ends.now program.now.erased.now program.now.source.words.now) }
 {
-    let s = tables(words, names, bytes, ends, erased, rows, notes, memo, fresh);
+    let s = tables(program, rows, notes, memo, fresh);
     if s.stop != 0 {
         return Err(steps::refusal(s.stop));
     }
@@ -71,7 +74,7 @@ fn run(
         words: rows,
         count: s.rows,
     };
-    let count = accesses::resolve_with(words, names, &kept, out, memo);
+    let count = accesses::resolve_with(&program.source, &kept, out, memo);
     Ok(Given {
         notes: s.notes,
         rows: s.rows,
@@ -81,110 +84,74 @@ fn run(
 
 // Where the names' marks are known: 2 or 3, 4, 10, and then the run, with a memo of the ends of procedures.
 fn noted(
-    words: &[u32],
-    names: &[u8],
-    bytes: &[u8],
-    ends: &[u32],
-    erased: &[u32],
+    program: &Program<'_>,
     notes: &mut [u32],
     rows: &mut [u32],
     out: &mut [u32],
     memo: &mut [u32],
     fresh: bool,
 ) -> Result<Given, Refusal>
-    requires { Named bytes.now ends.now names.now × (length names.now ≤ max_strings) × Remembers words.now names.now (length names.now) memo.old × Fresh fresh rows.old notes.old }
-    ensures { Tells result notes.old rows.old out.old notes.new rows.new out.new (work (length rows.old) (length notes.old) (length out.old) bytes.now ends.now erased.now words.now) }
+    requires { Remembers program.now.source.words.now program.now.source.names.now (length program.now.source.names.now) memo.old × Fresh fresh rows.old notes.old }
+    ensures { Tells result notes.old rows.old out.old notes.new rows.new out.new (work (length rows.old) (length notes.old) (length out.old) program.now.strings.bytes.now program.now.strings.ends.now program.now.erased.now program.now.source.words.now) }
 {
-    reader::check_program_with(words, erased, names, memo)?;
-    if out.len() < words.len() {
+    reader::check_program_with(&program.source, program.erased, memo)?;
+    if out.len() < program.source.words.len() {
         return Err(Refusal::Output);
     }
-    run(
-        words, names, bytes, ends, erased, notes, rows, out, memo, fresh,
-    )
+    run(program, notes, rows, out, memo, fresh)
 }
 
-// Where the strings are sound: their marks, one for each, and then the checks of the tree, with an empty memo.
-fn marked_in(
-    words: &[u32],
-    marks: &mut [u8],
-    bytes: &[u8],
-    ends: &[u32],
-    erased: &[u32],
-    notes: &mut [u32],
-    rows: &mut [u32],
-    out: &mut [u32],
-    memo: &mut [u32],
-    fresh: bool,
-) -> Result<Given, Refusal>
-    requires { (sound bytes.now ends.now ≡ true) × (length ends.now ≤ max_strings) × (length marks.old ≡ length ends.now) × Blank words.now memo.old × Fresh fresh rows.old notes.old }
-    ensures { Tells result notes.old rows.old out.old notes.new rows.new out.new (work (length rows.old) (length notes.old) (length out.old) bytes.now ends.now erased.now words.now) }
-{
-    strings::mark_names(bytes, ends, marks);
-    noted(
-        words, marks, bytes, ends, erased, notes, rows, out, memo, fresh,
-    )
-}
-
-// With room for the marks of so many strings, and a memo of so many words. Not inlined, so that the large arrays of one size stay out of the stack of the others.
+// Where the strings are sound: their marks, one for each, and then the checks of the tree; with room for so many marks, and an empty memo of so many words. Not inlined,
+// so that the large arrays of one size stay out of the stack of the others.
 #[inline(never)]
 fn marked_with<const STRINGS: usize, const MEMO: usize>(
-    words: &[u32],
-    bytes: &[u8],
-    ends: &[u32],
-    erased: &[u32],
+    program: &Unmarked<'_>,
     notes: &mut [u32],
     rows: &mut [u32],
     out: &mut [u32],
     fresh: bool,
 ) -> Result<Given, Refusal>
-    requires { (sound bytes.now ends.now ≡ true) × (length ends.now ≤ max_strings) × (length ends.now ≤ STRINGS) × (STRINGS ≤ max_strings) × (MEMO ≤ 4094) × Fresh fresh rows.old notes.old }
-    ensures { Tells result notes.old rows.old out.old notes.new rows.new out.new (work (length rows.old) (length notes.old) (length out.old) bytes.now ends.now erased.now words.now) }
+    requires { (length program.now.strings.ends.now ≤ STRINGS) × (STRINGS ≤ max_strings) × (MEMO ≤ 4094) × Fresh fresh rows.old notes.old }
+    ensures { Tells result notes.old rows.old out.old notes.new rows.new out.new (work (length rows.old) (length notes.old) (length out.old) program.now.strings.bytes.now program.now.strings.ends.now program.now.erased.now program.now.words.now) }
 {
-    let n = ends.len();
     let mut marks = [0u8; STRINGS];
+    let names = &mut marks[..program.strings.ends.len()];
+    strings::mark_names(&program.strings, names);
+    let marked = Program {
+        source: Source {
+            words: program.words,
+            names,
+        },
+        strings: program.strings,
+        erased: program.erased,
+    };
     let mut memo = [0u32; MEMO];
-    marked_in(
-        words,
-        &mut marks[..n],
-        bytes,
-        ends,
-        erased,
-        notes,
-        rows,
-        out,
-        &mut memo,
-        fresh,
-    )
+    noted(&marked, notes, rows, out, &mut memo, fresh)
 }
 
 // Most programs have few strings and words, and so little room to clear; the others have room for the marks of all strings that a table may have, and for the ends
 // of 2,047 procedures. An odd number of slots: procedures of equal length get different ones.
 fn marked(
-    words: &[u32],
-    bytes: &[u8],
-    ends: &[u32],
-    erased: &[u32],
+    program: &Unmarked<'_>,
     notes: &mut [u32],
     rows: &mut [u32],
     out: &mut [u32],
     fresh: bool,
 ) -> Result<Given, Refusal>
-    requires { (sound bytes.now ends.now ≡ true) × (length ends.now ≤ max_strings) × Fresh fresh rows.old notes.old }
-    ensures { Tells result notes.old rows.old out.old notes.new rows.new out.new (work (length rows.old) (length notes.old) (length out.old) bytes.now ends.now erased.now words.now) }
+    requires { (length program.now.strings.ends.now ≤ max_strings) × Fresh fresh rows.old notes.old }
+    ensures { Tells result notes.old rows.old out.old notes.new rows.new out.new (work (length rows.old) (length notes.old) (length out.old) program.now.strings.bytes.now program.now.strings.ends.now program.now.erased.now program.now.words.now) }
 {
-    if ends.len() <= 64 && words.len() <= 2048 {
-        marked_with::<64, 128>(words, bytes, ends, erased, notes, rows, out, fresh)
+    if program.strings.ends.len() <= 64 && program.words.len() <= 2048 {
+        marked_with::<64, 128>(program, notes, rows, out, fresh)
     } else {
-        marked_with::<1024, 4094>(words, bytes, ends, erased, notes, rows, out, fresh)
+        marked_with::<1024, 4094>(program, notes, rows, out, fresh)
     }
 }
 
 // A refusal leaves the buffers as they came, but for 7, 8 and 9, which leave rows and diagnostics zero. Rows and diagnostics that are zeros, as in new buffers,
 // need no clearing before the run.
 pub fn analyse_in(
-    bytes: &[u8],
-    ends: &[u32],
+    strings: &Strings<'_>,
     words: &[u32],
     erased: &[u32],
     notes: &mut [u32],
@@ -193,13 +160,23 @@ pub fn analyse_in(
     fresh: bool,
 ) -> Result<Given, Refusal>
     requires { Fresh fresh rows.old notes.old }
-    ensures { Analyses bytes.now ends.now erased.now words.now result notes.old rows.old out.old notes.new rows.new out.new }
+    ensures { Analyses strings.now.bytes.now strings.now.ends.now erased.now words.now result notes.old rows.old out.old notes.new rows.new out.new }
 {
-    if !reader::sized_program(bytes, ends, words, erased) {
+    if !reader::sized_program(strings, words, erased) {
         return Err(Refusal::Size);
     }
-    strings::check(bytes, ends)?;
-    marked(words, bytes, ends, erased, notes, rows, out, fresh)
+    strings::check(strings)?;
+    // Behind a reference: the check takes a struct with a ghost field that was made here into another only where the signature has one lifetime for both.
+    let strings = &Sound {
+        bytes: strings.bytes,
+        ends: strings.ends,
+    };
+    let program = Unmarked {
+        words,
+        strings: *strings,
+        erased,
+    };
+    marked(&program, notes, rows, out, fresh)
 }
 
 // Into buffers that may hold anything.
@@ -214,5 +191,13 @@ pub fn analyse(
 ) -> Result<Given, Refusal>
     ensures { Analyses bytes.now ends.now erased.now words.now result notes.old rows.old out.old notes.new rows.new out.new }
 {
-    analyse_in(bytes, ends, words, erased, notes, rows, out, false)
+    analyse_in(
+        &Strings { bytes, ends },
+        words,
+        erased,
+        notes,
+        rows,
+        out,
+        false,
+    )
 }

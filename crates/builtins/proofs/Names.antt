@@ -1,14 +1,41 @@
--- The quick test, which each builtin's name passes, and the search among the entries.
+-- The names of the entries; the quick test, which each builtin's name passes, and the search among the entries.
 use mathlib.Core.Path.{◌≡◌, refl, sym, ap, ◌∙◌}
 use mathlib.Core.Bool.{Bool, true, false, ◌&&◌, false≢true}
-use mathlib.Core.List.{List, [], ◌∷◌}
+use mathlib.Core.List.{List, [], ◌∷◌, map}
 use mathlib.Core.Option.{none, some}
-use Prim.Native.Nat.{ℕ}
+use Prim.Native.Nat.{ℕ, zero, suc, ◌<◌}
+use native.Mathlib.Omega.{arith}
+use native.Mathlib.Nat.{le_of_suc-le-suc, not-suc-le-zero}
 use lib.Dec.{eqb}
+use lib.ListN.{length, get_or}
 use borrow.Author.Tests.{eqb-true}
 use Rattle.words.specs.Word.{pick}
 use Rattle.text.specs.Text.{ascii}
-use Rattle.builtins.specs.Builtins.{Builtin, takes, builtins, same, entry_of, builtin, length_fits, may_be}
+use Rattle.builtins.specs.Builtins.{Builtin, takes, builtins, same, entry_of, builtin, name_at, length_fits, may_be}
+
+-- ---- the entries
+
+absent : Builtin
+absent = record { name = []; least = 0; most = 0 }
+
+-- builtin i
+pub entry_at : ℕ → Builtin
+entry_at i = get_or builtins i absent
+
+-- there are 55
+count : length builtins ≡ 55
+unfolding builtins
+count = refl
+
+map_at : {A B : Type 0} (f : A → B) (l : List A) (i : ℕ) (d : A) (e : B) → i < length l → get_or (map f l) i e ≡ f (get_or l i d)
+map_at f [] i d e h = absurd (not-suc-le-zero h)
+map_at f (x ∷ xs) zero d e h = refl
+map_at f (x ∷ xs) (suc i) d e h = map_at f xs i d e (le_of_suc-le-suc h)
+
+-- its name
+pub name_at_lem : (i : ℕ) → i < 55 → name_at i ≡ (entry_at i).name
+unfolding name_at entry_at
+name_at_lem i h = map_at (λ (b : Builtin). b.name) builtins i absent [] (omega (arith, count))
 
 -- ---- the quick test
 

@@ -1,6 +1,6 @@
 -- `BUILTINS` of sema.rs, in its order: each builtin function's name, and the least and most arguments that it takes. These are definitions.
 use Prim.Native.String as S
-use Rattle.std.specs.Prelude.{ℕ, Bool, true, false, not, ◌&&◌, ◌||◌, List, [], ◌∷◌, leb, eqb, length, get_or}
+use Rattle.std.specs.Prelude.{ℕ, Bool, true, false, not, ◌&&◌, ◌||◌, List, [], ◌∷◌, leb, eqb, length, get_or, map}
 use Rattle.std.proofs.Math.Option.{Option, none, some}
 use Rattle.words.specs.Word.{pick}
 use Rattle.text.specs.Text.{ascii}
@@ -104,6 +104,11 @@ is_some (some a) = true
 unfoldable pub is_builtin : List ℕ → Bool
 unfolding builtin
 is_builtin name = is_some (builtin name)
+
+-- the name of builtin i (`name_at` of expr/specs/Reader.antt reads a name's number)
+unfoldable pub name_at : ℕ → List ℕ
+unfolding builtins
+name_at i = get_or (map (λ (b : Builtin). b.name) builtins) i []
 
 -- ---- for contracts inside and proofs: a quick test that every builtin's name passes, and few others
 

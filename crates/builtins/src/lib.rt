@@ -75,6 +75,7 @@ static BUILTINS: [Takes; 55] = [
 ];
 
 // Whether a builtin's name of 3 to 7 bytes that begins with this one may have this length.
+#[tactic(auto, using(std::proofs::lemmas::Bool::Decides::nat_tests), unfolding(crate::specs::Builtins::length_fits))]
 fn length_fits(first: u8, n: usize) -> bool
     ensures { result ≡ length_fits first n }
 {
@@ -93,6 +94,7 @@ fn length_fits(first: u8, n: usize) -> bool
 }
 
 // Whether a name has a length and a first byte that a builtin's may have.
+#[tactic(auto, using(std::proofs::lemmas::Bool::Decides::nat_tests), unfolding(crate::specs::Builtins::may_be))]
 fn may_be(name: &[u8]) -> bool
     ensures { result ≡ may_be name.now }
 {

@@ -1,5 +1,5 @@
 -- A statement by its head word: which one it is, and that those of no arm of the match do nothing. Assumes nothing.
-use Prim.Native.Nat.{ℕ, ◌+◌, ◌-◌, ◌≤◌}
+use Prim.Native.Nat.{ℕ, ◌+◌, ◌≤◌}
 use native.Mathlib.Omega.{arith}
 use mathlib.Core.Path.{◌≡◌, refl, sym, ap, subst}
 use mathlib.Core.Bool.{true}
@@ -24,8 +24,8 @@ use Rattle.collect.specs.Collect.{Given, given, statement}
 use Rattle.collect.specs.Code.{Collects}
 use Rattle.procedures.specs.Post.{StmtTo}
 use Rattle.plans.specs.Plans.{Shallow}
-use Rattle.plans.proofs.Walk.{head_kind, head_range, of_number}
-use Rattle.collecting.specs.Walk.{Stated}
+use Rattle.plans.proofs.Walk.{head_kind, of_number}
+use Rattle.collecting.specs.Walk.{Idle, Stated}
 
 -- ---- which statement it is
 
@@ -69,15 +69,13 @@ pub quiet : (G : Given) (scope line : ℕ) (k : Kind) (r : Tree Expr (row (sorts
 unfolding statement
 quiet G scope line k r q st = ap (λ (v : View Seen). statement G scope line v st) (sym (view_other k (none_shown k q) (over see r)))
 
--- so nothing needs to be done for it
-pub nothing_said : {ws ns : List ℕ} {n : ℕ} {bytes ends erased : List ℕ} {scope at : ℕ} {s : Counts} {b d : List ℕ} → Fit s (length b) (length d) → Quiet (kind_of (get_or ws at 0) - 64) → Stated ws ns n bytes ends erased scope at s s b d b d
-nothing_said {ws} {ns} {n} {bytes} {ends} {erased} {scope} {at} {s} {b} {d} fit q = record {
-  does = λ k line f end h.
-      let e : kind_of (get_or ws at 0) - 64 ≡ number_of k = omega (arith, head_kind h) in
-      let q' : Quiet (number_of k) = subst Quiet e q in
-      same (λ N D. statement (given (some N) (some D) bytes ends erased) scope line (view k (over see f))) (λ N D st. quiet (given (some N) (some D) bytes ends erased) scope line k f q' st) (nothing_does fit);
-}
+-- the kind of such a head is one of them
+pub idle_quiet : {k j : ℕ} → Idle k → k ≡ 64 + j → Quiet j
+idle_quiet I q = record { no_label = λ e. I.no_label (omega arith); no_label_name = λ e. I.no_label_name (omega arith); no_dim = λ e. I.no_dim (omega arith); no_shared = λ e. I.no_shared (omega arith); no_static = λ e. I.no_static (omega arith); no_redim = λ e. I.no_redim (omega arith); no_sub = λ e. I.no_sub (omega arith); no_function = λ e. I.no_function (omega arith); no_const = λ e. I.no_const (omega arith); no_option_base = λ e. I.no_option_base (omega arith); no_type_def = λ e. I.no_type_def (omega arith) }
 
--- the kind of a head from its place among the kinds
-pub head_less : {ws ns : List ℕ} {n at end : ℕ} {v : Tree Expr (one stmt)} (j : ℕ) → Stands ws ns n at v end → kind_of (get_or ws at 0) - 64 ≡ j → kind_of (get_or ws at 0) ≡ 64 + j
-head_less j s e = omega (arith, head_range s)
+-- so nothing needs to be done for it
+pub nothing_said : {ws ns : List ℕ} {n : ℕ} {bytes ends erased : List ℕ} {scope at : ℕ} {s : Counts} {b d : List ℕ} → Fit s (length b) (length d) → Idle (kind_of (get_or ws at 0)) → Stated ws ns n bytes ends erased scope at s s b d b d
+nothing_said {bytes = bytes} {ends} {erased} {scope} fit I = record {
+  does = λ k line f end h.
+      same (λ N D. statement (given (some N) (some D) bytes ends erased) scope line (view k (over see f))) (λ N D st. quiet (given (some N) (some D) bytes ends erased) scope line k f (idle_quiet I (head_kind h)) st) (nothing_does fit);
+}

@@ -3,8 +3,8 @@ use Prim.Native.Nat.{ℕ, ◌+◌, ◌≤◌, ◌<◌}
 use native.Mathlib.Omega.{arith}
 use mathlib.Core.Path.{◌≡◌, refl, sym, ap, ◌∙◌}
 use mathlib.Core.List.{List, [], ◌∷◌, append-nil}
-use Rattle.std.specs.Prelude.{Option, Some, None}
-use lib.ListN.{length, get_or}
+use Rattle.std.specs.Prelude.{Option, Some}
+use lib.ListN.{get_or}
 use Rattle.words.specs.Word.{kind_of}
 use Rattle.expr.specs.Expr.{Expr}
 use Rattle.tree.specs.Sorts.{Kind, sorts, number_of}
@@ -18,9 +18,9 @@ use Rattle.plans.specs.Pieces.{Piece, stmt_piece}
 use Rattle.plans.specs.Items.{Item, expr_item, tree_item, StandsAll, outer, outer_i, outer_is}
 use Rattle.plans.proofs.Scopes.{inner_other}
 use Rattle.plans.proofs.Walk.{head_kind}
-use Rattle.plans.proofs.Front.{call_parts, WordsAt, StmtAt, FrontAt, over_at, word_at, raw_at, raws_at, paren_at, call_at, stmt_at, front_at, at_raw, at_raws, items_inside}
-use Rattle.collecting.specs.Walk.{Idle, Doing, Takes, two, three, single, doing, SomeItems, Past, Passes, piece}
-use Rattle.collecting.proofs.Heads.{Quiet, quiet}
+use Rattle.plans.proofs.Front.{call_parts, WordsAt, StmtAt, FrontAt, over_at, word_at, raw_at, raws_at, paren_at, call_at, stmt_at, front_at, at_raw, at_raws}
+use Rattle.collecting.specs.Walk.{Idle, Takes, two, three, single, doing, SomeItems, Past, Passes, piece}
+use Rattle.collecting.proofs.Heads.{quiet, idle_quiet}
 
 -- ---- the walk is the outer statements in turn
 
@@ -78,9 +78,6 @@ idle_high l u n = record { no_label = λ e. omega arith; no_label_name = λ e. o
 pub idle_top : {k : ℕ} → 94 ≤ k → Idle k
 idle_top h = record { no_label = λ e. omega arith; no_label_name = λ e. omega arith; no_dim = λ e. omega arith; no_shared = λ e. omega arith; no_static = λ e. omega arith; no_redim = λ e. omega arith; no_sub = λ e. omega arith; no_function = λ e. omega arith; no_const = λ e. omega arith; no_option_base = λ e. omega arith; no_type_def = λ e. omega arith }
 
-idle_quiet : {k j : ℕ} → Idle k → k ≡ 64 + j → Quiet j
-idle_quiet I q = record { no_label = λ e. I.no_label (omega arith); no_label_name = λ e. I.no_label_name (omega arith); no_dim = λ e. I.no_dim (omega arith); no_shared = λ e. I.no_shared (omega arith); no_static = λ e. I.no_static (omega arith); no_redim = λ e. I.no_redim (omega arith); no_sub = λ e. I.no_sub (omega arith); no_function = λ e. I.no_function (omega arith); no_const = λ e. I.no_const (omega arith); no_option_base = λ e. I.no_option_base (omega arith); no_type_def = λ e. I.no_type_def (omega arith) }
-
 -- ---- one word on: what stands there opens by its first word
 
 -- items with the same statements
@@ -122,10 +119,6 @@ module _ {ws ns : List ℕ} {n at to : ℕ} {xs : List Item} where
 
 -- ---- nothing is said from a place up to another
 
--- a place to itself
-pub passes_none : {ws : List ℕ} {from to : ℕ} → Passes ws from from to
-passes_none = record { ahead = omega arith; past = λ ns n xs h. record { items = xs; there = h; alike = λ G scope st. refl } }
-
 -- one stretch after another
 pub passes_then : {ws : List ℕ} {a b c to : ℕ} → Passes ws a b to → Passes ws b c to → Passes ws a c to
 passes_then P Q = record {
@@ -148,13 +141,6 @@ module _ {ws : List ℕ} {at to : ℕ} (z : at < to) where
   pass {r} {n} (single o I e) f = let q : n ≡ 1 = cc in rw q (pass_single o I)
   pass {r} {n} (doing D e) f = cc
 
--- where none is taken, the statement does something
-pub none_taken : {k : ℕ} {r : Option ℕ} → Takes k r → r ≡ None → Doing k
-none_taken (two l u e) z = cc
-none_taken (three l u e) z = cc
-none_taken (single o I e) z = cc
-none_taken (doing D e) z = D
-
 -- one to three words are taken at once
 pub few_taken : {k n : ℕ} {r : Option ℕ} → Takes k r → r ≡ Some n → (0 < n) × (n ≤ 3)
 few_taken {k} {n} (two l u e) f = let q : n ≡ 2 = cc in omega arith
@@ -167,7 +153,3 @@ few_taken {k} {n} (doing D e) f = let q : n ≡ 1 = cc in omega arith
 -- past words that say nothing some items stand
 pub some_on : {ws : List ℕ} {from at to : ℕ} → SomeItems ws from to → Passes ws from at to → SomeItems ws at to
 some_on S P = let p = P.past S.names S.strings S.items S.there in record { names = S.names; strings = S.strings; items = p.items; there = p.there }
-
--- the place is inside the words
-pub some_inside : {ws : List ℕ} {at to : ℕ} → SomeItems ws at to → (at ≤ to) × (to ≤ length ws)
-some_inside S = items_inside S.there

@@ -10,7 +10,7 @@ use Rattle.expr.specs.Expr.{Expr}
 use Rattle.tree.specs.Sorts.{stmt, body, Kind, sorts, number_of}
 use Rattle.tree.specs.Tree.{one, row, Tree, Stmt, depth_t, Right, over}
 use Rattle.tree.specs.Stands.{Stands, SomeTree}
-use Rattle.tree.specs.Memo.{Remembers}
+use Rattle.tree.specs.Memo.{Remembers, Past}
 use Rattle.tree.proofs.Complete.{clear, clear_r, one_tree}
 use Rattle.views.specs.View.{view, inner, walk}
 use Rattle.consteval.specs.EvalLaws.{Words32}
@@ -37,10 +37,6 @@ use Rattle.collecting.proofs.Passing.{opened, closed, alone}
 pub scan_start : {ws ns bytes ends erased : List ℕ} {scope from to : ℕ} {s : Counts} {b d : List ℕ} → Scanning ws ns bytes ends scope from to s b d → SoFar ws ns bytes ends erased scope from from to s s b d b d
 scan_start R = record { ahead = omega arith; left = λ xs h. record { items = xs; there = h; before = λ N D. nothing; does = nothing_does R.kept.fit; rest = λ N D st. refl }; kept = R.kept }
 
--- what the words ahead are asked
-pub scanning_some : {ws ns bytes ends : List ℕ} {scope from to : ℕ} {s : Counts} {b d : List ℕ} → Scanning ws ns bytes ends scope from to s b d → SomeItems ws from to
-scanning_some {ns = ns} {ends = ends} R = record { names = ns; strings = length ends; items = R.items; there = R.there }
-
 -- at the end all is done
 pub scan_end : {ws ns bytes ends erased : List ℕ} {scope from at to : ℕ} {s t : Counts} {b d b' d' : List ℕ} → SoFar ws ns bytes ends erased scope from at to s t b d b' d' → to ≤ at → Scanned ws ns bytes ends erased scope from to s t b d b' d'
 unfolding each
@@ -65,6 +61,11 @@ within_seen {ns = ns} {n} {end = end} {scope} {k = k} {line} {f} I h = I.gives n
 -- where the statement there ends
 abbrev pub Ends : (ws ns : List ℕ) (n at e : ℕ) → Type 0
 Ends ws ns n at e = (v : Tree Expr (one stmt)) (end : ℕ) → Stands ws ns n at v end → depth_t v ≤ 100 → e ≡ end
+
+-- it ends where reading told, by the marks and how many strings there are
+pub ends_at : {ws ns bytes ends ms memo : List ℕ} {n scope from to at e : ℕ} {s : Counts} {b d : List ℕ} → Scanning ws ns bytes ends scope from to s b d → Remembers ws ns (length ns) memo → (ms ≡ ns) × (n ≡ length ns) → Past ws ms n memo at e → Ends ws ns (length ends) at e
+ends_at {ws} {ns} {memo = memo} {at = at} {e} R m q P =
+    subst (λ (k : ℕ). Ends ws ns k at e) R.around.counted ((rw (q.0, q.1) at P).gives m)
 
 -- its fields alone, as items
 body_items : {ws ns : List ℕ} {n at : ℕ} {xs : List Item} {to : ℕ} (M : StmtAt ws ns n 100 at xs to) → StandsAll ws ns n 100 (at + 1) (tree_item M.fields ∷ []) M.mid
@@ -129,53 +130,20 @@ module _ {ws ns bytes ends erased : List ℕ} {scope from at to : ℕ} {s t : Co
   scan_some R = let L = w.left R.items R.there in record { names = ns; strings = length ends; items = L.items; there = L.there }
 
 module _ {ws ns bytes ends erased : List ℕ} {scope from at to : ℕ} {s t : Counts} {b d b' d' : List ℕ} (w : SoFar ws ns bytes ends erased scope from at to s t b d b' d') (z : at < to) where
-  -- past the head of a statement that opens no scope
-  pub scan_stmt : {r : Counts} {b'' d'' : List ℕ} → Alone (kind_of (get_or ws at 0)) → Stated ws ns (length ends) bytes ends erased scope at t r b' d' b'' d'' → Kept ns (length ends) r b'' d'' → SoFar ws ns bytes ends erased scope from (at + 1) to s r b d b'' d''
-  scan_stmt o S K = record { ahead = omega (arith, w.ahead); left = λ xs h. let L = w.left xs h in left_stmt L (at_stmt L.there z o.from (omega (arith, o.upto))) o.no_sub o.no_function S; kept = K }
-
-  -- past a whole procedure
-  pub scan_procedure : {within e : ℕ} {r u : Counts} {b'' d'' b''' d''' : List ℕ} → 84 ≤ kind_of (get_or ws at 0) → kind_of (get_or ws at 0) < 86 → Ends ws ns (length ends) at e → at < e → InsideAt ws at scope within → Stated ws ns (length ends) bytes ends erased scope at t r b' d' b'' d''
-      → Scanned ws ns bytes ends erased within (at + 1) e r u b'' d'' b''' d''' → SoFar ws ns bytes ends erased scope from e to s u b d b''' d'''
-  scan_procedure l u E h I S T = record {
-    ahead = omega (arith, w.ahead);
-    left = λ xs h. let L = w.left xs h in let M = at_stmt L.there z (omega arith) (omega arith) in left_procedure L M (E _ M.mid M.whole M.shallow) I S T;
-    kept = T.kept;
-  }
-
   -- ---- what its calls ask
 
   module _ (R : Scanning ws ns bytes ends scope from to s b d) where
-    -- inside the words
-    pub scan_fits : (at < length ws) × (to ≤ length ws)
-    scan_fits = let i = items_inside (w.left R.items R.there).there in (omega (arith, i.1), i.1)
-
     module _ (l : 64 ≤ kind_of (get_or ws at 0)) (u : kind_of (get_or ws at 0) < 118) where
       -- the statement there
       stmt_there : StmtAt ws ns (length ends) 100 at (w.left R.items R.there).items to
       stmt_there = at_stmt (w.left R.items R.there).there z l u
 
-      -- the statement at the place may be collected
-      pub stmt_ready : Ready (one stmt) ws ns bytes ends scope at t b' d'
+      -- it may be collected
+      stmt_ready : Ready (one stmt) ws ns bytes ends scope at t b' d'
       stmt_ready = let M = stmt_there in record { tree = record { tree = Stmt M.kind M.line M.fields; end = M.mid; stands = M.whole; shallow = M.shallow }; around = R.around; kept = w.kept }
 
-      -- so may a procedure, with its end
-      pub procedure_ready : {e : ℕ} → Ends ws ns (length ends) at e → 84 ≤ kind_of (get_or ws at 0) → kind_of (get_or ws at 0) < 86 → ReadyProcedure ws ns bytes ends scope at e t b' d'
-      unfolding stmt_ready stmt_there
-      procedure_ready E p q = let M = stmt_there in record { ready = stmt_ready; over_at_lem = sym (E _ M.mid M.whole M.shallow); from = p; upto = omega arith }
-
-      -- some statement stands there
-      pub stmt_some : SomeTree (one stmt) ws at
-      stmt_some = to_some stmt_ready.tree
-
-      -- where it ends
-      pub stmt_span : {e : ℕ} → Ends ws ns (length ends) at e → (at < e) × (e ≤ to)
-      stmt_span E =
-          let M = stmt_there in
-          let q = E _ M.mid M.whole M.shallow in
-          (omega (arith, q, (items_inside (body_items M)).0), omega (arith, q, (items_inside M.after).0))
-
       -- after it the buffers keep a good state
-      pub stated_kept : Words32 ws → {r : Counts} {b'' d'' : List ℕ} → Stated ws ns (length ends) bytes ends erased scope at t r b' d' b'' d'' → Kept ns (length ends) r b'' d''
+      stated_kept : Words32 ws → {r : Counts} {b'' d'' : List ℕ} → Stated ws ns (length ends) bytes ends erased scope at t r b' d' b'' d'' → Kept ns (length ends) r b'' d''
       unfolding Right
       stated_kept W32 S =
           let M = stmt_there in
@@ -191,28 +159,74 @@ module _ {ws ns bytes ends erased : List ℕ} {scope from at to : ℕ} {s t : Co
             good = (statement_good ns (length ends) G scope M.line M.kind M.fields R.around.counted R.around.scoped M.whole.valid (stands_known W32 (fields M.whole))).on K.state K.good;
           }
 
-      -- the body of a procedure may be scanned, in its scope
-      pub body_ready : Words32 ws → {within e : ℕ} {r : Counts} {b'' d'' : List ℕ} → Ends ws ns (length ends) at e → InsideAt ws at scope within → Kept ns (length ends) r b'' d'' → Scanning ws ns bytes ends within (at + 1) e r b'' d''
-      unfolding Right
-      body_ready W32 {within} {e} E I K =
-          let M = stmt_there in
-          let k = M.kind in
-          let f = M.fields in
-          let x : Scope ns (length ends) (inner scope (view k (over see f))) = inner_scope ns (length ends) (view k (over see f)) R.around.scoped (view_fine ns (length ends) k f M.whole.valid.1 (stands_known W32 (fields M.whole))) in
-          record {
-            items = tree_item f ∷ [];
-            there = subst (λ (y : ℕ). StandsAll ws ns (length ends) 100 (at + 1) (tree_item f ∷ []) y) (sym (E _ M.mid M.whole M.shallow)) (body_items M);
-            around = record { named = R.around.named; counted = R.around.counted; few = R.around.few; scoped = subst (Scope ns (length ends)) (sym (within_seen I M.whole)) x };
-            kept = K;
+    -- ---- a statement that opens no scope
+
+    module _ (o : Alone (kind_of (get_or ws at 0))) where
+      -- what its call asks
+      pub stmt_asks : Ready (one stmt) ws ns bytes ends scope at t b' d' × Alone (kind_of (get_or ws at 0))
+      stmt_asks = (stmt_ready o.from (omega (arith, o.upto)), o)
+
+      -- past its head
+      pub stmt_past : Words32 ws → {r : Counts} {b'' d'' : List ℕ} → Stated ws ns (length ends) bytes ends erased scope at t r b' d' b'' d'' → SoFar ws ns bytes ends erased scope from (at + 1) to s r b d b'' d''
+      stmt_past W32 S = record {
+        ahead = omega (arith, w.ahead);
+        left = λ xs h. let L = w.left xs h in left_stmt L (at_stmt L.there z o.from (omega (arith, o.upto))) o.no_sub o.no_function S;
+        kept = stated_kept o.from (omega (arith, o.upto)) W32 S;
+      }
+
+    -- ---- a procedure
+
+    module _ (l : 84 ≤ kind_of (get_or ws at 0)) (u : kind_of (get_or ws at 0) < 86) where
+      -- the procedure there
+      procedure_there : StmtAt ws ns (length ends) 100 at (w.left R.items R.there).items to
+      procedure_there = stmt_there (omega arith) (omega arith)
+
+      -- some statement stands there
+      pub procedure_some : SomeTree (one stmt) ws at
+      procedure_some = to_some (stmt_ready (omega arith) (omega arith)).tree
+
+      module _ {e : ℕ} (E : Ends ws ns (length ends) at e) where
+        ends_there : e ≡ procedure_there.mid
+        ends_there = E _ procedure_there.mid procedure_there.whole procedure_there.shallow
+
+        -- it may be collected, with its end
+        pub procedure_ready : ReadyProcedure ws ns bytes ends scope at e t b' d'
+        unfolding stmt_ready procedure_there
+        procedure_ready = record { ready = stmt_ready (omega arith) (omega arith); over_at_lem = sym ends_there; from = l; upto = omega arith }
+
+        -- where it ends
+        pub procedure_span : (at < e) × (e ≤ to)
+        procedure_span =
+            let M = procedure_there in
+            (omega (arith, ends_there, (items_inside (body_items M)).0), omega (arith, ends_there, (items_inside M.after).0))
+
+        module _ {within : ℕ} {r : Counts} {b'' d'' : List ℕ} (I : InsideAt ws at scope within) (S : Stated ws ns (length ends) bytes ends erased scope at t r b' d' b'' d'') where
+          -- its body may be scanned, in its scope
+          pub body_ready : Words32 ws → Scanning ws ns bytes ends within (at + 1) e r b'' d''
+          unfolding Right
+          body_ready W32 =
+              let M = procedure_there in
+              let k = M.kind in
+              let f = M.fields in
+              let x : Scope ns (length ends) (inner scope (view k (over see f))) = inner_scope ns (length ends) (view k (over see f)) R.around.scoped (view_fine ns (length ends) k f M.whole.valid.1 (stands_known W32 (fields M.whole))) in
+              record {
+                items = tree_item f ∷ [];
+                there = subst (λ (y : ℕ). StandsAll ws ns (length ends) 100 (at + 1) (tree_item f ∷ []) y) (sym ends_there) (body_items M);
+                around = record { named = R.around.named; counted = R.around.counted; few = R.around.few; scoped = subst (Scope ns (length ends)) (sym (within_seen I M.whole)) x };
+                kept = stated_kept (omega arith) (omega arith) W32 S;
+              }
+
+          -- past all of it
+          pub procedure_past : {v : Counts} {b''' d''' : List ℕ} → Scanned ws ns bytes ends erased within (at + 1) e r v b'' d'' b''' d''' → SoFar ws ns bytes ends erased scope from e to s v b d b''' d'''
+          procedure_past T = record {
+            ahead = omega (arith, w.ahead, procedure_span.0);
+            left = λ xs h. let L = w.left xs h in let M = at_stmt L.there z (omega arith) (omega arith) in left_procedure L M (E (Stmt M.kind M.line M.fields) M.mid M.whole M.shallow) I S T;
+            kept = T.kept;
           }
 
 -- ---- a whole list of statements
 
 module _ {ws ns bytes ends : List ℕ} {scope at : ℕ} {s : Counts} {b d : List ℕ} (R : ReadyWhole ws ns bytes ends scope at s b d) where
-  -- the memo, by the strings' ends
-  pub memo_ends : {memo : List ℕ} → Remembers ws ns (length ns) memo → Remembers ws ns (length ends) memo
-  memo_ends {memo} m = subst (λ (k : ℕ). Remembers ws ns k memo) R.ready.around.counted m
-
   -- it may be scanned to the end of the words
   pub whole_scanning : Scanning ws ns bytes ends scope at (length ws) s b d
   whole_scanning = record {

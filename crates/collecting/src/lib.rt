@@ -9,31 +9,36 @@ ghost use Rattle.tree.specs.Tree.{one};
 ghost use Rattle.tree.specs.Memo.{Remembers};
 ghost use Rattle.collecting.specs.Walk.{Ready, Alone, ReadyProcedure, ReadyWhole, Scanning, Scanned, Stated, Collects, Takes, Doing, SomeItems, Passes};
 
+mod program;
+
+pub use program::Program;
 use steps::Counts;
+
+// Rows, diagnostics and their counts stay three parameters: beside a `&mut` field no ghost field is had, so that a struct of them would carry no fact. So do a scope and
+// a place, which the crates of the statements take as two. A memo is lent beside the program, and that it is right is a `requires`: `noted`, in `analyse` and
+// `collection`, writes it after the program is made and lends it on; and contracts name each list by its path, which a struct around `Program` would make longer by a
+// step.
 
 // One statement that is no procedure, but for its bodies.
 fn statement(
-    words: &[u32],
-    names: &[u8],
-    bytes: &[u8],
-    ends: &[u32],
-    erased: &[u32],
+    program: &Program<'_>,
     b: &mut [u32],
     d: &mut [u32],
     s: Counts,
     scope: u32,
     at: usize,
 ) -> Counts
-    requires { Ready (one stmt_sort) words.now names.now bytes.now ends.now scope at s b.old d.old × Alone (kind_of (get_or words.now at 0)) }
-    ensures { Stated words.now names.now (length ends.now) bytes.now ends.now erased.now scope at s result b.old d.old b.new d.new }
+    requires { Ready (one stmt_sort) program.now.source.words.now program.now.source.names.now program.now.strings.bytes.now program.now.strings.ends.now scope at s b.old d.old × Alone (kind_of (get_or program.now.source.words.now at 0)) }
+    ensures { Stated program.now.source.words.now program.now.source.names.now (length program.now.strings.ends.now) program.now.strings.bytes.now program.now.strings.ends.now program.now.erased.now scope at s result b.old d.old b.new d.new }
 {
+    let words = program.source.words;
     match words[at] / 16777216 {
         64 => labels::label(words, b, d, s, scope, at),
         65 => labels::label_name(words, b, d, s, scope, at),
-        79 => dims::dim(words, bytes, ends, erased, b, d, s, scope, at),
+        79 => dims::dim(words, &program.strings, program.erased, b, d, s, scope, at),
         81 => items::shared(words, b, d, s, scope, at),
         82 => items::statics(words, b, d, s, scope, at),
-        83 => dims::redim(words, bytes, ends, erased, b, d, s, scope, at),
+        83 => dims::redim(words, &program.strings, program.erased, b, d, s, scope, at),
         89 => labels::constant(words, b, d, s, at),
         92 => labels::option_base(words, b, d, s, at),
         93 => types::type_def(words, b, d, s, scope, at),
@@ -43,10 +48,7 @@ fn statement(
 
 // A SUB or FUNCTION, but for its body; it ends at `end`.
 fn procedure(
-    words: &[u32],
-    names: &[u8],
-    bytes: &[u8],
-    ends: &[u32],
+    program: &Program<'_>,
     b: &mut [u32],
     d: &mut [u32],
     s: Counts,
@@ -54,17 +56,19 @@ fn procedure(
     at: usize,
     end: usize,
 ) -> Counts
-    requires { ReadyProcedure words.now names.now bytes.now ends.now scope at end s b.old d.old }
-    ensures { (erased : List ℕ) → Stated words.now names.now (length ends.now) bytes.now ends.now erased scope at s result b.old d.old b.new d.new }
+    requires { ReadyProcedure program.now.source.words.now program.now.source.names.now program.now.strings.bytes.now program.now.strings.ends.now scope at end s b.old d.old }
+    ensures { (erased : List ℕ) → Stated program.now.source.words.now program.now.source.names.now (length program.now.strings.ends.now) program.now.strings.bytes.now program.now.strings.ends.now erased scope at s result b.old d.old b.new d.new }
 {
+    let words = program.source.words;
     if words[at] / 16777216 == 84 {
-        procedures::sub(words, names, bytes, ends, b, d, s, scope, at, end)
+        procedures::sub(&program.source, &program.strings, b, d, s, scope, at, end)
     } else {
-        procedures::function(words, names, bytes, ends, b, d, s, scope, at, end)
+        procedures::function(&program.source, &program.strings, b, d, s, scope, at, end)
     }
 }
 
 // The words of what stands there, a literal with its raw words; none of a statement that may do something.
+#[tactic(auto, using(crate::proofs::Passing::idle_low, crate::proofs::Passing::idle_middle, crate::proofs::Passing::idle_high, crate::proofs::Passing::idle_top))]
 fn quiet(k: u32) -> Option<usize>
     ensures { Takes k result }
 {
@@ -109,11 +113,7 @@ fn ahead(words: &[u32], from: usize, to: usize) -> usize
 // All statements of the words from one place to another, by one scan: a literal's raw words are passed over, and a procedure's body is scanned in its own scope. A `while`:
 // a statement's head is one word, a procedure has as many as it has.
 fn scan(
-    words: &[u32],
-    names: &[u8],
-    bytes: &[u8],
-    ends: &[u32],
-    erased: &[u32],
+    program: &Program<'_>,
     b: &mut [u32],
     d: &mut [u32],
     s: Counts,
@@ -122,25 +122,24 @@ fn scan(
     to: usize,
     memo: &[u32],
 ) -> Counts
-    requires { Scanning words.now names.now bytes.now ends.now scope from to s b.old d.old × Remembers words.now names.now (length ends.now) memo.now }
-    ensures { Scanned words.now names.now bytes.now ends.now erased.now scope from to s result b.old d.old b.new d.new }
+    requires { Scanning program.now.source.words.now program.now.source.names.now program.now.strings.bytes.now program.now.strings.ends.now scope from to s b.old d.old × Remembers program.now.source.words.now program.now.source.names.now (length program.now.source.names.now) memo.now }
+    ensures { Scanned program.now.source.words.now program.now.source.names.now program.now.strings.bytes.now program.now.strings.ends.now program.now.erased.now scope from to s result b.old d.old b.new d.new }
 {
+    let words = program.source.words;
     let mut t = s;
     let mut at = ahead(words, from, to);
     while at < to {
         match words[at] / 16777216 {
             84 | 85 => {
-                let e = tree::past(words, names, ends.len() as u32, memo, at);
+                let e = tree::past(words, &program.source.marks(), memo, at);
                 let own = plans::inside(words, at, scope);
-                t = procedure(words, names, bytes, ends, b, d, t, scope, at, e);
+                t = procedure(program, b, d, t, scope, at, e);
                 let first = at + 1;
-                t = scan(
-                    words, names, bytes, ends, erased, b, d, t, own, first, e, memo,
-                );
+                t = scan(program, b, d, t, own, first, e, memo);
                 at = ahead(words, e, to);
             }
             _ => {
-                t = statement(words, names, bytes, ends, erased, b, d, t, scope, at);
+                t = statement(program, b, d, t, scope, at);
                 at = ahead(words, at + 1, to);
             }
         }
@@ -150,11 +149,7 @@ fn scan(
 
 // The list of statements at `at`, which is the last thing in the words.
 pub fn statements(
-    words: &[u32],
-    names: &[u8],
-    bytes: &[u8],
-    ends: &[u32],
-    erased: &[u32],
+    program: &Program<'_>,
     b: &mut [u32],
     d: &mut [u32],
     s: Counts,
@@ -162,21 +157,17 @@ pub fn statements(
     at: usize,
     memo: &[u32],
 ) -> Counts
-    requires { ReadyWhole words.now names.now bytes.now ends.now scope at s b.old d.old × Remembers words.now names.now (length names.now) memo.now }
-    ensures { Collects words.now names.now bytes.now ends.now erased.now scope at (length words.now) s result b.old d.old b.new d.new }
+    requires { ReadyWhole program.now.source.words.now program.now.source.names.now program.now.strings.bytes.now program.now.strings.ends.now scope at s b.old d.old × Remembers program.now.source.words.now program.now.source.names.now (length program.now.source.names.now) memo.now }
+    ensures { Collects program.now.source.words.now program.now.source.names.now program.now.strings.bytes.now program.now.strings.ends.now program.now.erased.now scope at (length program.now.source.words.now) s result b.old d.old b.new d.new }
 {
     scan(
-        words,
-        names,
-        bytes,
-        ends,
-        erased,
+        program,
         b,
         d,
         s,
         scope,
         at,
-        words.len(),
+        program.source.words.len(),
         memo,
     )
 }

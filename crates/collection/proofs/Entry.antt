@@ -13,7 +13,7 @@ use Rattle.strings.specs.Table.{sound, names_of}
 use Rattle.strings.specs.Open.{Answers, entry_of}
 use Rattle.reader.specs.Begun.{Begun}
 use Rattle.reader.specs.Program.{accepted_of}
-use Rattle.consteval.specs.EvalLaws.{Words32}
+use Rattle.runs.specs.Laws.{keeps_same}
 use Rattle.steps.specs.State.{State, running, stopped}
 use Rattle.steps.specs.Refused.{zeroing, Numbered}
 use Rattle.steps.specs.Held.{Held, Left, counts_of, rows_left, notes_left}
@@ -22,10 +22,8 @@ use Rattle.steps.proofs.Compose.{whole}
 use Rattle.steps.specs.declared.Counts.{Counts}
 use Rattle.collect.specs.Collect.{given, collected}
 use Rattle.collect.specs.Passed.{Passed}
-use Rattle.collect.specs.PassedLaws.{marks_many, passed_whole, accepted_leaves}
-use Rattle.lawful.specs.Good.{Good}
-use Rattle.lawful.specs.Views.{stands_known}
-use Rattle.lawful.specs.Lawful.{collected_good}
+use Rattle.collect.specs.PassedLaws.{passed_whole, accepted_leaves}
+use Rattle.lawful.specs.Good.{Good, GoodRows}
 use Rattle.collecting.specs.Walk.{Collects}
 use Rattle.collection.specs.Entry.{Buffers, buffers_of, work, told, Leaves, Tells, Tabled}
 use Rattle.std.specs.Prelude.{Result, Err, Ok}
@@ -43,15 +41,20 @@ refused_tells bytes ends erased ws N D {f} b d r =
 
 -- ---- the run
 
+-- what holds a good state holds no other
+held_good : (ns : List ℕ) (n : ℕ) {N D N' D' : ℕ} {s : Counts} {b d : List ℕ} (st st' : State) → Held N D st s b d → Held N' D' st' s b d → Good ns n st → Good ns n st'
+held_good ns n (running rows notes) (running rows' notes') H K g = subst (GoodRows ns n) (keeps_same H.inside.1 K.inside.1) g
+held_good ns n (running rows notes) (stopped k) H K g = absurd (omega (arith, H.inside.0, K.inside.0, K.inside.1))
+held_good ns n (stopped k) (running rows notes) H K g = absurd (omega (arith, H.inside.0, H.inside.1, K.inside.0))
+held_good ns n (stopped k) (stopped k') H K g = subst (λ (x : ℕ). zeroing x ≡ true) (sym H.inside.0 ∙ K.inside.0) g
+
 -- begun, collected and finished: the buffers hold what the run left
-pub run_tabled : {bytes ends erased ws ns : List ℕ} {next : ℕ} {s t r : Counts} {b d b₁ d₁ b₂ d₂ b' d' : List ℕ} → Words32 ws → Passed bytes ends erased ws ns → Held (length b) (length d) (running [] []) s b₁ d₁
+pub run_tabled : {bytes ends erased ws ns : List ℕ} {next : ℕ} {s t r : Counts} {b d b₁ d₁ b₂ d₂ b' d' : List ℕ} → Passed bytes ends erased ws ns → Held (length b) (length d) (running [] []) s b₁ d₁
     → Collects ws ns bytes ends erased 0 0 next s t b₁ d₁ b₂ d₂ → ((N D : ℕ) (st : State) → Held N D st t b₂ d₂ → Left N D st r b' d') → Tabled bytes ends erased ws ns r b d b' d'
 unfolding collected
-run_tabled {bytes} {ends} {erased} {ws} {ns} {b = b} {d} W P H C L = record {
+run_tabled {bytes} {ends} {erased} {ws} {ns} {b = b} {d} P H C L = record {
   left = λ p e. whole H (C.does p (length ws) (passed_whole P p e).stands).1 L;
-  good = λ p e.
-      let h = (passed_whole P p e).stands in
-      collected_good ns (length ends) (given (some (length b)) (some (length d)) bytes ends erased) p (marks_many P) h.valid (stands_known W h);
+  good = λ p e. held_good ns (length ends) C.kept.state (collected (given (some (length b)) (some (length d)) bytes ends erased) p) C.kept.held ((C.does p (length ws) (passed_whole P p e).stands).1.after (length b) (length d) (running [] []) H) C.kept.good;
 }
 
 -- ---- its end

@@ -2,14 +2,15 @@
 // meets them, or how many rows and diagnostics there are.
 #![tactic(auto)]
 
-ghost use Rattle.std.specs.Prelude.{◌≤◌, length};
-ghost use Rattle.words.specs.Sizes.{max_strings};
+ghost use Rattle.std.specs.Prelude.{length};
 ghost use Rattle.tree.specs.Memo.{Remembers};
-ghost use Rattle.collect.specs.Code.{Named};
 ghost use Rattle.collect.specs.Passed.{Passed};
 ghost use Rattle.collection.specs.Entry.{Tabled, Tells, Entered, work};
 
+use collecting::Program;
 use steps::Counts;
+use strings::{Sound, Strings};
+use tree::Source;
 use words::Refusal;
 
 // How many rows and diagnostics stand in their buffers. Crate `page` has the same two numbers as what it is to lay out: it knows nothing of collecting.
@@ -19,42 +20,31 @@ pub struct Sizes {
     pub notes: usize,
 }
 
+// Both buffers stay two parameters, as they are in `collecting`, and what a memo remembers a `requires`: `noted` writes the memo, and only `tables` just reads it.
+
 // The rows and diagnostics of a program that passed the checks; a run that stops leaves zeros.
-fn tables(
-    words: &[u32],
-    names: &[u8],
-    bytes: &[u8],
-    ends: &[u32],
-    erased: &[u32],
-    b: &mut [u32],
-    d: &mut [u32],
-    memo: &[u32],
-) -> Counts
-    requires { Passed bytes.now ends.now erased.now words.now names.now × Remembers words.now names.now (length names.now) memo.now }
-    ensures { Tabled bytes.now ends.now erased.now words.now names.now result b.old d.old b.new d.new }
+fn tables(program: &Program<'_>, b: &mut [u32], d: &mut [u32], memo: &[u32]) -> Counts
+    requires { Passed program.now.strings.bytes.now program.now.strings.ends.now program.now.erased.now program.now.source.words.now program.now.source.names.now × Remembers program.now.source.words.now program.now.source.names.now (length program.now.source.names.now) memo.now }
+    ensures { Tabled program.now.strings.bytes.now program.now.strings.ends.now program.now.erased.now program.now.source.words.now program.now.source.names.now result b.old d.old b.new d.new }
 {
     let s = steps::begin(b, d);
-    let t = collecting::statements(words, names, bytes, ends, erased, b, d, s, 0, 0, memo);
+    let t = collecting::statements(program, b, d, s, 0, 0, memo);
     steps::finish(b, d, t)
 }
 
 // Where the names' marks are known: 2 or 3, 4, and then the run, with a memo of the ends of procedures. (The `noted` of crate `analyse` has a check more before its run, a
 // buffer more, and answers something else.)
 fn noted(
-    words: &[u32],
-    names: &[u8],
-    bytes: &[u8],
-    ends: &[u32],
-    erased: &[u32],
+    program: &Program<'_>,
     b: &mut [u32],
     d: &mut [u32],
     memo: &mut [u32],
 ) -> Result<Sizes, Refusal>
-    requires { Named bytes.now ends.now names.now × (length names.now ≤ max_strings) × Remembers words.now names.now (length names.now) memo.old }
-    ensures { Tells result b.old d.old b.new d.new (work (length b.old) (length d.old) bytes.now ends.now erased.now words.now) }
+    requires { Remembers program.now.source.words.now program.now.source.names.now (length program.now.source.names.now) memo.old }
+    ensures { Tells result b.old d.old b.new d.new (work (length b.old) (length d.old) program.now.strings.bytes.now program.now.strings.ends.now program.now.erased.now program.now.source.words.now) }
 {
-    reader::check_program_with(words, erased, names, memo)?;
-    let s = tables(words, names, bytes, ends, erased, b, d, memo);
+    reader::check_program_with(&program.source, program.erased, memo)?;
+    let s = tables(program, b, d, memo);
     if s.stop != 0 {
         return Err(steps::refusal(s.stop));
     }
@@ -65,23 +55,15 @@ fn noted(
 }
 
 // The same, with a memo of its own.
-fn checked(
-    words: &[u32],
-    names: &[u8],
-    bytes: &[u8],
-    ends: &[u32],
-    erased: &[u32],
-    b: &mut [u32],
-    d: &mut [u32],
-) -> Result<Sizes, Refusal>
-    requires { Named bytes.now ends.now names.now × (length names.now ≤ max_strings) }
-    ensures { Tells result b.old d.old b.new d.new (work (length b.old) (length d.old) bytes.now ends.now erased.now words.now) }
+fn checked(program: &Program<'_>, b: &mut [u32], d: &mut [u32]) -> Result<Sizes, Refusal>
+    ensures { Tells result b.old d.old b.new d.new (work (length b.old) (length d.old) program.now.strings.bytes.now program.now.strings.ends.now program.now.erased.now program.now.source.words.now) }
 {
     let mut memo = [0u32; 128];
-    noted(words, names, bytes, ends, erased, b, d, &mut memo)
+    noted(program, b, d, &mut memo)
 }
 
-// Collects a program's rows and diagnostics. 5, 1, 2, 3 and 4 leave the buffers as they came; 7, 8 and 9 leave them zero.
+// Collects a program's rows and diagnostics. 5, 1, 2, 3 and 4 leave the buffers as they came; 7, 8 and 9 leave them zero. (The entry takes a string table
+// as document 01 gives it, as bytes and ends.)
 pub fn collect(
     bytes: &[u8],
     ends: &[u32],
@@ -92,15 +74,18 @@ pub fn collect(
 ) -> Result<Sizes, Refusal>
     ensures { Entered bytes.now ends.now erased.now words.now result rows.old notes.old rows.new notes.new }
 {
-    let sized = reader::sized_program(bytes, ends, words, erased);
-    let names = reader::marks(sized, bytes, ends)?;
-    checked(
+    let strings = &Strings { bytes, ends };
+    let names = reader::marks(reader::sized_program(strings, words, erased), strings)?;
+    // Behind a reference, as `strings` below: the check takes a struct with a ghost field that was made here into another only where the signature has one lifetime for both.
+    let source = &Source {
         words,
-        &names[..ends.len()],
-        bytes,
-        ends,
+        names: &names[..ends.len()],
+    };
+    let strings = &Sound { bytes, ends };
+    let program = Program {
+        source: *source,
+        strings: *strings,
         erased,
-        rows,
-        notes,
-    )
+    };
+    checked(&program, rows, notes)
 }

@@ -2,7 +2,7 @@
 #![tactic(auto)]
 
 ghost use Rattle.std.specs.Prelude.{◌≡◌, true, ◌*◌, ◌≤◌, length};
-ghost use Rattle.strings.specs.Table.{sound, string_at, names_of};
+ghost use Rattle.strings.specs.Table.{string_at, names_of};
 ghost use Rattle.builtins.specs.Builtins.{is_builtin};
 ghost use Rattle.lent.specs.Rules.{is_marked};
 ghost use Rattle.table.specs.Rows.{width};
@@ -12,28 +12,22 @@ ghost use Rattle.collisions.specs.Collisions.{NamedAt, Collides, Ready, Checks};
 ghost use Rattle.collisions.specs.Entry.{LentReady, Tells, over_of, checked_of, Entry};
 
 use steps::Counts;
+use strings::{Sound, Strings};
 use table::Rows;
 use words::Refusal;
 
 // Whether a name is a builtin function's.
-fn is_builtin(bytes: &[u8], ends: &[u32], name: u32) -> bool
-    requires { (sound bytes.now ends.now ≡ true) × (is_marked (names_of bytes.now ends.now) name ≡ true) }
-    ensures { result ≡ is_builtin (string_at bytes.now ends.now name) }
+fn is_builtin(strings: &Sound<'_>, name: u32) -> bool
+    requires { is_marked (names_of strings.now.bytes.now strings.now.ends.now) name ≡ true }
+    ensures { result ≡ is_builtin (string_at strings.now.bytes.now strings.now.ends.now name) }
 {
-    leaves::spelled(bytes, ends, name).is_some()
+    leaves::spelled(strings, name).is_some()
 }
 
 // The array in row i, a procedure before a builtin.
-fn collision(
-    bytes: &[u8],
-    ends: &[u32],
-    rows: &Rows<'_>,
-    d: &mut [u32],
-    s: Counts,
-    i: usize,
-) -> Counts
-    requires { NamedAt bytes.now ends.now rows.now.words.now rows.now.count i × (s.notes * width ≤ length d.old) }
-    ensures { Collides bytes.now ends.now rows.now.words.now rows.now.count i s result d.old d.new }
+fn collision(strings: &Sound<'_>, rows: &Rows<'_>, d: &mut [u32], s: Counts, i: usize) -> Counts
+    requires { NamedAt strings.now.bytes.now strings.now.ends.now rows.now.words.now rows.now.count i × (s.notes * width ≤ length d.old) }
+    ensures { Collides strings.now.bytes.now strings.now.ends.now rows.now.words.now rows.now.count i s result d.old d.new }
 {
     let at = i * table::WIDTH;
     let b = rows.words;
@@ -45,16 +39,16 @@ fn collision(
             steps::push(d, s, 27, line, name + 1, 0, b[p + 2], b[p + 3])
         }
         None => {
-            let builtin = is_builtin(bytes, ends, name);
+            let builtin = is_builtin(strings, name);
             steps::push_if(d, s, builtin, 28, line, name + 1, 0, 0, 0)
         }
     }
 }
 
 // All arrays: their rows stand together, and no other is looked at.
-pub fn collisions(bytes: &[u8], ends: &[u32], b: &[u32], d: &mut [u32], s: Counts) -> Counts
-    requires { Ready bytes.now ends.now b.now s × Fit s (length b.now) (length d.old) }
-    ensures { Checks bytes.now ends.now s result b.now d.old d.new }
+pub fn collisions(strings: &Sound<'_>, b: &[u32], d: &mut [u32], s: Counts) -> Counts
+    requires { Ready strings.now.bytes.now strings.now.ends.now b.now s × Fit s (length b.now) (length d.old) }
+    ensures { Checks strings.now.bytes.now strings.now.ends.now s result b.now d.old d.new }
 {
     if s.stop != 0 {
         return s;
@@ -67,15 +61,15 @@ pub fn collisions(bytes: &[u8], ends: &[u32], b: &[u32], d: &mut [u32], s: Count
     let end = rows.lower_bound(entries::entry_key(134, 0, 0));
     let mut t = s;
     for i in from..end {
-        t = collision(bytes, ends, &rows, d, t, i);
+        t = collision(strings, &rows, d, t, i);
     }
     t
 }
 
 // Over the n rows of a lent table, into diagnostics of its own: number 8, which leaves zeros.
-fn over(bytes: &[u8], ends: &[u32], rows: &[u32], n: usize, d: &mut [u32]) -> Result<usize, Refusal>
-    requires { LentReady bytes.now ends.now rows.now n }
-    ensures { Tells d.old result d.new (over_of bytes.now ends.now rows.now (length d.old) n) }
+fn over(strings: &Sound<'_>, rows: &[u32], n: usize, d: &mut [u32]) -> Result<usize, Refusal>
+    requires { LentReady strings.now.bytes.now strings.now.ends.now rows.now n }
+    ensures { Tells d.old result d.new (over_of strings.now.bytes.now strings.now.ends.now rows.now (length d.old) n) }
 {
     table::empty(d);
     let s = Counts {
@@ -83,7 +77,7 @@ fn over(bytes: &[u8], ends: &[u32], rows: &[u32], n: usize, d: &mut [u32]) -> Re
         rows: n,
         notes: 0,
     };
-    let t = collisions(bytes, ends, rows, d, s);
+    let t = collisions(strings, rows, d, s);
     if t.stop != 0 {
         table::empty(d);
         return Err(Refusal::DiagnosticsFull);
@@ -92,21 +86,15 @@ fn over(bytes: &[u8], ends: &[u32], rows: &[u32], n: usize, d: &mut [u32]) -> Re
 }
 
 // Number 6 before it.
-fn under(
-    bytes: &[u8],
-    ends: &[u32],
-    names: &[u8],
-    rows: &[u32],
-    d: &mut [u32],
-) -> Result<usize, Refusal>
-    requires { Named bytes.now ends.now names.now }
-    ensures { Tells d.old result d.new (checked_of bytes.now ends.now rows.now (length d.old)) }
+fn under(strings: &Sound<'_>, names: &[u8], rows: &[u32], d: &mut [u32]) -> Result<usize, Refusal>
+    requires { Named strings.now.bytes.now strings.now.ends.now names.now }
+    ensures { Tells d.old result d.new (checked_of strings.now.bytes.now strings.now.ends.now rows.now (length d.old)) }
 {
     let n = lent::check_rows(rows, names).ok_or(Refusal::Rows)?;
-    over(bytes, ends, rows, n, d)
+    over(strings, rows, n, d)
 }
 
-// The check over a lent string table and lent rows, which are only read: 5, 1, 6, 8 in this order.
+// The check over a lent string table and lent rows, which are only read: 5, 1, 6, 8 in this order. `bytes, ends` is document 01's form of such a table.
 pub fn check_name_collisions(
     bytes: &[u8],
     ends: &[u32],
@@ -115,7 +103,8 @@ pub fn check_name_collisions(
 ) -> Result<usize, Refusal>
     ensures { Entry bytes.now ends.now rows.now d.old result d.new }
 {
-    leaves::passes(bytes, ends)?;
-    let names = strings::names_of(bytes, ends);
-    under(bytes, ends, &names[..ends.len()], rows, d)
+    leaves::passes(&Strings { bytes, ends })?;
+    let strings = Sound { bytes, ends };
+    let names = strings::names_of(&strings);
+    under(&strings, &names[..ends.len()], rows, d)
 }

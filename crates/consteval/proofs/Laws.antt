@@ -21,7 +21,7 @@ use Rattle.fold.specs.Value.{literal_kind, low_of, high_of, Fold}
 use Rattle.fold.specs.declared.Value.{Value}
 use Rattle.std.proofs.lemmas.Bool.{false≢true}
 use Rattle.consteval.specs.ConstEval.{constant, const_eval}
-use Rattle.consteval.specs.Evaluates.{read_as, fold_of, RowSome, HoldsConsts, LiteralAt, Ready, Evaluates, EvaluatesAlone, Past, is_value}
+use Rattle.consteval.specs.Evaluates.{read_as, fold_of, RowSome, LiteralAt, Ready, Evaluates, EvaluatesAlone, Past, is_value}
 use Rattle.consteval.specs.EvalLaws.{Words32, const_row_lem}
 use Rattle.consteval.specs.declared.Folded.{Folded}
 use Rattle.std.specs.Prelude.{Result, Ok, Err, IsErr}
@@ -78,10 +78,6 @@ module _ {ws : List ℕ} {at : ℕ} {buf : List ℕ} {count : ℕ} where
   -- an expression stands there
   pub some_expr : Ready ws at buf count → SomeExpr ws at
   some_expr R = record { strings = R.strings; expr = R.expr; end = R.end; stands = R.stands }
-
-  -- the buffer holds the CONST rows
-  pub holds_consts : Ready ws at buf count → HoldsConsts buf count
-  holds_consts R = record { strings = R.strings.count; rows = R.rows; holds = R.holds; consts = R.consts }
 
   -- where the head is a literal's, one stands there
   pub literal_at_lem : Ready ws at buf count → kind_of (get_or ws at 0) ≡ 16 → LiteralAt ws at

@@ -1,15 +1,12 @@
 -- The literal that stands at a place, by the kind of its head: its words, its value, the place past it. No line here knows the code. Assumes nothing.
-use Prim.Native.Nat.{ℕ, ◌+◌, ◌-◌, ◌*◌, ◌<◌, ◌≤◌}
+use Prim.Native.Nat.{ℕ, ◌+◌, ◌<◌, ◌≤◌}
 use mathlib.Core.Path.{◌≡◌, refl, sym, ap, ap₂, ◌∙◌, subst}
-use mathlib.Core.Bool.{Bool}
 use mathlib.Core.List.{List, ◌∷◌}
 use native.Mathlib.Omega.{arith}
-use borrow.Author.Tests.{lt-ltb, le-ltb}
-use lib.IntN.{pos, negsuc}
 use lib.ListN.{length, get_or}
 use mathlib.Core.Logic.{◌⊎◌, inl, inr}
 use Rattle.table.specs.Laws.{order}
-use Rattle.words.specs.Word.{kind_of, pay_of, pick}
+use Rattle.words.specs.Word.{kind_of, pay_of}
 use Rattle.expr.specs.Expr.{Literal, words_l, ValidL, kind_l}
 use Rattle.expr.specs.Expr as E
 use Rattle.expr.specs.Stands.{Wrote}
@@ -19,20 +16,6 @@ use Rattle.numbers.specs.Numbers.{whole_at}
 use Rattle.consteval.specs.ConstEval.{signed32, literal, const_eval}
 use Rattle.consteval.specs.Evaluates.{laid_as, LiteralAt, EvaluatesAlone}
 use Rattle.fold.specs.Value.{value_of}
-
--- ---- a word in two's complement is one of 64 bits with its sign
-
--- one below 2 ^ 31: its high word is 0
-pub signed_low : (w : ℕ) → w < 2147483648 → whole_at w 0 ≡ signed32 w
-signed_low w h =
-    let e : 0 * 4294967296 + w ≡ w = omega arith in
-    ap pos e ∙ sym (ap (λ (b : Bool). pick b (pos w) (negsuc (4294967295 - w))) (lt-ltb w 2147483648 h))
-
--- any other: its high word is all ones
-pub signed_high : (w : ℕ) → 2147483648 ≤ w → whole_at w 4294967295 ≡ signed32 w
-signed_high w h =
-    let e : 18446744073709551615 - (4294967295 * 4294967296 + w) ≡ 4294967295 - w = omega arith in
-    ap negsuc e ∙ sym (ap (λ (b : Bool). pick b (pos w) (negsuc (4294967295 - w))) (le-ltb w 2147483648 h))
 
 -- ---- the literal there
 

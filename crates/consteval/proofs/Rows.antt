@@ -1,12 +1,11 @@
 -- The value of a CONST, from the row that was found in the buffer. No line here knows the code. Assumes nothing.
-use Prim.Native.Nat.{ℕ, ◌+◌, ◌*◌, ◌<◌}
+use Prim.Native.Nat.{ℕ, ◌+◌, ◌*◌}
 use mathlib.Core.Path.{◌≡◌, refl, sym, ap, ◌∙◌, subst}
 use mathlib.Core.List.{List}
 use mathlib.Core.Option.{none, some}
 use native.Mathlib.Omega.{arith}
 use lib.ListN.{get_or}
 use Rattle.table.specs.Rows.{Row, width, find}
-use Rattle.table.specs.Answers.{Within}
 use Rattle.runs.specs.Runs.{row_of, row_in, Keeps}
 use Rattle.runs.specs.Places.{row_word_lem}
 use Rattle.entries.specs.Entries.{entry_key}
@@ -22,10 +21,6 @@ value_at buf i = value_of (get_or buf (i * width + 2) 0) (get_or buf (i * width 
 
 value_at_lem : (buf : List ℕ) (i : ℕ) → row_value (row_of buf i) ≡ value_at buf i
 value_at_lem buf i = rw (← row_word_lem buf i 2 (omega arith), ← row_word_lem buf i 3 (omega arith), ← row_word_lem buf i 4 (omega arith)) refl
-
--- a row that was found is one of them
-pub in_table : {count : ℕ} {f : Option ℕ} {i : ℕ} → f ≡ Some i → Within count f → i < count
-in_table {count} F W = subst (Within count) F W
 
 -- what the search answered, of the key k
 abbrev pub Searched : List ℕ → ℕ → ℕ → Option ℕ → Type 0

@@ -1,4 +1,5 @@
 // `const_eval`: the value of a constant expression of a tree, under the CONST rows.
+// (`SomeExpr` and `GoodFold` stay clauses: one says of words, at a place, that an expression stands there, the other of an answer that its value is in range, and a struct for each would be opened at each call.)
 #![tactic(auto)]
 
 ghost use Rattle.std.specs.Prelude.{◌≡◌, List, ◌*◌, ◌<◌, Err};
@@ -27,7 +28,7 @@ pub fn fold_of(a: Folded) -> Fold
     ensures { result ≡ fold_of a }
 {
     let words = a.value?;
-    Ok(fold::value_of(words.kind, words.low, words.high))
+    Ok(fold::value_of(words))
 }
 
 // An answer in words.
@@ -47,12 +48,12 @@ fn sign(w: u32) -> u32
 }
 
 // A value's words, and the place past it.
-fn value(next: usize, kind: u32, low: u32, high: u32) -> Folded
-    ensures { result ≡ laid_as next kind low high }
+fn value(next: usize, words: ConstWords) -> Folded
+    ensures { result ≡ laid_as next words.kind words.low words.high }
 {
     Folded {
         next,
-        value: Ok(ConstWords { kind, low, high }),
+        value: Ok(words),
     }
 }
 
@@ -61,12 +62,28 @@ fn literal(words: &[u32], at: usize) -> Folded
     requires { LiteralAt words.now at }
     ensures { EvaluatesAlone words.now at result }
 {
-    let k = words[at + 1] / 16777216;
-    let w = words[at + 2];
-    match k {
-        24 | 25 => value(at + 3, k, w, sign(w)),
-        26 | 27 => value(at + 4, k, w, words[at + 3]),
-        _ => value(at + 3, 28, w % 16777216, 0),
+    let kind = words[at + 1] / 16777216;
+    let low = words[at + 2];
+    match kind {
+        24 | 25 => {
+            let high = sign(low);
+            value(at + 3, ConstWords { kind, low, high })
+        }
+        26 | 27 => {
+            let high = words[at + 3];
+            value(at + 4, ConstWords { kind, low, high })
+        }
+        _ => {
+            let low = low % 16777216;
+            value(
+                at + 3,
+                ConstWords {
+                    kind: 28,
+                    low,
+                    high: 0,
+                },
+            )
+        }
     }
 }
 
@@ -86,9 +103,11 @@ fn constant(rows: &Rows<'_>, name: u32, next: usize) -> Folded
     let at = i * table::WIDTH;
     value(
         next,
-        rows.words[at + 2],
-        rows.words[at + 3],
-        rows.words[at + 4],
+        ConstWords {
+            kind: rows.words[at + 2],
+            low: rows.words[at + 3],
+            high: rows.words[at + 4],
+        },
     )
 }
 

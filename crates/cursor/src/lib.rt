@@ -7,6 +7,8 @@ ghost use Rattle.cursor.specs.Lent.{Reads, Past};
 use reader::{Node, Reader};
 use words::Refusal;
 
+// These entries take a string table as document 01 gives it, as bytes and ends, and pass both on to `reader`.
+
 // Reads one statement where the cursor stands.
 pub fn next_statement(
     cursor: &mut Reader,

@@ -7,7 +7,7 @@ use mathlib.Core.List.{List, [], ◌∷◌}
 use mathlib.Core.Option.{Option, none, some}
 use lib.Dec.{eqb}
 use lib.ListN.{length, get_or}
-use borrow.Author.Tests.{eq-eqb, ne_eqb, not-true, not-false}
+use borrow.Author.Tests.{eq-eqb, ne_eqb, not-false}
 use Rattle.words.specs.Word.{pick, pay_of}
 use Rattle.strings.specs.Table.{string_at}
 use Rattle.expr.specs.Expr.{Expr}
@@ -22,7 +22,7 @@ use Rattle.views.specs.View.{TypeRef, Integer, Long, Single, Double, FixedString
 use Rattle.steps.specs.State.{State, running, stopped, Step, ◌⨾◌, nothing, when, asking, each, enter, push}
 use Rattle.steps.specs.declared.Counts.{Counts}
 use Rattle.steps.specs.Held.{Fit, Sized, Does, Notes, Rows, entering, pushing, noting}
-use Rattle.steps.proofs.Compose.{Stays, notes_does, rows_does, nothing_does, same, then, when_yes, when_no, pick_yes, pick_no, asked, each_none, each_next, stays_when, stays_push, stays_enter}
+use Rattle.steps.proofs.Compose.{Stays, notes_does, rows_does, nothing_does, same, then, when_yes, pick_yes, pick_no, asked, each_none, each_next, stays_when, stays_push, stays_enter}
 use Rattle.steps.proofs.RowSteps.{rows_each_none, rows_each_next}
 use Rattle.collect.specs.Diagnostics.{suffix_differs, undefined_type, declared_twice, no_dimension, other_rank, dim_shared_inside}
 use Rattle.collect.specs.Seen.{Seen, see}
@@ -34,7 +34,7 @@ use Rattle.parts.specs.Parts.{NameAt, written, written_if}
 use Rattle.parts.specs.Names.{name_at_lem}
 use Rattle.parts.specs.Over.{items_over}
 use Rattle.parts.specs.Turns.{RowAt, Turn, turn_start, turn_row, turn_next, turn_end, list_all}
-use Rattle.dims.specs.declared.Decl.{Decl}
+use Rattle.dims.specs.declared.decl.Decl.{Decl}
 use Rattle.dims.specs.declared.Old.{Old}
 use Rattle.dims.specs.declared.Clash.{Clash}
 use Rattle.dims.specs.Declarators.{Is, DeclIs, Ready, Contradicts, old_of, old_lower, clash_of, clashes, rank_of, declares, DeclaresType, DeclaresArray, Declares, DeclaresAll, sharing, SharesAll, Shares}
@@ -325,10 +325,6 @@ share_end {s = s} {c = c} {b = b} {b' = b'} T z = record {
 }
 
 module _ {ws : List ℕ} {scope line : ℕ} {shared : Bool} {at : ℕ} {s : Counts} {b d : List ℕ} (fit : Fit s (length b) (length d)) where
-  -- without SHARED nothing is done
-  pub share_no : not shared ≡ true → Shares ws scope line shared at s s b d b d
-  share_no e = record { does = λ bytes ends erased ns n v end S. when_no (λ N D. dim_shared (given (some N) (some D) bytes ends erased) scope line (items declarator (over see v))) shared (not-true shared e) fit }
-
   module _ (e : not shared ≡ false) where
     -- in a procedure it is 14
     pub share_inside : (scope ≡ 0 → ⊥) → {r : Counts} {d' : List ℕ} → Notes (pushing (dim_shared_inside line)) s r d d' → Shares ws scope line shared at s r b d b d'

@@ -22,11 +22,11 @@ use Rattle.collect.specs.Seen.{Seen, see}
 use Rattle.builtins.specs.Builtins.{is_some}
 use Rattle.collect.specs.Collect.{any_some}
 use Rattle.lookup.specs.declared.Typed.{Typed}
-use Rattle.parts.specs.Parts.{AsTypeIs, written_if}
+use Rattle.parts.specs.Parts.{AsTypeIs, written_if, arg_word}
 use Rattle.parts.specs.Over.{rows_length, count_over, items_over, as_over}
 use Rattle.parts.specs.Turns.{SomeRows, Turn, turn_start, turn_next, turn_end, list_rows, list_all}
 use Rattle.std.specs.Prelude.{Option as RustOption, None, Some}
-use Rattle.dims.specs.declared.Decl.{Decl}
+use Rattle.dims.specs.declared.decl.Decl.{Decl}
 use Rattle.dims.specs.Declarators.{rank_of, DimsIs, LowerIs, LowersIs, Is, DeclIs}
 
 -- ---- one expression in a row
@@ -265,11 +265,11 @@ declarator_is x ds ls t = refl
 
 -- the code's declarator, from its parts
 pub decl_is : {ws : List ℕ} {at : ℕ} {rank : RustOption ℕ} {low : Bool} {ty : RustOption Typed} {d l next : ℕ} → DimsIs ws (at + 1) rank d → LowersIs ws d low l → AsTypeIs ws l ty next
-    → DeclIs ws at (record { name = pay_of (get_or ws at 0); rank = rank; lower = low; ty = ty; next = next })
-decl_is {ws} {at} {rank} {low} {ty} {d} {l} {next} D L T = record { is = by; small = (omega arith, T.small) }
+    → {k : (pay_of (get_or ws at 0) < 16777216) × (arg_word ty < 16777216)} → DeclIs ws at (record { name = pay_of (get_or ws at 0); rank = rank; lower = low; ty = ty; next = next; small = k })
+decl_is {ws} {at} {rank} {low} {ty} {d} {l} {next} D L T {k} = record { is = by; small = k }
   where
     by : (ns : List ℕ) (n : ℕ) (v : Tree Expr (row DeclaratorRow)) (end : ℕ) → Stands ws ns n at v end
-        → Is (record { name = pay_of (get_or ws at 0); rank = rank; lower = low; ty = ty; next = next }) (declarator (over see v)) × (next ≡ end) × (eqb (get_or ns (pay_of (get_or ws at 0)) 0) 1 ≡ true)
+        → Is (record { name = pay_of (get_or ws at 0); rank = rank; lower = low; ty = ty; next = next; small = k }) (declarator (over see v)) × (next ≡ end) × (eqb (get_or ns (pay_of (get_or ws at 0)) 0) 1 ≡ true)
     by ns n v end S =
         let p = in_decl v S in
         let a = D.is ns n p.dims p.mid p.first in

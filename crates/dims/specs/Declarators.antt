@@ -18,7 +18,7 @@ use Rattle.builtins.specs.Builtins.{is_some}
 use Rattle.collect.specs.Collect.{given, last_of, disagrees, is_record, any_some, member, declared_as, declared_array, declared, dim_shared}
 use Rattle.collect.specs.Code.{SomeStmt, Named}
 use Rattle.parts.specs.Parts.{written_if, arg_word}
-use Rattle.dims.specs.declared.Decl.{Decl}
+use Rattle.dims.specs.declared.decl.Decl.{Decl}
 use Rattle.dims.specs.declared.Old.{Old}
 use Rattle.dims.specs.declared.Clash.{Clash}
 

@@ -1,4 +1,8 @@
 // What collecting does for DIM and REDIM: the declarators of a statement, one after another, into rows and diagnostics.
+// `b, d, s` stay side by side, and that the counts fit stays a clause (`Fit`, `s.rows * width ≤ length b`): a ghost field beside a `&mut` field isn't had (the kit's NOT_COVERED).
+// `words, at` do so too, with `SomeTree` a clause: it names the tree that stands there, and a ghost field takes a proposition alone (`∥ .. ∥₁` would give
+// only propositions back, while the callees ask for the tree). So a list in the words is gone through by its places too: an iterator's `next` can ask nothing. `NameAt` is about the strings as well as
+// the declarator, so that neither struct can hold it. `strings` and `erased` stay two: the type asks for the one alone, the array for the other.
 #![tactic(auto)]
 
 ghost use Rattle.std.specs.Prelude.{◌≡◌, ◌&&◌, ◌||◌, not, List, ℕ, ◌*◌, ◌≤◌, ◌<◌, eqb, length};
@@ -13,25 +17,21 @@ ghost use Rattle.steps.specs.Held.{Fit, Notes};
 ghost use Rattle.collect.specs.Collect.{member};
 ghost use Rattle.parts.specs.Parts.{NameAt};
 ghost use Rattle.parts.specs.Turns.{SomeRows};
-ghost use Rattle.dims.specs.Declarators.{LowerIs, LowersIs, DimsIs, DeclIs, Small, old_of, old_lower, clash_of, clashes, Declares, DeclaresType, DeclaresArray, DeclaresAll, Shares, SharesAll, Past, Flagged, FlagIs, Ready, ReadyStmt, Contradicts};
+ghost use Rattle.dims.specs.Declarators.{LowerIs, LowersIs, DimsIs, DeclIs, old_of, old_lower, clash_of, clashes, Declares, DeclaresType, DeclaresArray, DeclaresAll, Shares, SharesAll, Past, Flagged, FlagIs, Ready, ReadyStmt, Contradicts};
 ghost use Rattle.collect.specs.Code.{Collects};
 
+mod decl;
+mod stmt;
+
+use decl::Decl;
 use entries::bit;
 use lookup::Typed;
 use steps::Counts;
+use stmt::Stmt;
+use strings::Sound;
 use table::Rows;
 
 // ---- a declarator, read
-
-// A declarator: its name, how many dimensions it has if it is an array, whether a lower bound is written, its type, and the place past it.
-#[derive(Clone, Copy)]
-pub struct Decl {
-    name: u32,
-    rank: Option<u32>,
-    lower: bool,
-    ty: Option<Typed>,
-    next: usize,
-}
 
 // Past n expressions.
 fn exprs(words: &[u32], from: usize, n: u32) -> usize
@@ -124,11 +124,11 @@ fn flag_after(words: &[u32], at: usize) -> bool
 // ---- its type
 
 // Whether a name's suffix says another type. A record is exempt.
-fn contradicts(bytes: &[u8], ends: &[u32], name: u32, head: u32) -> bool
-    requires { NameAt bytes.now ends.now name }
-    ensures { Contradicts bytes.now ends.now name head result }
+fn contradicts(strings: &Sound<'_>, name: u32, head: u32) -> bool
+    requires { NameAt strings.now.bytes.now strings.now.ends.now name }
+    ensures { Contradicts strings.now.bytes.now strings.now.ends.now name head result }
 {
-    head != 45 && parts::differs(bytes, ends, name, head)
+    head != 45 && parts::differs(strings, name, head)
 }
 
 // Whether the type is a record of no TYPE.
@@ -140,47 +140,43 @@ fn undefined(rows: &Rows<'_>, ty: Typed) -> bool
 }
 
 // Whether a typed variable is there already, which REDIM allows.
-fn again(rows: &Rows<'_>, redim: bool, scope: u32, name: u32) -> bool
-    requires { name < 16777216 }
-    ensures { (rs : List Row) → KeptIn rs rows.now → result ≡ (has_entry rs 134 name scope && not redim) }
+fn again(rows: &Rows<'_>, st: Stmt, v: Decl) -> bool
+    ensures { (rs : List Row) → KeptIn rs rows.now → result ≡ (has_entry rs 134 v.name st.scope && not st.redim) }
 {
-    !redim && lookup::has(rows, 134, name, scope)
+    !st.redim && lookup::has(rows, 134, v.name, st.scope)
 }
 
 // What is done for its type, where it has one.
 fn declared_type(
-    bytes: &[u8],
-    ends: &[u32],
+    strings: &Sound<'_>,
     b: &mut [u32],
     d: &mut [u32],
     s: Counts,
-    scope: u32,
-    line: u32,
-    redim: bool,
+    st: Stmt,
     v: Decl,
 ) -> Counts
-    requires { Fit s (length b.old) (length d.old) × Small v × NameAt bytes.now ends.now v.name }
-    ensures { DeclaresType bytes.now ends.now scope line redim v s result b.old d.old b.new d.new }
+    requires { Fit s (length b.old) (length d.old) × NameAt strings.now.bytes.now strings.now.ends.now v.name }
+    ensures { DeclaresType strings.now.bytes.now strings.now.ends.now st.scope st.line st.redim v s result b.old d.old b.new d.new }
 {
     let Some(ty) = v.ty else {
         return s;
     };
     let name = v.name;
-    let differs = contradicts(bytes, ends, name, ty.head);
-    let s1 = steps::push_if(d, s, differs, 15, line, name + 1, 0, 0, 0);
+    let differs = contradicts(strings, name, ty.head);
+    let s1 = steps::push_if(d, s, differs, 15, st.line, name + 1, 0, 0, 0);
     let rows = Rows {
         words: b,
         count: s1.rows,
     };
     let unknown = undefined(&rows, ty);
-    let s2 = steps::push_if(d, s1, unknown, 16, line, ty.arg + 1, 0, 0, 0);
+    let s2 = steps::push_if(d, s1, unknown, 16, st.line, ty.arg + 1, 0, 0, 0);
     let rows = Rows {
         words: b,
         count: s2.rows,
     };
-    let twice = again(&rows, redim, scope, name);
-    let s3 = steps::push_if(d, s2, twice, 17, line, name + 1, 0, 0, 0);
-    steps::enter(b, s3, 134, name, scope, ty.head, ty.arg, 0, 0)
+    let twice = again(&rows, st, v);
+    let s3 = steps::push_if(d, s2, twice, 17, st.line, name + 1, 0, 0, 0);
+    steps::enter(b, s3, 134, name, st.scope, ty.head, ty.arg, 0, 0)
 }
 
 // ---- its array
@@ -192,12 +188,11 @@ pub struct Old {
     lower: u32,
 }
 
-// The array of that name and scope, if one was there.
-fn old_array(rows: &Rows<'_>, scope: u32, name: u32) -> Option<Old>
-    requires { name < 16777216 }
-    ensures { (rs : List Row) → KeptIn rs rows.now → result ≡ old_of (find (entry_key 133 name scope) rs) }
+// The array of the declarator's name and the statement's scope, if one was there.
+fn old_array(rows: &Rows<'_>, st: Stmt, v: Decl) -> Option<Old>
+    ensures { (rs : List Row) → KeptIn rs rows.now → result ≡ old_of (find (entry_key 133 v.name st.scope) rs) }
 {
-    let i = lookup::find_entry(rows, 133, name, scope)?;
+    let i = lookup::find_entry(rows, 133, v.name, st.scope)?;
     let at = i * table::WIDTH;
     Some(Old {
         rank: rows.words[at + 2],
@@ -237,18 +232,11 @@ pub struct Clash {
     number: u32,
 }
 
-fn clashing(
-    erased: &[u32],
-    redim: bool,
-    preserve: bool,
-    name: u32,
-    rank: u32,
-    old: Option<Old>,
-) -> Option<Clash>
-    ensures { result ≡ clash_of erased.now redim preserve name rank old }
+fn clashing(erased: &[u32], st: Stmt, name: u32, rank: u32, old: Option<Old>) -> Option<Clash>
+    ensures { result ≡ clash_of erased.now st.redim st.preserve name rank old }
 {
     let old = old?;
-    if kept(erased, redim, name) {
+    if kept(erased, st.redim, name) {
         return Some(Clash {
             code: 19,
             number: 0,
@@ -258,18 +246,18 @@ fn clashing(
         return None;
     }
     Some(Clash {
-        code: if preserve { 20 } else { 21 },
+        code: if st.preserve { 20 } else { 21 },
         number: old.rank,
     })
 }
 
 // The diagnostic of a clash.
-fn say(d: &mut [u32], s: Counts, line: u32, name: u32, clash: Option<Clash>) -> Counts
-    requires { (s.notes * note_width ≤ length d.old) × (name < 16777216) }
-    ensures { Notes (clashes line name clash) s result d.old d.new }
+fn say(d: &mut [u32], s: Counts, st: Stmt, v: Decl, clash: Option<Clash>) -> Counts
+    requires { s.notes * note_width ≤ length d.old }
+    ensures { Notes (clashes st.line v.name clash) s result d.old d.new }
 {
     match clash {
-        Some(c) => steps::push(d, s, c.code, line, name + 1, 0, c.number, 0),
+        Some(c) => steps::push(d, s, c.code, st.line, v.name + 1, 0, c.number, 0),
         None => s,
     }
 }
@@ -280,80 +268,67 @@ fn declared_array(
     b: &mut [u32],
     d: &mut [u32],
     s: Counts,
-    scope: u32,
-    line: u32,
-    redim: bool,
-    preserve: bool,
+    st: Stmt,
     v: Decl,
 ) -> Counts
-    requires { Fit s (length b.old) (length d.old) × Small v }
-    ensures { DeclaresArray erased.now scope line redim preserve v s result b.old d.old b.new d.new }
+    requires { Fit s (length b.old) (length d.old) }
+    ensures { DeclaresArray erased.now st.scope st.line st.redim st.preserve v s result b.old d.old b.new d.new }
 {
     let Some(rank) = v.rank else {
         return s;
     };
     let name = v.name;
-    let s1 = steps::push_if(d, s, rank == 0, 18, line, name + 1, 0, 0, 0);
+    let s1 = steps::push_if(d, s, rank == 0, 18, st.line, name + 1, 0, 0, 0);
     let rows = Rows {
         words: b,
         count: s1.rows,
     };
-    let old = old_array(&rows, scope, name);
-    let clash = clashing(erased, redim, preserve, name, rank, old);
-    let s2 = say(d, s1, line, name, clash);
+    let old = old_array(&rows, st, v);
+    let clash = clashing(erased, st, name, rank, old);
+    let s2 = say(d, s1, st, v, clash);
     let low = bit(any_lower(v.lower, old));
-    steps::enter(b, s2, 133, name, scope, rank, line, low, 0)
+    steps::enter(b, s2, 133, name, st.scope, rank, st.line, low, 0)
 }
 
 // ---- all of them
 
 // One declarator.
 fn declared(
-    bytes: &[u8],
-    ends: &[u32],
+    strings: &Sound<'_>,
     erased: &[u32],
     b: &mut [u32],
     d: &mut [u32],
     s: Counts,
-    scope: u32,
-    line: u32,
-    redim: bool,
-    preserve: bool,
+    st: Stmt,
     v: Decl,
 ) -> Counts
-    requires { Fit s (length b.old) (length d.old) × Small v × NameAt bytes.now ends.now v.name }
-    ensures { Declares bytes.now ends.now erased.now scope line redim preserve v s result b.old d.old b.new d.new }
+    requires { Fit s (length b.old) (length d.old) × NameAt strings.now.bytes.now strings.now.ends.now v.name }
+    ensures { Declares strings.now.bytes.now strings.now.ends.now erased.now st.scope st.line st.redim st.preserve v s result b.old d.old b.new d.new }
 {
-    let t = declared_type(bytes, ends, b, d, s, scope, line, redim, v);
-    declared_array(erased, b, d, t, scope, line, redim, preserve, v)
+    let t = declared_type(strings, b, d, s, st, v);
+    declared_array(erased, b, d, t, st, v)
 }
 
 // The list of declarators there.
 fn declare_all(
     words: &[u32],
-    bytes: &[u8],
-    ends: &[u32],
+    strings: &Sound<'_>,
     erased: &[u32],
     b: &mut [u32],
     d: &mut [u32],
     s: Counts,
-    scope: u32,
-    line: u32,
-    redim: bool,
-    preserve: bool,
+    st: Stmt,
     at: usize,
 ) -> Counts
-    requires { Fit s (length b.old) (length d.old) × Ready bytes.now ends.now words.now at }
-    ensures { DeclaresAll words.now bytes.now ends.now erased.now scope line redim preserve at s result b.old d.old b.new d.new }
+    requires { Fit s (length b.old) (length d.old) × Ready strings.now.bytes.now strings.now.ends.now words.now at }
+    ensures { DeclaresAll words.now strings.now.bytes.now strings.now.ends.now erased.now st.scope st.line st.redim st.preserve at s result b.old d.old b.new d.new }
 {
     let mut m = at + 1;
     let mut c = s;
     for _ in 0..words[at] % 16777216 {
         let v = declarator(words, m);
         m = v.next;
-        c = declared(
-            bytes, ends, erased, b, d, c, scope, line, redim, preserve, v,
-        );
+        c = declared(strings, erased, b, d, c, st, v);
     }
     c
 }
@@ -379,19 +354,18 @@ fn share(
     b: &mut [u32],
     d: &mut [u32],
     s: Counts,
-    scope: u32,
-    line: u32,
+    st: Stmt,
     shared: bool,
     at: usize,
 ) -> Counts
     requires { Fit s (length b.old) (length d.old) × SomeTree (one (many DeclaratorRow)) words.now at }
-    ensures { Shares words.now scope line shared at s result b.old d.old b.new d.new }
+    ensures { Shares words.now st.scope st.line shared at s result b.old d.old b.new d.new }
 {
     if !shared {
         return s;
     }
-    if scope != 0 {
-        return steps::push(d, s, 14, line, 0, 0, 0, 0);
+    if st.scope != 0 {
+        return steps::push(d, s, 14, st.line, 0, 0, 0, 0);
     }
     share_all(words, b, s, at)
 }
@@ -399,8 +373,7 @@ fn share(
 // DIM. SHARED comes after the declarators in the words, and before them in what is done.
 pub fn dim(
     words: &[u32],
-    bytes: &[u8],
-    ends: &[u32],
+    strings: &Sound<'_>,
     erased: &[u32],
     b: &mut [u32],
     d: &mut [u32],
@@ -408,33 +381,25 @@ pub fn dim(
     scope: u32,
     at: usize,
 ) -> Counts
-    requires { ReadyStmt dim_kind bytes.now ends.now words.now at × Fit s (length b.old) (length d.old) }
-    ensures { (ns : List ℕ) (n : ℕ) → Collects ns n dim_kind words.now bytes.now ends.now erased.now scope at s result b.old d.old b.new d.new }
+    requires { ReadyStmt dim_kind strings.now.bytes.now strings.now.ends.now words.now at × Fit s (length b.old) (length d.old) }
+    ensures { (ns : List ℕ) (n : ℕ) → Collects ns n dim_kind words.now strings.now.bytes.now strings.now.ends.now erased.now scope at s result b.old d.old b.new d.new }
 {
     let line = words[at] % 16777216;
     let shared = flag_after(words, at + 1);
-    let t = share(words, b, d, s, scope, line, shared, at + 1);
-    declare_all(
-        words,
-        bytes,
-        ends,
-        erased,
-        b,
-        d,
-        t,
+    let st = Stmt {
         scope,
         line,
-        false,
-        false,
-        at + 1,
-    )
+        redim: false,
+        preserve: false,
+    };
+    let t = share(words, b, d, s, st, shared, at + 1);
+    declare_all(words, strings, erased, b, d, t, st, at + 1)
 }
 
 // REDIM. PRESERVE comes after the declarators in the words. It differs from `dim` in what the flag does: SHARED is done before the declarators, PRESERVE goes with them.
 pub fn redim(
     words: &[u32],
-    bytes: &[u8],
-    ends: &[u32],
+    strings: &Sound<'_>,
     erased: &[u32],
     b: &mut [u32],
     d: &mut [u32],
@@ -442,23 +407,16 @@ pub fn redim(
     scope: u32,
     at: usize,
 ) -> Counts
-    requires { ReadyStmt redim_kind bytes.now ends.now words.now at × Fit s (length b.old) (length d.old) }
-    ensures { (ns : List ℕ) (n : ℕ) → Collects ns n redim_kind words.now bytes.now ends.now erased.now scope at s result b.old d.old b.new d.new }
+    requires { ReadyStmt redim_kind strings.now.bytes.now strings.now.ends.now words.now at × Fit s (length b.old) (length d.old) }
+    ensures { (ns : List ℕ) (n : ℕ) → Collects ns n redim_kind words.now strings.now.bytes.now strings.now.ends.now erased.now scope at s result b.old d.old b.new d.new }
 {
     let line = words[at] % 16777216;
     let preserve = flag_after(words, at + 1);
-    declare_all(
-        words,
-        bytes,
-        ends,
-        erased,
-        b,
-        d,
-        s,
+    let st = Stmt {
         scope,
         line,
-        true,
+        redim: true,
         preserve,
-        at + 1,
-    )
+    };
+    declare_all(words, strings, erased, b, d, s, st, at + 1)
 }

@@ -1,5 +1,6 @@
 // The sixteen kinds of rows: one function enters a row of any of them. What is left is said for every table that the buffer keeps. A kind is a number, since document 01
-// numbers the kinds and a caller may give any below 144.
+// numbers the kinds and a caller may give any below 144. Kind, name and word 1 stay three numbers, and their bounds clauses: a struct of the three would be written out
+// at each call, with the same values, and is no plainer. `b` and `count` stay two, as in crate `table`.
 #![tactic(auto)]
 
 ghost use Rattle.std.specs.Prelude.{◌≡◌, List, [], ◌∷◌, ◌+◌, ◌*◌, ◌≤◌, ◌<◌, length};

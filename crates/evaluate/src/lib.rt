@@ -1,14 +1,15 @@
 // `const_eval` as an entry over a lent string table, tree words and rows: 5, 1, 2 or 3, 6 in this order, or its answer and the place past the expression.
 #![tactic(auto)]
 
-ghost use Rattle.std.specs.Prelude.{◌≤◌, length};
-ghost use Rattle.words.specs.Sizes.{max_strings};
 ghost use Rattle.words.specs.Refusals.{refused as refused_by};
+ghost use Rattle.consteval.specs.EvalLaws.{Words32};
 ghost use Rattle.evaluate.specs.Evaluate.{WasRead, Tells, Evaluates, eval_of};
 
 use expr::Cursor;
 use fold::Fold;
+use strings::Strings;
 use table::Rows;
+use tree::Source;
 use words::Refusal;
 
 // An answer, and the reading place afterwards.
@@ -26,18 +27,18 @@ fn refused(at: usize, r: Refusal) -> Evaluation
 }
 
 // An expression that was read, under lent rows: number 6.
-fn under(at: usize, words: &[u32], names: &[u8], rows: &[u32]) -> Evaluation
-    requires { WasRead names.now words.now at }
-    ensures { Tells at result (eval_of names.now words.now at rows.now) }
+fn under(at: usize, source: &Source<'_>, rows: &[u32]) -> Evaluation
+    requires { WasRead source.now.names.now source.now.words.now at × Words32 source.now.words.now }
+    ensures { Tells at result (eval_of source.now.names.now source.now.words.now at rows.now) }
 {
-    let Some(n) = lent::check_rows(rows, names) else {
+    let Some(n) = lent::check_rows(rows, source.names) else {
         return refused(at, Refusal::Rows);
     };
     let held = Rows {
         words: rows,
         count: n,
     };
-    let f = consteval::const_eval(words, at, &held);
+    let f = consteval::const_eval(source.words, at, &held);
     Evaluation {
         answer: Ok(consteval::fold_of(f)),
         at: f.next,
@@ -45,23 +46,27 @@ fn under(at: usize, words: &[u32], names: &[u8], rows: &[u32]) -> Evaluation
 }
 
 // Where the names' marks are known: numbers 2 and 3.
-fn eval_at(at: usize, words: &[u32], names: &[u8], rows: &[u32]) -> Evaluation
-    requires { length names.now ≤ max_strings }
-    ensures { Tells at result (eval_of names.now words.now at rows.now) }
+fn eval_at(at: usize, source: &Source<'_>, rows: &[u32]) -> Evaluation
+    requires { Words32 source.now.words.now }
+    ensures { Tells at result (eval_of source.now.names.now source.now.words.now at rows.now) }
 {
     let c = Cursor { at };
-    match c.expr(words, names, names.len() as u32, words::MAX_DEPTH) {
-        Ok(_) => under(at, words, names, rows),
+    match c.expr(source.words, &source.marks(), words::MAX_DEPTH) {
+        Ok(_) => under(at, source, rows),
         Err(misread) => refused(at, Refusal::from(misread)),
     }
 }
 
-// The expression at a place, under lent rows.
+// The expression at a place, under lent rows. (The entry takes a string table as document 01 gives it, as bytes and ends.)
 pub fn const_eval(at: usize, bytes: &[u8], ends: &[u32], words: &[u32], rows: &[u32]) -> Evaluation
     ensures { Evaluates bytes.now ends.now words.now at rows.now result }
 {
-    match reader::marks(reader::sized_tree(bytes, ends, words), bytes, ends) {
-        Ok(names) => eval_at(at, words, &names[..ends.len()], rows),
+    let strings = &Strings { bytes, ends };
+    match reader::marks(reader::sized_tree(strings, words), strings) {
+        Ok(names) => {
+            let names = &names[..ends.len()];
+            eval_at(at, &Source { words, names }, rows)
+        }
         Err(r) => refused(at, r),
     }
 }

@@ -1,12 +1,16 @@
 // Reads a flat tree of words: a cursor by value, and a `Result` for the answer.
+// `words`, `names` and `left` stay parameters of their own, and no form is plainer: what reads no name takes the words alone, and `left` falls from level to level.
 #![tactic(auto)]
 
 ghost use Rattle.std.specs.Prelude.{◌≡◌, ◌+◌, ◌<◌, ◌≤◌, ◌^◌, length, get_or, IfOk, IfErr, cond, Ok, Err};
 ghost use Rattle.expr.specs.Reader.{raw_at, test_at, leaf_at, name_at, head_at, float_at, literal_at, list_at, expr_at};
-ghost use Rattle.expr.specs.Expr.{finite, Literal, Single, Strings};
+ghost use Rattle.expr.specs.Expr.{finite, Single};
 ghost use Rattle.expr.specs.Answer.{step_of, then};
 ghost use Rattle.expr.specs.declared.Misread.TheVariants.{Wrong};
 
+mod names;
+
+pub use names::Names;
 use words::Refusal;
 
 #[derive(Clone, Copy)]
@@ -92,12 +96,12 @@ impl Cursor {
 
     // the number of a string that is a name
     #[tactic(auto, unfolding(crate::specs::Answer::step_of, crate::specs::Reader::name_at))]
-    pub fn name(self, words: &[u32], names: &[u8]) -> Step
-        ensures { result ≡ step_of (name_at words.now names.now self.at) }
+    pub fn name(self, words: &[u32], marks: &[u8]) -> Step
+        ensures { result ≡ step_of (name_at words.now marks.now self.at) }
     {
         let w = self.word(words)?;
         let p = (w % 16777216) as usize;
-        self.past(w / 16777216 == 2 && names.get(p) == Some(&1))
+        self.past(w / 16777216 == 2 && marks.get(p) == Some(&1))
     }
 
     // a head of a kind from a to b, its payload 0
@@ -133,21 +137,21 @@ impl Cursor {
 
     // A list of expressions, each with `left` levels left. (By recursion, as the definition goes: `tree` reads the same by the stack that statements need.)
     #[cycle(binary_expr_field_list)]
-    pub fn list(self, words: &[u32], names: &[u8], n: u32, left: usize) -> Step
-        ensures { result ≡ step_of (list_at words.now (record { count = n; names = names.now }) (expr_at words.now (record { count = n; names = names.now }) left) self.at) }
+    pub fn list(self, words: &[u32], names: &Names<'_>, left: usize) -> Step
+        ensures { result ≡ step_of (list_at words.now (record { count = names.now.count; names = names.now.marks.now }) (expr_at words.now (record { count = names.now.count; names = names.now.marks.now }) left) self.at) }
     {
         let mut c = self.leaf(words, 1, 16777216)?;
         let count = words[self.at] % 16777216;
         for _ in 0..count {
-            c = c.expr(words, names, n, left)?;
+            c = c.expr(words, names, left)?;
         }
         Ok(c)
     }
 
-    // an expression with `left` levels left; strings are numbered below n
+    // an expression with `left` levels left; strings are numbered below their count
     #[cycle(binary_expr_field_list)]
-    pub fn expr(self, words: &[u32], names: &[u8], n: u32, left: usize) -> Step
-        ensures { result ≡ step_of (expr_at words.now (record { count = n; names = names.now }) left self.at) }
+    pub fn expr(self, words: &[u32], names: &Names<'_>, left: usize) -> Step
+        ensures { result ≡ step_of (expr_at words.now (record { count = names.now.count; names = names.now.marks.now }) left self.at) }
     {
         let c = self.head(words, 16, 23)?;
         if left == 0 {
@@ -155,38 +159,38 @@ impl Cursor {
         }
         let k = words[self.at] / 16777216;
         match k {
-            16 => c.literal(words, n),
-            17 => c.name(words, names),
+            16 => c.literal(words, names.count),
+            17 => c.name(words, names.marks),
             18 | 21 => {
-                let d = c.name(words, names)?;
-                d.list(words, names, n, left - 1)
+                let d = c.name(words, names.marks)?;
+                d.list(words, names, left - 1)
             }
             19 => {
                 let d = c.leaf(words, 9, 2)?;
-                d.expr(words, names, n, left - 1)
+                d.expr(words, names, left - 1)
             }
-            20 => c.binary(words, names, n, left - 1),
-            22 => c.field(words, names, n, left - 1),
-            _ => c.expr(words, names, n, left - 1),
+            20 => c.binary(words, names, left - 1),
+            22 => c.field(words, names, left - 1),
+            _ => c.expr(words, names, left - 1),
         }
     }
 
     // an operator and its two sides, each with `left` levels left
     #[cycle(binary_expr_field_list)]
-    fn binary(self, words: &[u32], names: &[u8], n: u32, left: usize) -> Step
-        ensures { result ≡ then (step_of (leaf_at words.now 9 18 self.at)) (λ m. then (step_of (expr_at words.now (record { count = n; names = names.now }) left m)) (λ m'. step_of (expr_at words.now (record { count = n; names = names.now }) left m'))) }
+    fn binary(self, words: &[u32], names: &Names<'_>, left: usize) -> Step
+        ensures { result ≡ then (step_of (leaf_at words.now 9 18 self.at)) (λ m. then (step_of (expr_at words.now (record { count = names.now.count; names = names.now.marks.now }) left m)) (λ m'. step_of (expr_at words.now (record { count = names.now.count; names = names.now.marks.now }) left m'))) }
     {
         let c = self.leaf(words, 9, 18)?;
-        let d = c.expr(words, names, n, left)?;
-        d.expr(words, names, n, left)
+        let d = c.expr(words, names, left)?;
+        d.expr(words, names, left)
     }
 
     // an expression with `left` levels left, and the name of a field of it
     #[cycle(binary_expr_field_list)]
-    fn field(self, words: &[u32], names: &[u8], n: u32, left: usize) -> Step
-        ensures { result ≡ then (step_of (expr_at words.now (record { count = n; names = names.now }) left self.at)) (λ m. step_of (name_at words.now names.now m)) }
+    fn field(self, words: &[u32], names: &Names<'_>, left: usize) -> Step
+        ensures { result ≡ then (step_of (expr_at words.now (record { count = names.now.count; names = names.now.marks.now }) left self.at)) (λ m. step_of (name_at words.now names.now.marks.now m)) }
     {
-        let c = self.expr(words, names, n, left)?;
-        c.name(words, names)
+        let c = self.expr(words, names, left)?;
+        c.name(words, names.marks)
     }
 }

@@ -1,4 +1,4 @@
--- The definitions case by case, as the code's proofs cite them.
+-- A definition in a case that the code meets.
 pub mod Cases
 -- What folding keeps; other crates cite it too.
 pub mod FoldLaws

@@ -13,6 +13,8 @@ use Rattle.words.specs.Word.{pick}
 use Rattle.fold.specs.Value.{Good, Fold}
 use Rattle.fold.specs.declared.Value.{Value}
 use Rattle.fold.specs.declared.Value.TheVariants.{Integer, Long, Single, Float, Text}
+use Rattle.fold.specs.declared.NumericType.{NumericType}
+use Rattle.fold.specs.declared.NumericType.TheVariants as N
 use Rattle.fold.specs.declared.Part.{Part}
 use Rattle.fold.specs.declared.Part.TheVariants.{Quotient, Remainder}
 use Rattle.fold.specs.declared.Arith.{Arith}
@@ -84,6 +86,13 @@ rank_of (Long n) = 1
 rank_of (Single x) = 2
 rank_of (Float x) = 3
 rank_of (Text t) = 3
+
+-- for contracts inside: the same number of the code's enum
+abbrev pub number_of : NumericType → ℕ
+number_of N.Integer = 0
+number_of N.Long = 1
+number_of N.Single = 2
+number_of N.Double = 3
 
 -- `as_f64`; a string's is never asked: `on_numbers`
 abbrev pub as_f64 : Value → Ieee.Float

@@ -1,4 +1,6 @@
 // Constant folding: values, their words in a CONST row, and the rules of `const_eval` in the order of its match.
+// `Good`, `GoodFold` and `InRange` stay clauses: `Value` is an enum, a ghost field is a struct's, and a struct around it would be opened at each match.
+// An operator's two sides, `l` and `r`, stay two as well: each has a clause of its own, and a pair of them would be opened in each function.
 #![tactic(auto)]
 
 ghost use Rattle.std.specs.Prelude.{◌≡◌, false, ℕ, ◌≤◌, ◌<◌, ◌/◌, ◌%◌, T, nat_abs};
@@ -6,7 +8,7 @@ ghost use Rattle.std.specs.Float.Ieee.Scale.{finite};
 ghost use Rattle.numbers.specs.Numbers.{of_words};
 ghost use Rattle.numbers.specs.NumbersLaws.{Small};
 ghost use Rattle.fold.specs.Value.{Good, InRange, literal_kind, low_of, high_of, value_of};
-ghost use Rattle.fold.specs.Fold.{GoodFold, in_integer, in_long, negated_integer, negated_long, negated, negate_of, is_text, rank_of, as_f64, int_of, integer_fold, long_fold, single_fold, float_fold, div_of, rounded, part_of, is_zero, of_wholes, whole_div_of, int_op, float_op, arith_of, op_of, binary_of};
+ghost use Rattle.fold.specs.Fold.{GoodFold, in_integer, in_long, negated_integer, negated_long, negated, negate_of, is_text, rank_of, number_of, as_f64, int_of, integer_fold, long_fold, single_fold, float_fold, div_of, rounded, part_of, is_zero, of_wholes, whole_div_of, int_op, float_op, arith_of, op_of, binary_of};
 
 use numbers::{Halves, TwoWords};
 
@@ -80,16 +82,20 @@ pub fn const_words(v: Value) -> ConstWords
 
 // The value of a CONST row with these words.
 #[tactic(auto, unfolding(crate::specs::Value::value_of))]
-pub fn value_of(kind: u32, low: u32, high: u32) -> Value
-    requires { Good (value_of kind low high) }
-    ensures { result ≡ value_of kind low high }
+pub fn value_of(words: ConstWords) -> Value
+    requires { Good (value_of words.kind words.low words.high) }
+    ensures { result ≡ value_of words.kind words.low words.high }
 {
-    match kind {
-        24 => Value::Integer(numbers::of_whole_words(low, high)),
-        25 => Value::Long(numbers::of_whole_words(low, high)),
-        26 => Value::Single(numbers::of_words(low, high)),
-        27 => Value::Float(numbers::of_words(low, high)),
-        _ => Value::Text(low),
+    let bits = TwoWords {
+        low: words.low,
+        high: words.high,
+    };
+    match words.kind {
+        24 => Value::Integer(numbers::of_whole_words(bits)),
+        25 => Value::Long(numbers::of_whole_words(bits)),
+        26 => Value::Single(numbers::of_words(bits)),
+        27 => Value::Float(numbers::of_words(bits)),
+        _ => Value::Text(words.low),
     }
 }
 
@@ -155,15 +161,24 @@ fn is_text(v: Value) -> bool
     matches!(v, Value::Text(_))
 }
 
-// A number and no enum: of two ranks the definition takes the larger.
-fn rank(v: Value) -> u64
-    ensures { result ≡ rank_of v }
+// In the order of their ranks: an operator works in the larger of two.
+#[derive(Clone, Copy, PartialEq, Eq, PartialOrd, Ord)]
+enum NumericType {
+    Integer,
+    Long,
+    Single,
+    Double,
+}
+
+// A whole number outside 16 bits counts as Long.
+fn numeric_type(v: Value) -> NumericType
+    ensures { number_of result ≡ rank_of v }
 {
     match v {
-        Value::Integer(z) if in_integer(z) => 0,
-        Value::Integer(_) | Value::Long(_) => 1,
-        Value::Single(_) => 2,
-        Value::Float(_) | Value::Text(_) => 3,
+        Value::Integer(z) if in_integer(z) => NumericType::Integer,
+        Value::Integer(_) | Value::Long(_) => NumericType::Long,
+        Value::Single(_) => NumericType::Single,
+        Value::Float(_) | Value::Text(_) => NumericType::Double,
     }
 }
 
@@ -303,6 +318,8 @@ pub enum Arith {
     Mul,
 }
 
+// `int_op` and `float_op` stay two, as do `whole_result` and `float_result`: whole numbers must not leave 64 bits, so that their range is asked, and
+// floats ask for nothing.
 fn int_op(op: Arith, x: i64, y: i64) -> i64
     requires in_range { InRange x }
     requires in_range_2 { InRange y }
@@ -347,11 +364,11 @@ fn work_out(op: Arith, l: Value, r: Value) -> Fold
     requires good_2 { Good r }
     ensures { result ≡ arith_of op l r }
 {
-    match rank(l).max(rank(r)) {
-        0 => integer_fold(whole_result(op, l, r)),
-        1 => long_fold(whole_result(op, l, r)),
-        2 => single_fold(float_result(op, l, r)),
-        _ => float_fold(float_result(op, l, r)),
+    match numeric_type(l).max(numeric_type(r)) {
+        NumericType::Integer => integer_fold(whole_result(op, l, r)),
+        NumericType::Long => long_fold(whole_result(op, l, r)),
+        NumericType::Single => single_fold(float_result(op, l, r)),
+        NumericType::Double => float_fold(float_result(op, l, r)),
     }
 }
 

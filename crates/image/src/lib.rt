@@ -44,6 +44,7 @@ fn last_end(image: &[u8], strings: usize) -> usize
     }
 }
 
+// Whether zeros alone stand from there on. (Crate `lent` has the same for words: one function over both would ask for the element's type, its zero and its equality, for a line.)
 fn zero_from(image: &[u8], from: usize) -> bool
     requires { from ≤ length image.now }
     ensures { result ≡ zeros (drop from image.now) }

@@ -1,4 +1,5 @@
-// What collecting does for SHARED and STATIC: their items, one after another, into rows.
+// What collecting does for SHARED and STATIC: their items, one after another, into rows. `b, s` with what is
+// asked of them: as in crate `steps`; `words, at` with `SomeTree`: as in crate `dims`.
 #![tactic(auto)]
 
 ghost use Rattle.std.specs.Prelude.{◌≡◌, ◌*◌, ◌≤◌, ◌<◌, length};

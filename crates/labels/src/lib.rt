@@ -1,4 +1,5 @@
-// What collecting does for a line number, a label, OPTION BASE and CONST.
+// What collecting does for a line number, a label, OPTION BASE and CONST. `b, d, s` with what is asked of them: as in crate `steps`; `words, at` with
+// `SomeStmt`: as in crate `dims`.
 #![tactic(auto)]
 
 ghost use Rattle.std.specs.Prelude.{◌≡◌, false, List, ℕ, ◌*◌, ◌≤◌, ◌<◌, length};

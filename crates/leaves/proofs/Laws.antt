@@ -4,13 +4,13 @@ use mathlib.Core.Path.{◌≡◌, refl, sym, ap, ◌∙◌}
 use mathlib.Core.Bool.{Bool, true, false, and-eq-true_iff}
 use mathlib.Core.Logic.{◌⊎◌, inl, inr}
 use mathlib.Core.List.{List, [], ◌∷◌, ◌++◌}
-use Prim.Native.Nat.{ℕ, zero, suc, ◌+◌, ◌-◌, ◌≤◌, ◌<◌}
+use Prim.Native.Nat.{ℕ, zero, suc, ◌+◌, ◌-◌, ◌*◌, ◌≤◌, ◌<◌}
 use native.Mathlib.Omega.{arith}
 use native.Mathlib.Nat.{not-suc-le-zero}
 use lib.Dec.{leb, ltb, eqb}
 use lib.ListN.{length, take, drop, get_or, get_or-append, length-drop}
 use lib.Seq.{get_or_at, get_or-take, get_or-drop, length-take-le}
-use borrow.Author.Tests.{eqb-true, ltb-true, le-leb, lt-leb}
+use borrow.Author.Tests.{eqb-true, ltb-true}
 use Rattle.words.specs.Word.{pick}
 use Rattle.words.specs.Told.{Told, stops, gives, after, unless}
 use Rattle.words.specs.Refusals.{refused}
@@ -18,16 +18,18 @@ use Rattle.words.specs.declared.Refusal.TheVariants.{Rows as NoRows, Lookup}
 use Rattle.strings.specs.Name.{is_name as spells_name}
 use Rattle.strings.specs.Table.{start_of, string_at, sound, marks_below, names_of}
 use Rattle.strings.specs.Open.{entry_of, Answers}
-use Rattle.words.specs.Sizes.{max_strings, max_bytes}
-use Rattle.strings.proofs.Laws.{and_true, and_false, marks_length, marks_all, names_length, sound_at, ends_in, name_empty}
-use Rattle.table.specs.Rows.{Row, rows_of}
+use Rattle.strings.specs.declared.right.Sound.{Sound}
+use Rattle.strings.proofs.Laws.{marks_length, marks_all, names_length, sound_at, ends_in, name_empty}
+use Rattle.table.specs.Rows.{Row, width, rows_of}
+use Rattle.table.specs.Images.{holds_fits}
 use Rattle.table.specs.Laws.{order, pick_false}
 use Rattle.table.specs.declared.rows.Rows.{Rows}
 use Rattle.lent.specs.Rules.{is_marked, scope_ok, type_ok}
 use Rattle.lent.specs.RuleLaws.{name_below, scope_below}
-use Rattle.lent.specs.Lent.{checked, lent_rows}
-use Rattle.leaves.specs.Leaves.{sized, admits, ruled, asked, last_byte}
-use Rattle.leaves.specs.Entries.{tell, Small, Judged, Ready}
+use Rattle.lent.specs.Lent.{Lent, checked, lent_rows}
+use Rattle.lent.specs.LentLaws.{checked_sound}
+use Rattle.leaves.specs.Leaves.{admits, ruled, asked, last_byte}
+use Rattle.leaves.specs.Entries.{tell, tell_rows, Small, Passing, Judged, Ready}
 use Rattle.leaves.specs.declared.Question.{Question}
 use Rattle.leaves.specs.declared.Question.TheVariants.{InProc, InScope, OfType}
 use Rattle.std.specs.Prelude.{Option, None, Some, Result, Err, Ok}
@@ -72,43 +74,39 @@ pub entry_given : {B : Type 0} {s : Bool} {bytes ends : List ℕ} (rows : List �
 unfolding asked after
 entry_given rows q h T e = answers_after (λ rs. gives (h rs)) T (ap gives e)
 
--- ---- sizes
-
--- one that is passed is enough
-pub sized_no : (bytes ends : List ℕ) → (max_strings < length ends) ⊎ ((length ends ≤ max_strings) × (max_bytes < length bytes)) → sized bytes ends ≡ false
-unfolding sized
-sized_no bytes ends (inl h) = and_false _ _ (lt-leb _ _ h)
-sized_no bytes ends (inr h) = and_true _ _ (le-leb _ _ h.0) ∙ lt-leb _ _ h.1
-
--- none is
-pub sized_yes : (bytes ends : List ℕ) → length ends ≤ max_strings → length bytes ≤ max_bytes → sized bytes ends ≡ true
-unfolding sized
-sized_yes bytes ends h k = and_true _ _ (le-leb _ _ h) ∙ le-leb _ _ k
-
 -- ---- 6 and 11
 
-module _ (names rows : List ℕ) (q : Question) where
+module _ (names rows : List ℕ) (q : Question) {o : Option ℕ} (e : o ≡ checked names rows) where
   -- rows that are no lent table: 6
-  pub ruled_bad : checked names rows ≡ None → ruled names rows q ≡ refused NoRows
+  pub ruled_none : {f : Refusal} (x : Result Rows Refusal) → o ≡ None → Err f ≡ ok_or o NoRows → IsErrAnd x (λ y. y ≡ f) → tell_rows x ≡ ruled names rows q
   unfolding ruled lent_rows after refused
-  ruled_bad e = rw e
-
-  pub ruled_none : {f : Refusal} {o : Option ℕ} → o ≡ checked names rows → o ≡ None → ◌≡◌ {A = Result ℕ Refusal} (Err f) (ok_or o NoRows) → refused f ≡ ruled names rows q
-  ruled_none {f} e n v =
+  ruled_none {f} x n v i =
+      let p = err_from_is_err_and x i in
       let w : ◌≡◌ {A = Result ℕ Refusal} (Err f) (Err NoRows) = rw n at v in
       let g : f ≡ NoRows = cc in
-      ap refused g ∙ sym (ruled_bad (sym e ∙ n))
+      rw (p.1, p.2, g, ← e, n)
 
-  module _ (n : ℕ) (e : checked names rows ≡ Some n) where
+  module _ {n : ℕ} (some : o ≡ Some n) where
+    lent : Lent names (rows_of n rows) n rows
+    lent = checked_sound names n rows (sym e ∙ some)
+
+    -- the rows lie in their words
+    pub rows_fit : n * width ≤ length rows
+    rows_fit = holds_fits lent.holds.filled
+
     -- a question that isn't right: 11
-    pub ruled_no : admits names q ≡ false → ruled names rows q ≡ refused Lookup
+    pub ruled_no : false ≡ admits names q → refused Lookup ≡ ruled names rows q
     unfolding ruled lent_rows after refused unless
-    ruled_no a = rw (e, a)
+    ruled_no a = rw (← e, some, ← a)
 
     -- else the rows
-    pub ruled_yes : admits names q ≡ true → ruled names rows q ≡ gives (rows_of n rows)
+    pub ruled_yes : true ≡ admits names q → gives (rows_of n rows) ≡ ruled names rows q
     unfolding ruled lent_rows after unless
-    ruled_yes a = rw (e, a)
+    ruled_yes a = rw (← e, some, ← a)
+
+    -- and they are known to be a table
+    pub rows_judged : (held : Rows) → held.count ≡ n → held.words.now ≡ rows → true ≡ admits names q → Passing names q held
+    rows_judged held k l a = record { holds = rw (k, l) lent.holds; admitted = sym a }
 
 -- ---- numbers of names
 
@@ -156,13 +154,13 @@ mark_at_lem bytes ends (suc n) x h = go (λ k. mark_at_lem bytes ends n x k) (or
         let e : n ≡ x = omega arith in
         get_or_at (marks_below bytes ends n) (pick (spells_name (string_at bytes ends n)) 1 0) [] 0 x (marks_length bytes ends n ∙ e) ∙ ap (λ (i : ℕ). pick (spells_name (string_at bytes ends i)) 1 0) e
 
--- the string of a name's number is not empty, and stands within the bytes
-pub record Spelled (bytes ends : List ℕ) (x : ℕ) : Type 0 where
-  pub inside : x < length ends
-  pub more : start_of ends x < get_or ends x 0
-  pub fits : get_or ends x 0 ≤ length bytes
+module _ (strings : Sound) (x : ℕ) (e : is_marked (names_of strings.bytes.now strings.ends.now) x ≡ true) where
+  abbrev bytes : List ℕ
+  bytes = strings.bytes.now
 
-module _ (bytes ends : List ℕ) (x : ℕ) (s : sound bytes ends ≡ true) (e : is_marked (names_of bytes ends) x ≡ true) where
+  abbrev ends : List ℕ
+  ends = strings.ends.now
+
   -- a name's number is below the number of strings
   pub inside : x < length ends
   inside = omega (arith, name_below (names_of bytes ends) x e, names_length bytes ends)
@@ -181,15 +179,15 @@ module _ (bytes ends : List ℕ) (x : ℕ) (s : sound bytes ends ≡ true) (e : 
           absurd (omega (arith, one, m ∙ pick_false 1 0 q))
 
   ordered : (start_of ends x ≤ get_or ends x 0) × (get_or ends x 0 ≤ length bytes)
-  ordered = ends_in bytes ends x (sound_at bytes ends x s inside)
+  ordered = ends_in bytes ends x (sound_at bytes ends x strings.right inside)
 
   string_length : length (string_at bytes ends x) ≡ get_or ends x 0 - start_of ends x
   unfolding string_at
   string_length = length-take-le (get_or ends x 0 - start_of ends x) (drop (start_of ends x) bytes) (omega (arith, length-drop (start_of ends x) bytes, ordered.0, ordered.1))
 
-  -- so is the string of this name
-  pub spelled : Spelled bytes ends x
-  spelled = record { inside = inside; more = go (order (start_of ends x) (get_or ends x 0)); fits = ordered.1 }
+  -- the string of a name's number is not empty
+  pub more : start_of ends x < get_or ends x 0
+  more = go (order (start_of ends x) (get_or ends x 0))
     where
       go : (start_of ends x < get_or ends x 0) ⊎ (get_or ends x 0 ≤ start_of ends x) → start_of ends x < get_or ends x 0
       go (inl h) = h
@@ -198,14 +196,26 @@ module _ (bytes ends : List ℕ) (x : ℕ) (s : sound bytes ends ≡ true) (e : 
           let z : ◌≡◌ {A = ℕ} 0 1 = cc in
           absurd (omega arith)
 
+  -- and stands within the bytes
+  pub fits : get_or ends x 0 ≤ length bytes
+  fits = ordered.1
+
+  -- its end is at least 1
+  pub past_first : 1 ≤ get_or ends x 0
+  past_first = omega (arith, more)
+
+  -- the byte before its end is one of the bytes
+  pub last_inside : get_or ends x 0 - 1 < length bytes
+  last_inside = omega (arith, past_first, fits)
+
   -- its last byte
   pub last_is : get_or bytes (get_or ends x 0 - 1) 0 ≡ last_byte (string_at bytes ends x)
   unfolding last_byte string_at
   last_is =
       let a : ℕ = start_of ends x in
       let z : ℕ = get_or ends x 0 in
-      let m : z - 1 ≡ a + (z - a - 1) = omega (arith, spelled.more) in
-      ap (λ (i : ℕ). get_or bytes i 0) m ∙ sym (get_or-drop a bytes (z - a - 1) 0) ∙ sym (get_or-take (z - a) (drop a bytes) (z - a - 1) 0 (omega (arith, spelled.more)))
+      let m : z - 1 ≡ a + (z - a - 1) = omega (arith, more) in
+      ap (λ (i : ℕ). get_or bytes i 0) m ∙ sym (get_or-drop a bytes (z - a - 1) 0) ∙ sym (get_or-take (z - a) (drop a bytes) (z - a - 1) 0 (omega (arith, more)))
       ∙ ap (λ (l : ℕ). get_or (take (z - a) (drop a bytes)) (l - 1) 0) (sym string_length)
 
 -- what passed is known

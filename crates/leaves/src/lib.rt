@@ -1,11 +1,12 @@
 // The leaves of document 01 over a lent string table and lent rows. Each entry gives 5, 1, 6, 11 in this order, or what `lookup` gives. The seven differ in the question, in
 // what they answer and in the definition of it: one function of all would take these as closures, and its contract would be longer than theirs.
+// The entries keep `bytes, ends`, document 01's form of a lent string table; inside, it is a `Strings`, and once it is checked a `Sound`.
 #![tactic(auto)]
 
 ghost use Rattle.std.specs.Prelude.{◌≡◌, true};
 ghost use Rattle.words.specs.Told.{gives};
 ghost use Rattle.strings.specs.Open.{Answers};
-ghost use Rattle.strings.specs.Table.{sound, string_at, names_of};
+ghost use Rattle.strings.specs.Table.{string_at, names_of};
 ghost use Rattle.lent.specs.Rules.{is_marked};
 ghost use Rattle.builtins.specs.Builtins.{builtin as builtin_of};
 ghost use Rattle.builtins.specs.Answers.{arguments_of};
@@ -14,6 +15,7 @@ ghost use Rattle.leaves.specs.Entries.{tell_rows, tell_flag, tell_count, tell_ty
 
 use builtins::Arguments;
 use lookup::{Array, Typed};
+use strings::{Sound, Strings};
 use table::Rows;
 use words::Refusal;
 
@@ -42,6 +44,7 @@ fn admits(names: &[u8], q: Question) -> bool
 }
 
 // Numbers 6 and 11.
+#[tactic(auto, using(crate::proofs::Laws::ruled_none, crate::proofs::Laws::ruled_yes, crate::proofs::Laws::ruled_no))]
 fn ruled<'a>(rows: &'a [u32], names: &[u8], q: Question) -> Result<Rows<'a>, Refusal>
     ensures told { tell_rows result ≡ ruled_of names.now rows.now q }
     ensures judged { Judged names.now q result }
@@ -54,29 +57,44 @@ fn ruled<'a>(rows: &'a [u32], names: &[u8], q: Question) -> Result<Rows<'a>, Ref
     }
 }
 
-// Numbers 5 and 1. `reader::marks` begins in the same way, but that crate is not below this one: here is no tree to read.
-pub fn passes(bytes: &[u8], ends: &[u32]) -> Result<(), Refusal>
-    ensures told { Answers (sized_of bytes.now ends.now) bytes.now ends.now (tell_gate result) (gives tt) }
-    ensures passed { Passes bytes.now ends.now result }
+// Number 5.
+#[tactic(auto, unfolding(crate::specs::Leaves::sized))]
+fn sized(strings: &Strings<'_>) -> bool
+    ensures { result ≡ sized_of strings.now.bytes.now strings.now.ends.now }
 {
-    if words::MAX_STRINGS < ends.len() || words::MAX_BYTES < bytes.len() {
+    strings.ends.len() <= words::MAX_STRINGS && strings.bytes.len() <= words::MAX_BYTES
+}
+
+// Numbers 5 and 1. `reader::marks` begins in the same way, but that crate is not below this one: here is no tree to read.
+#[tactic(auto, using(strings::specs::OpenLaws::said_sound, strings::specs::OpenLaws::answers_size, strings::specs::OpenLaws::answers_inner), unfolding(words::specs::Refusals::refused))]
+pub fn passes(strings: &Strings<'_>) -> Result<(), Refusal>
+    ensures told { Answers (sized_of strings.now.bytes.now strings.now.ends.now) strings.now.bytes.now strings.now.ends.now (tell_gate result) (gives tt) }
+    ensures passed { Passes strings.now.bytes.now strings.now.ends.now result }
+{
+    if !sized(strings) {
         return Err(Refusal::Size);
     }
-    strings::check(bytes, ends)?;
+    strings::check(strings)?;
     Ok(())
 }
 
 // All checks: 5, 1, 6, 11.
-fn open<'a>(bytes: &[u8], ends: &[u32], rows: &'a [u32], q: Question) -> Result<Rows<'a>, Refusal>
-    ensures told { Answers (sized_of bytes.now ends.now) bytes.now ends.now (tell_rows result) (ruled_of (names_of bytes.now ends.now) rows.now q) }
-    ensures ready { Ready bytes.now ends.now q result }
+#[tactic(auto, using(crate::proofs::Laws::answers_stop, crate::proofs::Laws::ready_judged), unfolding(words::specs::Refusals::refused))]
+fn open<'a>(strings: &Strings<'_>, rows: &'a [u32], q: Question) -> Result<Rows<'a>, Refusal>
+    ensures told { Answers (sized_of strings.now.bytes.now strings.now.ends.now) strings.now.bytes.now strings.now.ends.now (tell_rows result) (ruled_of (names_of strings.now.bytes.now strings.now.ends.now) rows.now q) }
+    ensures ready { Ready strings.now.bytes.now strings.now.ends.now q result }
 {
-    passes(bytes, ends)?;
-    let names = strings::names_of(bytes, ends);
-    ruled(rows, &names[..ends.len()], q)
+    passes(strings)?;
+    let sound = Sound {
+        bytes: strings.bytes,
+        ends: strings.ends,
+    };
+    let names = strings::names_of(&sound);
+    ruled(rows, &names[..strings.ends.len()], q)
 }
 
 // Whether the procedure uses the module's name, an array or a variable.
+#[tactic(auto, using(crate::proofs::Laws::entry_stopped, crate::proofs::Laws::entry_given, runs::specs::Laws::holds_keeps), unfolding(crate::specs::Leaves::shares_at))]
 pub fn shares(
     bytes: &[u8],
     ends: &[u32],
@@ -87,11 +105,16 @@ pub fn shares(
 ) -> Result<bool, Refusal>
     ensures { Answers (sized_of bytes.now ends.now) bytes.now ends.now (tell_flag result) (shares_at bytes.now ends.now rows.now proc name array) }
 {
-    let held = open(bytes, ends, rows, Question::InProc { proc, name })?;
+    let held = open(
+        &Strings { bytes, ends },
+        rows,
+        Question::InProc { proc, name },
+    )?;
     Ok(lookup::shares(&held, proc, name, array))
 }
 
 // Whether the procedure's own name keeps its value between calls.
+#[tactic(auto, using(crate::proofs::Laws::entry_stopped, crate::proofs::Laws::entry_given, runs::specs::Laws::holds_keeps), unfolding(crate::specs::Leaves::is_static_at))]
 pub fn is_static(
     bytes: &[u8],
     ends: &[u32],
@@ -102,11 +125,16 @@ pub fn is_static(
 ) -> Result<bool, Refusal>
     ensures { Answers (sized_of bytes.now ends.now) bytes.now ends.now (tell_flag result) (is_static_at bytes.now ends.now rows.now proc name array) }
 {
-    let held = open(bytes, ends, rows, Question::InProc { proc, name })?;
+    let held = open(
+        &Strings { bytes, ends },
+        rows,
+        Question::InProc { proc, name },
+    )?;
     Ok(lookup::is_static(&held, proc, name, array))
 }
 
 // The size of a type in words.
+#[tactic(auto, using(crate::proofs::Laws::entry_stopped, crate::proofs::Laws::entry_given, runs::specs::Laws::holds_keeps), unfolding(crate::specs::Leaves::type_words_at))]
 pub fn type_words(
     bytes: &[u8],
     ends: &[u32],
@@ -116,11 +144,16 @@ pub fn type_words(
 ) -> Result<u32, Refusal>
     ensures { Answers (sized_of bytes.now ends.now) bytes.now ends.now (tell_count result) (type_words_at bytes.now ends.now rows.now head arg) }
 {
-    let held = open(bytes, ends, rows, Question::OfType { head, arg })?;
+    let held = open(
+        &Strings { bytes, ends },
+        rows,
+        Question::OfType { head, arg },
+    )?;
     Ok(lookup::type_words(&held, head, arg))
 }
 
 // A variable's declared type from a scope.
+#[tactic(auto, using(crate::proofs::Laws::entry_stopped, crate::proofs::Laws::entry_given, runs::specs::Laws::holds_keeps), unfolding(crate::specs::Leaves::typed_var_at))]
 pub fn typed_var(
     bytes: &[u8],
     ends: &[u32],
@@ -130,11 +163,16 @@ pub fn typed_var(
 ) -> Result<Option<Typed>, Refusal>
     ensures { Answers (sized_of bytes.now ends.now) bytes.now ends.now (tell_type result) (typed_var_at bytes.now ends.now rows.now scope name) }
 {
-    let held = open(bytes, ends, rows, Question::InScope { scope, name })?;
+    let held = open(
+        &Strings { bytes, ends },
+        rows,
+        Question::InScope { scope, name },
+    )?;
     Ok(lookup::typed_var(&held, scope, name))
 }
 
 // A variable's declared type in exactly a scope.
+#[tactic(auto, using(crate::proofs::Laws::entry_stopped, crate::proofs::Laws::entry_given, runs::specs::Laws::holds_keeps), unfolding(crate::specs::Leaves::typed_var_in_at))]
 pub fn typed_var_in(
     bytes: &[u8],
     ends: &[u32],
@@ -144,11 +182,16 @@ pub fn typed_var_in(
 ) -> Result<Option<Typed>, Refusal>
     ensures { Answers (sized_of bytes.now ends.now) bytes.now ends.now (tell_type result) (typed_var_in_at bytes.now ends.now rows.now scope name) }
 {
-    let held = open(bytes, ends, rows, Question::InScope { scope, name })?;
+    let held = open(
+        &Strings { bytes, ends },
+        rows,
+        Question::InScope { scope, name },
+    )?;
     Ok(lookup::typed_var_in(&held, scope, name))
 }
 
 // The array that a name is from a scope.
+#[tactic(auto, using(crate::proofs::Laws::entry_stopped, crate::proofs::Laws::entry_given, runs::specs::Laws::holds_keeps), unfolding(crate::specs::Leaves::lookup_array_at))]
 pub fn lookup_array(
     bytes: &[u8],
     ends: &[u32],
@@ -158,21 +201,28 @@ pub fn lookup_array(
 ) -> Result<Option<Array>, Refusal>
     ensures { Answers (sized_of bytes.now ends.now) bytes.now ends.now (tell_array result) (lookup_array_at bytes.now ends.now rows.now scope name) }
 {
-    let held = open(bytes, ends, rows, Question::InScope { scope, name })?;
+    let held = open(
+        &Strings { bytes, ends },
+        rows,
+        Question::InScope { scope, name },
+    )?;
     Ok(lookup::lookup_array(&held, scope, name))
 }
 
-// The last byte of a name.
-pub fn last_byte(bytes: &[u8], ends: &[u32], name: u32) -> u8
-    requires { (sound bytes.now ends.now ≡ true) × (is_marked (names_of bytes.now ends.now) name ≡ true) }
-    ensures { result ≡ last_byte (string_at bytes.now ends.now name) }
+// The last byte of a name. That the number is a name's is asked of the caller, here, in `spelled` and in crate `collisions`: it is a fact of the table and the number
+// together, and a type for it would carry the table a second time.
+#[tactic(auto, using(crate::proofs::Laws::inside, crate::proofs::Laws::past_first, crate::proofs::Laws::last_inside, crate::proofs::Laws::last_is))]
+pub fn last_byte(strings: &Sound<'_>, name: u32) -> u8
+    requires { is_marked (names_of strings.now.bytes.now strings.now.ends.now) name ≡ true }
+    ensures { result ≡ last_byte (string_at strings.now.bytes.now strings.now.ends.now name) }
 {
     let i = name as usize;
-    let e = ends[i] as usize;
-    bytes[e - 1]
+    let e = strings.ends[i] as usize;
+    strings.bytes[e - 1]
 }
 
 // The type that a variable or an array's elements hold.
+#[tactic(auto, using(crate::proofs::Laws::entry_stopped, crate::proofs::Laws::entry_given, runs::specs::Laws::holds_keeps, crate::proofs::Laws::scope_admitted), unfolding(crate::specs::Leaves::declared_type_at))]
 pub fn declared_type(
     bytes: &[u8],
     ends: &[u32],
@@ -182,31 +232,38 @@ pub fn declared_type(
 ) -> Result<Option<u32>, Refusal>
     ensures { Answers (sized_of bytes.now ends.now) bytes.now ends.now (tell_class result) (declared_type_at bytes.now ends.now rows.now scope name) }
 {
-    let held = open(bytes, ends, rows, Question::InScope { scope, name })?;
-    let last = last_byte(bytes, ends, name);
+    let held = open(
+        &Strings { bytes, ends },
+        rows,
+        Question::InScope { scope, name },
+    )?;
+    let last = last_byte(&Sound { bytes, ends }, name);
     Ok(lookup::declared_type(&held, last, scope, name))
 }
 
 // The builtin function of a name.
+#[tactic(auto, using(crate::proofs::Laws::answers_stop), unfolding(words::specs::Refusals::refused))]
 pub fn builtin(bytes: &[u8], ends: &[u32], name: u32) -> Result<Option<Arguments>, Refusal>
     ensures { Answers (sized_of bytes.now ends.now) bytes.now ends.now (tell_taking result) (builtin_at bytes.now ends.now name) }
 {
-    passes(bytes, ends)?;
-    let names = strings::names_of(bytes, ends);
+    passes(&Strings { bytes, ends })?;
+    let strings = Sound { bytes, ends };
+    let names = strings::names_of(&strings);
     if lent::is_name(&names[..ends.len()], name) {
-        Ok(spelled(bytes, ends, name))
+        Ok(spelled(&strings, name))
     } else {
         Err(Refusal::Lookup)
     }
 }
 
 // The same of a number that is a name's.
-pub fn spelled(bytes: &[u8], ends: &[u32], name: u32) -> Option<Arguments>
-    requires { (sound bytes.now ends.now ≡ true) × (is_marked (names_of bytes.now ends.now) name ≡ true) }
-    ensures { result ≡ arguments_of (builtin_of (string_at bytes.now ends.now name)) }
+#[tactic(auto, using(crate::proofs::Laws::inside, crate::proofs::Laws::more, crate::proofs::Laws::fits), unfolding(strings::specs::Table::string_at))]
+pub fn spelled(strings: &Sound<'_>, name: u32) -> Option<Arguments>
+    requires { is_marked (names_of strings.now.bytes.now strings.now.ends.now) name ≡ true }
+    ensures { result ≡ arguments_of (builtin_of (string_at strings.now.bytes.now strings.now.ends.now name)) }
 {
     let i = name as usize;
-    let a = strings::start(ends, i);
-    let e = ends[i] as usize;
-    builtins::builtin(&bytes[a..e])
+    let a = strings::start(strings.ends, i);
+    let e = strings.ends[i] as usize;
+    builtins::builtin(&strings.bytes[a..e])
 }

@@ -2,16 +2,18 @@
 use mathlib.Core.Path.{◌≡◌, sym, ap, ◌∙◌}
 use mathlib.Core.Bool.{Bool, true, false}
 use mathlib.Core.List.{List, []}
-use Prim.Native.Nat.{ℕ, suc, ◌+◌, ◌≤◌, ◌<◌}
+use Prim.Native.Nat.{ℕ, zero, suc, ◌+◌, ◌*◌, ◌≤◌, ◌<◌}
 use native.Mathlib.Omega.{arith}
 use native.Mathlib.Numerals.{add-one}
-use lib.ListN.{length, drop, get_or, drop_of_length-le}
-use lib.Seq.{drop-cons, drop-drop, get_or-drop}
+use lib.ListN.{length, take, drop, get_or, drop_of_length-le}
+use lib.Seq.{drop-cons, drop-drop, get_or-drop, get_or-take}
+use Rattle.std.proofs.Common.{le_of_suc-le-suc, not-suc-le-zero}
+use Rattle.std.specs.Simd.{first_chunks}
 use Rattle.std.specs.Prelude.{eqb, refl, ◌∷◌, ◌&&◌}
 use Rattle.std.specs.List.{list_all}
 use Rattle.words.specs.Word.{pay_of, pick}
 use Rattle.table.specs.Laws.{pick_true, pick_false}
-use Rattle.table.specs.Rows.{Row}
+use Rattle.table.specs.Rows.{Row, width}
 use Rattle.lent.specs.Rules.{rules, word_ok, words_ok, kind_ok}
 use Rattle.lent.specs.Lent.{all_zero}
 
@@ -69,3 +71,18 @@ all_zero_is (x ∷ xs) = go (eqb x 0) (all_zero_is xs)
     go : (t : Bool) → all_zero xs ≡ list_all (λ y. eqb y 0) xs → pick t (all_zero xs) false ≡ (t && list_all (λ y. eqb y 0) xs)
     go true e = e
     go false e = refl
+
+-- ---- rows cut out of a buffer
+
+-- row i of them
+pub row_at : (k i : ℕ) (b : List ℕ) → i < k → get_or (first_chunks width k b) i [] ≡ take width (drop (i * width) b)
+row_at zero i b h = absurd (not-suc-le-zero h)
+row_at (suc k) zero b h = refl
+row_at (suc k) (suc i) b h =
+    row_at k i (drop width b) (le_of_suc-le-suc h) ∙ ap (take width) (drop-drop (i * width) width b ∙ ap (λ (j : ℕ). drop j b) (omega arith))
+
+-- its first word
+pub row_first : (i : ℕ) (b : List ℕ) → get_or (take width (drop (i * width) b)) 0 0 ≡ get_or b (i * width) 0
+row_first i b =
+    let e : i * width + 0 ≡ i * width = omega arith in
+    get_or-take width (drop (i * width) b) 0 0 (omega arith) ∙ get_or-drop (i * width) b 0 0 ∙ ap (λ (j : ℕ). get_or b j 0) e

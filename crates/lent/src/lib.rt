@@ -8,6 +8,8 @@ ghost use Rattle.fold.specs.Value.{whole_rule, float_rule};
 ghost use Rattle.lent.specs.Rules.{rules, is_marked, scope_ok, type_ok, const_ok, word_ok, words_ok, row_ok};
 ghost use Rattle.lent.specs.Lent.{all_zero, ended_at, checked};
 
+use table::WIDTH;
+
 // What each word of a row may be, for each kind from 128 on, word 0 without its kind: 0 unused, 1 scope, 2 small, 3 half, 4 flag, 5 mark, 6 item, 7 name,
 // 8 type, 9 type or none, 10 constant, 11 a part of one before it. (Bytes: the definition has the same numbers.)
 static RULES: [[u8; 6]; 16] = [
@@ -142,19 +144,19 @@ fn rule(k: usize, j: usize) -> u8
     RULES[k][j]
 }
 
-// Word j, 0 past the end. (`reader` has the same: it isn't below this crate.)
+// Word j, 0 past the end. (`reader` has the same line: one function for both, in a crate below them, is no plainer than a line each.)
 fn at(row: &[u32], j: usize) -> u32
     ensures { result ≡ get_or row.now j 0 }
 {
     row.get(j).copied().unwrap_or(0)
 }
 
-// Whether the words from word 1 on are what their rules say. (A loop: `all` was tried, and wants one more law, from the range's numbers to the words.)
-fn words_ok(names: &[u8], k: usize, row: &[u32]) -> bool
-    requires { (k < 16) × (length row.now ≡ width) }
+// Whether the words from word 1 on are what their rules say. (A loop: `all` is no plainer, since it wants one law more, from the range's numbers to the words.)
+fn words_ok(names: &[u8], k: usize, row: &[u32; WIDTH]) -> bool
+    requires { k < 16 }
     ensures { result ≡ words_ok names.now (drop 1 (get_or rules k [])) (drop 1 row.now) }
 {
-    for j in 1..table::WIDTH {
+    for j in 1..WIDTH {
         if !word_ok(names, rule(k, j), row[j], at(row, j + 1), at(row, j + 2)) {
             return false;
         }
@@ -164,8 +166,7 @@ fn words_ok(names: &[u8], k: usize, row: &[u32]) -> bool
 
 // Whether the row is in order by itself.
 #[tactic(auto, using(crate::proofs::Words::first_word), unfolding(crate::specs::Rules::row_ok))]
-pub fn row_ok(names: &[u8], row: &[u32]) -> bool
-    requires { length row.now ≡ width }
+pub fn row_ok(names: &[u8], row: &[u32; WIDTH]) -> bool
     ensures { result ≡ row_ok names.now row.now }
 {
     let first = row[0];
@@ -177,7 +178,7 @@ pub fn row_ok(names: &[u8], row: &[u32]) -> bool
     word_ok(names, rule(k, 0), first % 16777216, row[1], row[2]) && words_ok(names, k, row)
 }
 
-// Whether all words from `from` on are zero.
+// Whether all words from `from` on are zero. (`image::zero_from` is the same line over bytes, private there: a function over both types is no plainer than a line each.)
 fn all_zero(b: &[u32], from: usize) -> bool
     requires { from ≤ length b.now }
     ensures { result ≡ all_zero (drop from b.now) }
@@ -191,28 +192,27 @@ fn ended(b: &[u32], n: usize) -> Option<usize>
     requires { n * width ≤ length b.now }
     ensures { result ≡ ended_at n (drop (n * width) b.now) }
 {
-    all_zero(b, n * table::WIDTH).then_some(n)
+    all_zero(b, n * WIDTH).then_some(n)
 }
 
-// Tests a lent table.
+// Tests a lent table. (The number of rows is answered, without their words as `Rows` would have them: the contract speaks of how many there are, and a caller has the words.)
 pub fn check_rows(b: &[u32], names: &[u8]) -> Option<usize>
     ensures { result ≡ checked names.now b.now }
 {
-    let cap = b.len() / table::WIDTH;
+    let (rows, _) = b.as_chunks();
     let mut last: u64 = 0;
-    for n in 0..cap {
-        let at = n * table::WIDTH;
-        if b[at] == 0 {
+    for (n, row) in rows.iter().enumerate() {
+        if row[0] == 0 {
             return ended(b, n);
         }
-        if !row_ok(names, &b[at..at + table::WIDTH]) {
+        if !row_ok(names, row) {
             return None;
         }
-        let k = table::key_at(b, n);
+        let k = table::key_of(row[0], row[1]);
         if k <= last {
             return None;
         }
         last = k;
     }
-    ended(b, cap)
+    ended(b, rows.len())
 }

@@ -5,36 +5,37 @@ ghost use Rattle.std.specs.Prelude.{◌≡◌, true, ◌*◌, ◌≤◌, length}
 ghost use Rattle.text.specs.Wrote.{Wrote, size, laid};
 ghost use Rattle.table.specs.Rows.{width, note_width};
 ghost use Rattle.steps.specs.Held.{Fresh};
-ghost use Rattle.image.specs.Laws.{Shaped};
 ghost use Rattle.analyse.specs.ReadOff.{Within};
 ghost use Rattle.listing.specs.Listing.{listing as listing_of};
 ghost use Rattle.listing.specs.Shown.{answer_text, program_text, limit, too_short, WroteUnless};
 
+mod opened;
+
 use analyse::{Given, analyse_in};
-use image::{Shape, open, read_words};
+use image::{open, read_words};
+use opened::Opened;
 use page::{Counts, put_page, put_refusal};
+use strings::Strings;
 use text::finish;
 use words::Refusal;
 
 // The text of an answer and of what stands in the buffers.
 fn put_answer(
     out: &mut [u8],
-    bytes: &[u8],
-    ends: &[u32],
+    strings: &Strings<'_>,
     notes: &[u32],
     rows: &[u32],
     words: &[u32],
     a: Result<Given, Refusal>,
 ) -> usize
     requires { Within a notes.now rows.now words.now }
-    ensures { Wrote (answer_text bytes.now ends.now a notes.now rows.now words.now) out.old out.new 0 result }
+    ensures { Wrote (answer_text strings.now.bytes.now strings.now.ends.now a notes.now rows.now words.now) out.old out.new 0 result }
 {
     match a {
         Err(r) => put_refusal(out, r.number()),
         Ok(n) => put_page(
             out,
-            bytes,
-            ends,
+            strings,
             notes,
             rows,
             &words[..n.words],
@@ -61,11 +62,11 @@ fn too_short(a: Result<Given, Refusal>) -> bool
     }
 }
 
-// The text of what the passes give, with the rows and diagnostics that are promised.
+// The text of what the passes give, with the rows and diagnostics that are promised. (The lent buffers stay parameters here and below: a ghost field beside a `&mut` isn't had,
+// so a struct of them would carry none of the facts that are asked.)
 fn put_all(
     out: &mut [u8],
-    bytes: &[u8],
-    ends: &[u32],
+    strings: &Strings<'_>,
     words: &[u32],
     erased: &[u32],
     notes: &mut [u32],
@@ -73,17 +74,17 @@ fn put_all(
     resolved: &mut [u32],
 ) -> usize
     requires { (length words.now ≤ length resolved.old) × (length rows.old ≡ 2048 * width) × (length notes.old ≡ 2048 * note_width) × Fresh true rows.old notes.old }
-    ensures { Wrote (program_text bytes.now ends.now erased.now words.now) out.old out.new 0 result }
+    ensures { Wrote (program_text strings.now.bytes.now strings.now.ends.now erased.now words.now) out.old out.new 0 result }
 {
-    let a = analyse_in(bytes, ends, words, erased, notes, rows, resolved, true);
-    put_answer(out, bytes, ends, notes, rows, resolved, a)
+    let a = analyse_in(strings, words, erased, notes, rows, resolved, true);
+    put_answer(out, strings, notes, rows, resolved, a)
 }
 
 // In all the room. It reads the image itself and so stays a function of its own: the stack of one that calls it is touched only as far as that one needs.
-fn put_full(out: &mut [u8], image: &[u8], s: Shape) -> usize
-    requires { Shaped image.now s.strings s.words s.erased s.bytes }
-    ensures { Wrote (listing_of image.now) out.old out.new 0 result }
+fn put_full(out: &mut [u8], opened: &Opened<'_>) -> usize
+    ensures { Wrote (listing_of opened.now.image.now) out.old out.new 0 result }
 {
+    let s = opened.shape;
     let mut ends = [0u32; 1024];
     let mut words = [0u32; 8192];
     let mut erased = [0u32; 1024];
@@ -94,13 +95,15 @@ fn put_full(out: &mut [u8], image: &[u8], s: Shape) -> usize
     let erased_from = tree_from + 4 * s.words;
     let from = erased_from + 4 * s.erased;
     let to = from + s.bytes;
-    read_words(image, 12, s.strings, &mut ends);
-    read_words(image, tree_from, s.words, &mut words);
-    read_words(image, erased_from, s.erased, &mut erased);
+    read_words(opened.image, 12, s.strings, &mut ends);
+    read_words(opened.image, tree_from, s.words, &mut words);
+    read_words(opened.image, erased_from, s.erased, &mut erased);
     put_all(
         out,
-        &image[from..to],
-        &ends[..s.strings],
+        &Strings {
+            bytes: &opened.image[from..to],
+            ends: &ends[..s.strings],
+        },
         &words[..s.words],
         &erased[..s.erased],
         &mut notes,
@@ -113,8 +116,7 @@ fn put_full(out: &mut [u8], image: &[u8], s: Shape) -> usize
 // nothing is written.
 fn put_first(
     out: &mut [u8],
-    bytes: &[u8],
-    ends: &[u32],
+    strings: &Strings<'_>,
     words: &[u32],
     erased: &[u32],
     notes: &mut [u32],
@@ -122,21 +124,20 @@ fn put_first(
     resolved: &mut [u32],
 ) -> Option<usize>
     requires { (length words.now ≤ length resolved.old) × (length rows.old ≤ 2048 * width) × (length notes.old ≤ 2048 * note_width) × Fresh true rows.old notes.old }
-    ensures { WroteUnless (program_text bytes.now ends.now erased.now words.now) out.old out.new result }
+    ensures { WroteUnless (program_text strings.now.bytes.now strings.now.ends.now erased.now words.now) out.old out.new result }
 {
-    let a = analyse_in(bytes, ends, words, erased, notes, rows, resolved, true);
+    let a = analyse_in(strings, words, erased, notes, rows, resolved, true);
     if too_short(a) {
         return None;
     }
-    Some(put_answer(out, bytes, ends, notes, rows, resolved, a))
+    Some(put_answer(out, strings, notes, rows, resolved, a))
 }
 
 // An image's words read into lent buffers; its string bytes stay where they are. (The places are worked out as in `put_full`: a function of both would answer four numbers,
 // and its contract would say them again.)
 fn put_read(
     out: &mut [u8],
-    image: &[u8],
-    s: Shape,
+    opened: &Opened<'_>,
     ends: &mut [u32],
     words: &mut [u32],
     erased: &mut [u32],
@@ -144,20 +145,23 @@ fn put_read(
     rows: &mut [u32],
     resolved: &mut [u32],
 ) -> Option<usize>
-    requires { Shaped image.now s.strings s.words s.erased s.bytes × (s.strings ≤ length ends.old) × (s.words ≤ length words.old) × (s.erased ≤ length erased.old) × (length rows.old ≤ 2048 * width) × (length notes.old ≤ 2048 * note_width) × (s.words ≤ length resolved.old) × Fresh true rows.old notes.old }
-    ensures { WroteUnless (listing_of image.now) out.old out.new result }
+    requires { (opened.now.shape.strings ≤ length ends.old) × (opened.now.shape.words ≤ length words.old) × (opened.now.shape.erased ≤ length erased.old) × (length rows.old ≤ 2048 * width) × (length notes.old ≤ 2048 * note_width) × (opened.now.shape.words ≤ length resolved.old) × Fresh true rows.old notes.old }
+    ensures { WroteUnless (listing_of opened.now.image.now) out.old out.new result }
 {
+    let s = opened.shape;
     let tree_from = 12 + 4 * s.strings;
     let erased_from = tree_from + 4 * s.words;
     let from = erased_from + 4 * s.erased;
     let to = from + s.bytes;
-    read_words(image, 12, s.strings, ends);
-    read_words(image, tree_from, s.words, words);
-    read_words(image, erased_from, s.erased, erased);
+    read_words(opened.image, 12, s.strings, ends);
+    read_words(opened.image, tree_from, s.words, words);
+    read_words(opened.image, erased_from, s.erased, erased);
     put_first(
         out,
-        &image[from..to],
-        &ends[..s.strings],
+        &Strings {
+            bytes: &opened.image[from..to],
+            ends: &ends[..s.strings],
+        },
         &words[..s.words],
         &erased[..s.erased],
         notes,
@@ -175,10 +179,11 @@ fn put_level<
     const ERASED: usize,
     const NOTES: usize,
     const ROWS: usize,
->(out: &mut [u8], image: &[u8], s: Shape) -> Option<usize>
-    requires { Shaped image.now s.strings s.words s.erased s.bytes × (STRINGS ≤ 1024) × (WORDS ≤ 8192) × (ERASED ≤ 1024) × (NOTES ≤ 2048 * note_width) × (ROWS ≤ 2048 * width) }
-    ensures { WroteUnless (listing_of image.now) out.old out.new result }
+>(out: &mut [u8], opened: &Opened<'_>) -> Option<usize>
+    requires { (STRINGS ≤ 1024) × (WORDS ≤ 8192) × (ERASED ≤ 1024) × (NOTES ≤ 2048 * note_width) × (ROWS ≤ 2048 * width) }
+    ensures { WroteUnless (listing_of opened.now.image.now) out.old out.new result }
 {
+    let s = opened.shape;
     if STRINGS < s.strings || WORDS < s.words || ERASED < s.erased {
         return None;
     }
@@ -190,8 +195,7 @@ fn put_level<
     let mut resolved = [0u32; WORDS];
     put_read(
         out,
-        image,
-        s,
+        opened,
         &mut ends,
         &mut words,
         &mut erased,
@@ -203,88 +207,84 @@ fn put_level<
 
 // Many words, strings or erased names, in 73,728 bytes of buffers; 1,024 rows and 1,024 diagnostics, one for two words.
 // (A `match` here and below: the closure of an `unwrap_or_else` would write `out`, and what stands there then the check does not find by itself.)
-fn put_names_middle(out: &mut [u8], image: &[u8], s: Shape) -> usize
-    requires { Shaped image.now s.strings s.words s.erased s.bytes }
-    ensures { Wrote (listing_of image.now) out.old out.new 0 result }
+fn put_names_middle(out: &mut [u8], opened: &Opened<'_>) -> usize
+    ensures { Wrote (listing_of opened.now.image.now) out.old out.new 0 result }
 {
-    match put_level::<1024, 2048, 1024, 6144, 6144>(out, image, s) {
+    match put_level::<1024, 2048, 1024, 6144, 6144>(out, opened) {
         Some(at) => at,
-        None => put_full(out, image, s),
+        None => put_full(out, opened),
     }
 }
 
 // In 33,280 bytes of buffers; 512 rows and 512 diagnostics, one for two words, so that few programs are run twice.
-fn put_middle(out: &mut [u8], image: &[u8], s: Shape) -> usize
-    requires { Shaped image.now s.strings s.words s.erased s.bytes }
-    ensures { Wrote (listing_of image.now) out.old out.new 0 result }
+fn put_middle(out: &mut [u8], opened: &Opened<'_>) -> usize
+    ensures { Wrote (listing_of opened.now.image.now) out.old out.new 0 result }
 {
+    let s = opened.shape;
     if 1024 < s.words || 64 < s.strings || 64 < s.erased {
-        return put_names_middle(out, image, s);
+        return put_names_middle(out, opened);
     }
-    match put_level::<64, 1024, 64, 3072, 3072>(out, image, s) {
+    match put_level::<64, 1024, 64, 3072, 3072>(out, opened) {
         Some(at) => at,
-        None => put_full(out, image, s),
+        None => put_full(out, opened),
     }
 }
 
 // Many strings or erased names, in 24,576 bytes of buffers; 256 rows and 256 diagnostics, one for two words.
-fn put_names_small(out: &mut [u8], image: &[u8], s: Shape) -> usize
-    requires { Shaped image.now s.strings s.words s.erased s.bytes }
-    ensures { Wrote (listing_of image.now) out.old out.new 0 result }
+fn put_names_small(out: &mut [u8], opened: &Opened<'_>) -> usize
+    ensures { Wrote (listing_of opened.now.image.now) out.old out.new 0 result }
 {
-    match put_level::<1024, 512, 1024, 1536, 1536>(out, image, s) {
+    match put_level::<1024, 512, 1024, 1536, 1536>(out, opened) {
         Some(at) => at,
-        None => put_names_middle(out, image, s),
+        None => put_names_middle(out, opened),
     }
 }
 
 // In 7,680 bytes of buffers; 64 rows and 64 diagnostics.
-fn put_small(out: &mut [u8], image: &[u8], s: Shape) -> usize
-    requires { Shaped image.now s.strings s.words s.erased s.bytes }
-    ensures { Wrote (listing_of image.now) out.old out.new 0 result }
+fn put_small(out: &mut [u8], opened: &Opened<'_>) -> usize
+    ensures { Wrote (listing_of opened.now.image.now) out.old out.new 0 result }
 {
+    let s = opened.shape;
     if s.words <= 512 && (64 < s.strings || 64 < s.erased) {
-        return put_names_small(out, image, s);
+        return put_names_small(out, opened);
     }
-    match put_level::<64, 512, 64, 384, 384>(out, image, s) {
+    match put_level::<64, 512, 64, 384, 384>(out, opened) {
         Some(at) => at,
-        None => put_middle(out, image, s),
+        None => put_middle(out, opened),
     }
 }
 
 // Many strings or erased names for so few words, in 6,144 bytes of buffers; 64 rows and 64 diagnostics, one for two words.
-fn put_names_tiny(out: &mut [u8], image: &[u8], s: Shape) -> usize
-    requires { Shaped image.now s.strings s.words s.erased s.bytes }
-    ensures { Wrote (listing_of image.now) out.old out.new 0 result }
+fn put_names_tiny(out: &mut [u8], opened: &Opened<'_>) -> usize
+    ensures { Wrote (listing_of opened.now.image.now) out.old out.new 0 result }
 {
-    match put_level::<256, 128, 256, 384, 384>(out, image, s) {
+    match put_level::<256, 128, 256, 384, 384>(out, opened) {
         Some(at) => at,
-        None => put_names_small(out, image, s),
+        None => put_names_small(out, opened),
     }
 }
 
 // In 2,368 bytes of buffers; 32 rows and 16 diagnostics.
-fn put_tiny(out: &mut [u8], image: &[u8], s: Shape) -> usize
-    requires { Shaped image.now s.strings s.words s.erased s.bytes }
-    ensures { Wrote (listing_of image.now) out.old out.new 0 result }
+fn put_tiny(out: &mut [u8], opened: &Opened<'_>) -> usize
+    ensures { Wrote (listing_of opened.now.image.now) out.old out.new 0 result }
 {
+    let s = opened.shape;
     if s.words <= 128 && (32 < s.strings || 16 < s.erased) {
-        return put_names_tiny(out, image, s);
+        return put_names_tiny(out, opened);
     }
-    match put_level::<32, 128, 16, 96, 192>(out, image, s) {
+    match put_level::<32, 128, 16, 96, 192>(out, opened) {
         Some(at) => at,
-        None => put_small(out, image, s),
+        None => put_small(out, opened),
     }
 }
 
 // In 472 bytes of buffers; 8 rows and 4 diagnostics.
-fn put_least(out: &mut [u8], image: &[u8], s: Shape) -> usize
-    requires { Shaped image.now s.strings s.words s.erased s.bytes }
-    ensures { Wrote (listing_of image.now) out.old out.new 0 result }
+fn put_least(out: &mut [u8], opened: &Opened<'_>) -> usize
+    ensures { Wrote (listing_of opened.now.image.now) out.old out.new 0 result }
 {
-    match put_level::<8, 16, 4, 24, 48>(out, image, s) {
+    match put_level::<8, 16, 4, 24, 48>(out, opened) {
         Some(at) => at,
-        None => put_tiny(out, image, s),
+        None => put_tiny(out, opened),
     }
 }
 
@@ -292,7 +292,7 @@ fn put_listing(out: &mut [u8], image: &[u8]) -> usize
     ensures { Wrote (listing_of image.now) out.old out.new 0 result }
 {
     match open(image) {
-        Some(s) => put_least(out, image, s),
+        Some(shape) => put_least(out, &Opened { image, shape }),
         None => put_refusal(out, 5),
     }
 }

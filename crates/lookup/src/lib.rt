@@ -1,5 +1,6 @@
 // The leaves of document 01 without checks: what is answered is said for every table that the buffer keeps. Kinds are numbers here, as document 01 numbers them: any below
-// 144 may be asked.
+// 144 may be asked. Kind, name and word 1 stay three numbers, and their bounds clauses: callers have constants and words apart, and a type for the three would be made and opened
+// at each look-up.
 #![tactic(auto)]
 
 ghost use Rattle.std.specs.Prelude.{◌≡◌, List, ◌*◌, ◌≤◌, ◌<◌};

@@ -18,7 +18,10 @@ fn fits(len: usize, count: usize) -> bool
 
 // The number of rows with this one in it, or NOTHING.
 pub fn measure_insert(b: &mut [u32], count: usize, row: &[u32]) -> usize {
-    if !fits(b.len(), count) || row.len() != table::WIDTH {
+    let Some(row) = row.as_array() else {
+        return NOTHING;
+    };
+    if !fits(b.len(), count) {
         return NOTHING;
     }
     runs::insert(b, count, row).unwrap_or(NOTHING)

@@ -1,4 +1,5 @@
-// The lines of a diagnostic.
+// The lines of a diagnostic. `out, at` stay two parameters, as in crate `text`: each promise (`Wrote`) speaks of the buffer and of the places before and after, and over a struct it
+// would name the same three.
 #![tactic(auto)]
 
 ghost use Rattle.std.specs.Prelude.{◌≡◌, [], ◌∷◌, ◌-◌, true, get_or, eqb};
@@ -10,6 +11,7 @@ ghost use Rattle.message.specs.Message.{name, render, lines};
 ghost use Rattle.message.specs.Table.{table};
 ghost use Rattle.message.specs.Pieces.{shown, plain, template, Messages};
 
+use strings::Strings;
 use text::{put_byte, put_bytes, put_decimal, put_part};
 
 // Document 01's six words; a name is its string's number plus 1.
@@ -195,16 +197,16 @@ fn end_of(ends: &[u32], k: usize) -> usize
 }
 
 // The string of number k - 1, and nothing for 0.
-fn put_name(out: &mut [u8], at: usize, bytes: &[u8], ends: &[u32], k: u32) -> usize
-    ensures { Wrote (name bytes.now ends.now k) out.old out.new at result }
+fn put_name(out: &mut [u8], at: usize, strings: &Strings<'_>, k: u32) -> usize
+    ensures { Wrote (name strings.now.bytes.now strings.now.ends.now k) out.old out.new at result }
 {
     let n = k as usize;
     put_part(
         out,
         at,
-        bytes,
-        end_of(ends, n.saturating_sub(1)),
-        end_of(ends, n),
+        strings.bytes,
+        end_of(strings.ends, n.saturating_sub(1)),
+        end_of(strings.ends, n),
     )
 }
 
@@ -214,13 +216,13 @@ fn put_either(out: &mut [u8], at: usize, one: &[u8], other: &[u8], n: u32) -> us
     put_bytes(out, at, if n == 1 { one } else { other })
 }
 
-fn put_piece(out: &mut [u8], at: usize, bytes: &[u8], ends: &[u32], d: Diag, piece: &Piece) -> usize
-    ensures { Wrote (shown bytes.now ends.now d piece.now) out.old out.new at result }
+fn put_piece(out: &mut [u8], at: usize, strings: &Strings<'_>, d: Diag, piece: &Piece) -> usize
+    ensures { Wrote (shown strings.now.bytes.now strings.now.ends.now d piece.now) out.old out.new at result }
 {
     match piece {
         Text(text) => put_bytes(out, at, text),
-        First => put_name(out, at, bytes, ends, d.first),
-        Second => put_name(out, at, bytes, ends, d.second),
+        First => put_name(out, at, strings, d.first),
+        Second => put_name(out, at, strings, d.second),
         Number => put_decimal(out, at, d.number),
         Plural => put_either(out, at, b"", b"s", d.number),
         Scope => put_either(out, at, b"STATIC", b"SHARED", d.number),
@@ -229,24 +231,24 @@ fn put_piece(out: &mut [u8], at: usize, bytes: &[u8], ends: &[u32], d: Diag, pie
     }
 }
 
-fn put_message(out: &mut [u8], at: usize, bytes: &[u8], ends: &[u32], d: Diag) -> usize
-    ensures { Wrote (render bytes.now ends.now d (get_or table d.code [])) out.old out.new at result }
+fn put_message(out: &mut [u8], at: usize, strings: &Strings<'_>, d: Diag) -> usize
+    ensures { Wrote (render strings.now.bytes.now strings.now.ends.now d (get_or table d.code [])) out.old out.new at result }
 {
     let mut next = at;
     for piece in message(&MESSAGES, d.code) {
-        next = put_piece(out, next, bytes, ends, d, piece);
+        next = put_piece(out, next, strings, d, piece);
     }
     next
 }
 
 // A diagnostic's `D` line, and its `N` line where its code has one.
-pub fn put_diag(out: &mut [u8], at: usize, bytes: &[u8], ends: &[u32], d: Diag) -> usize
-    ensures { Wrote (lines bytes.now ends.now d) out.old out.new at result }
+pub fn put_diag(out: &mut [u8], at: usize, strings: &Strings<'_>, d: Diag) -> usize
+    ensures { Wrote (lines strings.now.bytes.now strings.now.ends.now d) out.old out.new at result }
 {
     let mut next = put_byte(out, at, b'D');
     next = put_byte(out, next, b' ');
     next = put_decimal(out, next, d.line);
     next = put_byte(out, next, b' ');
-    next = put_message(out, next, bytes, ends, d);
+    next = put_message(out, next, strings, d);
     put_byte(out, next, b'\n')
 }

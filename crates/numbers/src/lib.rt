@@ -1,4 +1,5 @@
 // Narrowing to 32 bits, rounding to a whole number, and whole numbers as floats, worked out from the bits of an f64.
+// That a float is finite stays a clause, `T (finite x)`: a float in a struct of its own would be made for each call and opened in it.
 #![tactic(auto)]
 
 ghost use Rattle.std.specs.Prelude.{◌≡◌, ℕ, ◌+◌, ◌-◌, ◌*◌, ◌/◌, ◌%◌, ◌^◌, ◌<◌, ◌≤◌, T, if◌then◌else◌, to_bits, unsigned_abs};
@@ -175,11 +176,11 @@ pub fn words_of(x: f64) -> TwoWords
     TwoWords::from(x.to_bits())
 }
 
-pub fn of_words(low: u32, high: u32) -> f64
-    requires { T (finite (of_words low high)) }
-    ensures { result ≡ of_words low high }
+pub fn of_words(words: TwoWords) -> f64
+    requires { T (finite (of_words words.low words.high)) }
+    ensures { result ≡ of_words words.low words.high }
 {
-    f64::from_bits(u64::from(TwoWords { low, high }))
+    f64::from_bits(u64::from(words))
 }
 
 // A whole number's words, two's complement.
@@ -191,8 +192,8 @@ pub fn whole_words(z: i64) -> TwoWords
 }
 
 // And back.
-pub fn of_whole_words(low: u32, high: u32) -> i64
-    ensures { result ≡ whole_at low high }
+pub fn of_whole_words(words: TwoWords) -> i64
+    ensures { result ≡ whole_at words.low words.high }
 {
-    u64::from(TwoWords { low, high }).cast_signed()
+    u64::from(words).cast_signed()
 }

@@ -1,4 +1,4 @@
-// The text of an answer: the diagnostics' lines, T lines, the R line; or the line of a refusal.
+// The text of an answer: the diagnostics' lines, T lines, the R line; or the line of a refusal. `out, at` stay two parameters, as in crate `message`.
 #![tactic(auto)]
 
 ghost use Rattle.std.specs.Prelude.{◌≡◌, ◌+◌, ◌*◌, ◌≤◌, length};
@@ -10,6 +10,7 @@ ghost use Rattle.page.specs.Page.{line, diag_of, page, refusal};
 ghost use Rattle.page.specs.Chunks.{chunks};
 
 use message::{Diag, put_diag};
+use strings::Strings;
 use table::{NOTE_WIDTH, WIDTH};
 use text::{lay_word, put_byte, put_bytes, put_decimal, put_word};
 
@@ -38,18 +39,12 @@ fn diag(words: &[u32; NOTE_WIDTH]) -> Diag
     }
 }
 
-fn put_notes(
-    out: &mut [u8],
-    at: usize,
-    bytes: &[u8],
-    ends: &[u32],
-    notes: &[[u32; NOTE_WIDTH]],
-) -> usize
-    ensures { Wrote (flat_map (λ d. lines bytes.now ends.now (diag_of d)) notes.now) out.old out.new at result }
+fn put_notes(out: &mut [u8], at: usize, strings: &Strings<'_>, notes: &[[u32; NOTE_WIDTH]]) -> usize
+    ensures { Wrote (flat_map (λ d. lines strings.now.bytes.now strings.now.ends.now (diag_of d)) notes.now) out.old out.new at result }
 {
     let mut next = at;
     for note in notes {
-        next = put_diag(out, next, bytes, ends, diag(note));
+        next = put_diag(out, next, strings, diag(note));
     }
     next
 }
@@ -100,19 +95,18 @@ pub struct Counts {
 
 pub fn put_page(
     out: &mut [u8],
-    bytes: &[u8],
-    ends: &[u32],
+    strings: &Strings<'_>,
     notes: &[u32],
     rows: &[u32],
     words: &[u32],
     n: Counts,
 ) -> usize
     requires { (n.notes * note_width ≤ length notes.now) × (n.rows * width ≤ length rows.now) }
-    ensures { Wrote (page bytes.now ends.now (chunks note_width n.notes notes.now) (chunks width n.rows rows.now) words.now) out.old out.new 0 result }
+    ensures { Wrote (page strings.now.bytes.now strings.now.ends.now (chunks note_width n.notes notes.now) (chunks width n.rows rows.now) words.now) out.old out.new 0 result }
 {
     let (notes, _) = notes[..n.notes * NOTE_WIDTH].as_chunks();
     let (rows, _) = rows[..n.rows * WIDTH].as_chunks();
-    let mut next = put_notes(out, 0, bytes, ends, notes);
+    let mut next = put_notes(out, 0, strings, notes);
     next = put_rows(out, next, rows);
     put_line(out, next, b'R', words)
 }

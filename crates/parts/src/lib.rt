@@ -12,6 +12,7 @@ ghost use Rattle.collect.specs.Collect.{last_of, disagrees};
 ghost use Rattle.parts.specs.Parts.{TypeIs, AsTypeIs, NameAt, head_word, arg_word};
 
 use lookup::Typed;
+use strings::Sound;
 
 // The type at a place, and the place past it. Strings of a fixed length and records have an argument; any other type has 0.
 pub fn type_ref(words: &[u32], at: usize) -> (Typed, usize)
@@ -49,7 +50,7 @@ pub fn row_words(ty: Option<Typed>) -> (u32, u32)
     }
 }
 
-// One of % & ! # $. Crate `strings` has the same test for itself alone: a public one would be one more promise, for a test of one line.
+// One of % & ! # $. Crate `strings` has the same test for itself: with its contract a public one for both would be longer than this line.
 #[tactic(auto, unfolding(strings::specs::Name::suffix, strings::specs::Name::between))]
 fn is_suffix(b: u8) -> bool
     ensures { result ≡ suffix b }
@@ -58,10 +59,10 @@ fn is_suffix(b: u8) -> bool
 }
 
 // Whether a name ends in a suffix of another type than the one with this head. A record counts as a double.
-pub fn differs(bytes: &[u8], ends: &[u32], name: u32, head: u32) -> bool
-    requires { NameAt bytes.now ends.now name }
-    ensures { (ty : TypeRef) → head ≡ head_of_type ty → result ≡ disagrees (last_of (string_at bytes.now ends.now name)) ty }
+pub fn differs(strings: &Sound<'_>, name: u32, head: u32) -> bool
+    requires { NameAt strings.now.bytes.now strings.now.ends.now name }
+    ensures { (ty : TypeRef) → head ≡ head_of_type ty → result ≡ disagrees (last_of (string_at strings.now.bytes.now strings.now.ends.now name)) ty }
 {
-    let last = leaves::last_byte(bytes, ends, name);
+    let last = leaves::last_byte(strings, name);
     is_suffix(last) && lookup::from_type_ref(head) != lookup::from_suffix(last)
 }

@@ -1,4 +1,5 @@
 // What a field of a statement is, by its sort: some words and then rows of fields; and the scope of its bodies. A walk over statements of all kinds goes by it.
+// (`SomeTree` and `Listed` stay clauses: the first says of words, at a place, what stands there, another shape in each function, the second of a sort that the tables have it, and a struct for each would be opened at each call.)
 #![tactic(auto)]
 
 ghost use Rattle.std.specs.Prelude.{◌+◌, ◌≤◌, ◌<◌, ◌≢◌, take, drop, IfSome};

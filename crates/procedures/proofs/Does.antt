@@ -34,8 +34,8 @@ use Rattle.lookup.specs.declared.Typed.{Typed}
 use Rattle.parts.specs.Parts.{written_if, head_word, arg_word}
 use Rattle.parts.proofs.Types.{head_written, arg_written}
 use Rattle.procedures.specs.Post.{plain, ParamOf, ParamsAt, BodyAt, ProcOf, ProcIs, Says, Enters, Acts, defined_before, before_entry, with_params, with_marks}
-use Rattle.procedures.specs.declared.ParamAt.{ParamAt}
-use Rattle.procedures.specs.declared.ProcAt.{ProcAt}
+use Rattle.procedures.specs.declared.read.ParamAt.{ParamAt}
+use Rattle.procedures.specs.declared.read.ProcAt.{ProcAt}
 
 -- ---- one step, said of whatever was read
 
@@ -188,10 +188,6 @@ before_acts bytes ends scope line {ws} {p} {s} {s1} {s2} {s3} {r} {b} {d} {d1} {
 
 -- a mark
 module _ (kind name : ℕ) (yes : Bool) {s : Counts} {b : List ℕ} where
-  -- none is entered
-  pub mark_no : yes ≡ false → s.rows * width ≤ length b → Enters (λ x. yes ≡ x) (λ x N D. when x (enter (some N) (row kind name (0 ∷ [])))) s s b b
-  mark_no e k = enters_nothing k (λ x q N D st. ap (λ (t : Bool). when t (enter (some N) (row kind name (0 ∷ []))) st) (sym e ∙ q))
-
   -- it is entered
   pub mark_yes : {r : Counts} {b' : List ℕ} → yes ≡ true → Rows (entering (row kind name (0 ∷ 0 ∷ 0 ∷ 0 ∷ 0 ∷ []))) s r b b'
       → Enters (λ x. yes ≡ x) (λ x N D. when x (enter (some N) (row kind name (0 ∷ [])))) s r b b'

@@ -8,7 +8,6 @@ use mathlib.Core.Option.{Option, none as absent}
 use lib.Dec.{eqb}
 use lib.ListN.{length, get_or}
 use Rattle.words.specs.Word.{word_of, pay_of}
-use Rattle.strings.proofs.Laws.{names_length}
 use Rattle.expr.specs.Expr.{Expr}
 use Rattle.expr.specs.Stands.{Wrote}
 use Rattle.expr.proofs.Parts.{First, wrote_at, wrote_first, wrote_left, wrote_right, pay_is}
@@ -19,15 +18,15 @@ use Rattle.tree.proofs.Complete.{one_tree, clear}
 use Rattle.tree.proofs.Nodes.{cons_left, cons_right, stmt_line}
 use Rattle.views.specs.View.{TypeRef, Param, optional, as_type, is_set, param, items, rows_of, view}
 use Rattle.lent.specs.RuleLaws.{name_below as marked_below}
-use Rattle.parts.specs.Parts.{AsTypeIs, written_if}
+use Rattle.parts.specs.Parts.{AsTypeIs, written_if, arg_word}
 use Rattle.parts.specs.Over.{set_over, as_over, param_rows_over}
 use Rattle.std.specs.Prelude.{Option as RustOption, None}
 use Rattle.lookup.specs.declared.Typed.{Typed}
 use Rattle.collect.specs.Seen.{see}
 use Rattle.collect.specs.Collect.{Given, statement, procedure}
-use Rattle.collect.specs.Code.{StmtAt, Named}
+use Rattle.collect.specs.Code.{StmtAt}
 use Rattle.procedures.specs.Post.{StmtTo, ParamOf, ParamIs, ParamsAt, SomeParams, SomeBody, SomeProc, Shown, ProcIs}
-use Rattle.procedures.specs.declared.ProcAt.{ProcAt}
+use Rattle.procedures.specs.declared.read.ProcAt.{ProcAt}
 
 -- ---- words at a place
 
@@ -81,11 +80,11 @@ module _ {ws : List ℕ} {at : ℕ} where
 
   -- so the parameter is read from these words
   pub param_is : {byval array : Bool} {ty : RustOption Typed} {next : ℕ} → byval ≡ eqb (pay_of (get_or ws (at + 1) 0)) 1 → array ≡ eqb (pay_of (get_or ws (at + 2) 0)) 1 → AsTypeIs ws (at + 3) ty next
-      → ParamIs ws at (record { name = pay_of (get_or ws at 0); byval = byval; array = array; ty = ty; next = next })
-  param_is {byval} {array} {ty} {next} e d T = record { is = by; name_small = omega arith; arg_small = T.small }
+      → {k : (pay_of (get_or ws at 0) < 16777216) × (arg_word ty < 16777216)} → ParamIs ws at (record { name = pay_of (get_or ws at 0); byval = byval; array = array; ty = ty; next = next; small = k })
+  param_is {byval} {array} {ty} {next} e d T {k} = record { is = by; name_small = k.0; arg_small = k.1 }
     where
       by : (ns : List ℕ) (n : ℕ) (v : Tree Expr (row ParamRow)) (end : ℕ) → Stands ws ns n at v end
-          → ParamOf (record { name = pay_of (get_or ws at 0); byval = byval; array = array; ty = ty; next = next }) (param v) × (next ≡ end)
+          → ParamOf (record { name = pay_of (get_or ws at 0); byval = byval; array = array; ty = ty; next = next; small = k }) (param v) × (next ≡ end)
       by ns n v end s =
           let p = in_param v s in
           let q = T.is ns n p.clause end p.there in
@@ -101,10 +100,6 @@ module _ {ws : List ℕ} {at end : ℕ} (S : SomeBody ws at end) where
   -- a body ends after its place, within the words
   pub body_inside : (at < end) × (end ≤ length ws)
   body_inside = body_word S.there.tree S.there.stands
-
-  -- it is a list of statements
-  pub body_tree : SomeTree (one body_sort) ws at
-  body_tree = let B = S.there in record { names = B.names; strings = B.strings; tree = B.tree; end = end; stands = B.stands }
 
 -- ---- what stands in a SUB or FUNCTION: its line, its name and its parameters; a flag
 
@@ -166,6 +161,10 @@ same_end {ns} {n} {k} {ws} {at} {line = line} {end} {fields} S s =
     let T = S.stmt in
     (one_tree ws ns n (Stmt k line fields) (Stmt k T.line T.fields) at end T.end refl s.valid T.stands.valid s.wrote T.stands.wrote).1 ∙ S.ends
 
+-- the number of a name is below 1,024, since there are no more marks
+name_below : (ns : List ℕ) → length ns ≤ 1024 → (x : ℕ) → eqb (get_or ns x 0) 1 ≡ true → x < 1024
+name_below ns h x e = omega (arith, marked_below ns x e)
+
 -- ---- a SUB
 
 record InSub (ws ns : List ℕ) (n at end line : ℕ) (r : Tree Expr (row (sorts sub))) : Type 0 where
@@ -216,6 +215,10 @@ module _ {ws ns : List ℕ} {n at end : ℕ} (S : StmtTo ns n sub ws at end) whe
   pub sub_inside : at + 2 < length ws
   sub_inside = here.head.inside
 
+  -- its name is a string's number
+  pub sub_few : length ns ≤ 1024 → pay_of (get_or ws (at + 1) 0) < 1024
+  sub_few h = name_below ns h _ (name_marked here.head)
+
   -- as many parameters stand after them
   pub sub_params : SomeParams ws (at + 3) (pay_of (get_or ws (at + 2) 0))
   sub_params = some_params here.head
@@ -225,12 +228,12 @@ module _ {ws ns : List ℕ} {n at end : ℕ} (S : StmtTo ns n sub ws at end) whe
   last_flag = (omega (arith, here.last, S.ends), omega (arith, here.last, here.flag_inside, S.ends))
 
   -- so the SUB is read: its body after the parameters, its flag last
-  pub sub_is : {m : ℕ} → ((ps : List Param) (T : ParamsAt ws (at + 3) (pay_of (get_or ws (at + 2) 0)) ps) → m ≡ T.end) → (keeps : Bool) → keeps ≡ eqb (pay_of (get_or ws (end - 1) 0)) 1
-      → ProcIs ns n sub ws at (record { line = pay_of (get_or ws at 0); name = pay_of (get_or ws (at + 1) 0); params = at + 3; count = pay_of (get_or ws (at + 2) 0); ty = None; body = m; past = end - 1; function = false; keeps = keeps; deffn = false })
-  sub_is {m} past_params keeps q = record { shows = by; named = name_marked here.head }
+  pub sub_is : {m : ℕ} → ((ps : List Param) (T : ParamsAt ws (at + 3) (pay_of (get_or ws (at + 2) 0)) ps) → m ≡ T.end) → (keeps : Bool) → keeps ≡ eqb (pay_of (get_or ws (end - 1) 0)) 1 → {k : pay_of (get_or ws (at + 1) 0) < 1024}
+      → ProcIs ns n sub ws at (record { line = pay_of (get_or ws at 0); name = pay_of (get_or ws (at + 1) 0); params = at + 3; count = pay_of (get_or ws (at + 2) 0); ty = None; body = m; past = end - 1; function = false; keeps = keeps; deffn = false; few = k })
+  sub_is {m} past_params keeps q {k} = record { shows = by; named = name_marked here.head }
     where
       by : (line : ℕ) (r : Tree Expr (row (sorts sub))) (end' : ℕ) → Stands ws ns n at (Stmt sub line r) end'
-          → Shown ws sub (record { line = pay_of (get_or ws at 0); name = pay_of (get_or ws (at + 1) 0); params = at + 3; count = pay_of (get_or ws (at + 2) 0); ty = None; body = m; past = end - 1; function = false; keeps = keeps; deffn = false }) line r
+          → Shown ws sub (record { line = pay_of (get_or ws at 0); name = pay_of (get_or ws (at + 1) 0); params = at + 3; count = pay_of (get_or ws (at + 2) 0); ty = None; body = m; past = end - 1; function = false; keeps = keeps; deffn = false; few = k }) line r
       by line r end' s =
           let h = in_sub line r s in
           let p = past_params _ (params_at h.head) in
@@ -310,6 +313,10 @@ module _ {ws ns : List ℕ} {n at end : ℕ} (S : StmtTo ns n function ws at end
   pub function_inside : at + 2 < length ws
   function_inside = found.head.inside
 
+  -- its name is a string's number
+  pub function_few : length ns ≤ 1024 → pay_of (get_or ws (at + 1) 0) < 1024
+  function_few h = name_below ns h _ (name_marked found.head)
+
   -- as many parameters stand after them
   pub function_params : SomeParams ws (at + 3) (pay_of (get_or ws (at + 2) 0))
   function_params = some_params found.head
@@ -328,12 +335,12 @@ module _ {ws ns : List ℕ} {n at end : ℕ} (S : StmtTo ns n function ws at end
     function_clause = record { names = ns; strings = n; tree = found.clause; end = found.next; stands = clause_at found }
 
     -- so the FUNCTION is read: its body after the clause, its two flags last
-    pub function_is : {ty : RustOption Typed} {body : ℕ} → AsTypeIs ws m ty body → (keeps deffn : Bool) → keeps ≡ eqb (pay_of (get_or ws (end - 2) 0)) 1 → deffn ≡ eqb (pay_of (get_or ws (end - 1) 0)) 1
-        → ProcIs ns n function ws at (record { line = pay_of (get_or ws at 0); name = pay_of (get_or ws (at + 1) 0); params = at + 3; count = pay_of (get_or ws (at + 2) 0); ty = ty; body = body; past = end - 2; function = true; keeps = keeps; deffn = deffn })
-    function_is {ty} {body} T keeps deffn q d = record { shows = by; named = name_marked found.head }
+    pub function_is : {ty : RustOption Typed} {body : ℕ} → AsTypeIs ws m ty body → (keeps deffn : Bool) → keeps ≡ eqb (pay_of (get_or ws (end - 2) 0)) 1 → deffn ≡ eqb (pay_of (get_or ws (end - 1) 0)) 1 → {k : pay_of (get_or ws (at + 1) 0) < 1024}
+        → ProcIs ns n function ws at (record { line = pay_of (get_or ws at 0); name = pay_of (get_or ws (at + 1) 0); params = at + 3; count = pay_of (get_or ws (at + 2) 0); ty = ty; body = body; past = end - 2; function = true; keeps = keeps; deffn = deffn; few = k })
+    function_is {ty} {body} T keeps deffn q d {k} = record { shows = by; named = name_marked found.head }
       where
         by : (line : ℕ) (r : Tree Expr (row (sorts function))) (end' : ℕ) → Stands ws ns n at (Stmt function line r) end'
-            → Shown ws function (record { line = pay_of (get_or ws at 0); name = pay_of (get_or ws (at + 1) 0); params = at + 3; count = pay_of (get_or ws (at + 2) 0); ty = ty; body = body; past = end - 2; function = true; keeps = keeps; deffn = deffn }) line r
+            → Shown ws function (record { line = pay_of (get_or ws at 0); name = pay_of (get_or ws (at + 1) 0); params = at + 3; count = pay_of (get_or ws (at + 2) 0); ty = ty; body = body; past = end - 2; function = true; keeps = keeps; deffn = deffn; few = k }) line r
         by line r end' s =
             let h = in_function line r s in
             let c = T.is ns n h.clause h.next (clause_at h) in
@@ -353,12 +360,6 @@ module _ {ws ns : List ℕ} {n at end : ℕ} (S : StmtTo ns n function ws at end
               };
               line_is = h.head.line_is;
             }
-
--- ---- a name's number
-
--- the number of a name is below 1,024
-pub name_below : {bytes ends ns : List ℕ} → Named bytes ends ns → length ends ≤ 1024 → (x : ℕ) → eqb (get_or ns x 0) 1 ≡ true → x < 1024
-name_below {bytes} {ends} {ns} N h x e = omega (arith, marked_below ns x e, ap length N.names, names_length bytes ends)
 
 -- ---- from what was read to what the code asks
 

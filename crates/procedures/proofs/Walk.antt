@@ -10,7 +10,7 @@ use Rattle.tree.specs.Stands.{SomeTree}
 use Rattle.views.specs.View.{Param, param}
 use Rattle.parts.specs.Turns.{Turn, turn_some, turn_next, turn_end}
 use Rattle.procedures.specs.Post.{ParamOf, ParamIs, ParamsAt, SomeParams}
-use Rattle.procedures.specs.declared.ParamAt.{ParamAt}
+use Rattle.procedures.specs.declared.read.ParamAt.{ParamAt}
 
 -- i of k parameters read
 abbrev pub Walked : (P : List Param → Type 0) (ws : List ℕ) (from k at i : ℕ) → Type 0

@@ -17,8 +17,8 @@ use Rattle.collect.specs.Diagnostics.{proc_inside, proc_defined}
 use Rattle.collect.specs.Collect.{Given, given, Proc, param_rows, error, entry, statement, procedure, result_type, check_variable_length_strings}
 use Rattle.collect.specs.Code.{StmtAt}
 use Rattle.parts.specs.Parts.{written_if, arg_word}
-use Rattle.procedures.specs.declared.ParamAt.{ParamAt}
-use Rattle.procedures.specs.declared.ProcAt.{ProcAt}
+use Rattle.procedures.specs.declared.read.ParamAt.{ParamAt}
+use Rattle.procedures.specs.declared.read.ProcAt.{ProcAt}
 
 -- buffers of so many words, whatever the strings: no step but that of a result's type looks at one
 abbrev pub plain : ℕ → ℕ → Given

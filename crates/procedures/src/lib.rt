@@ -1,4 +1,7 @@
 // What collecting does for SUB and FUNCTION, but for their bodies.
+// `b, d, s` stay side by side, and that the counts fit stays a clause (`Fit`, `s.rows * width ≤ length b`): a ghost field beside a `&mut` field isn't had (the kit's NOT_COVERED).
+// `words, p` do so too, with `SomeProc` a clause: it names what stands there, so that a ghost field refuses it, which takes a proposition alone; and `∥ .. ∥₁` gives only propositions
+// back, while `parts::as_type` and `subscripts` ask for the tree itself. So the parameters are gone through by their places too: an iterator's `next` can ask nothing.
 #![tactic(auto)]
 
 ghost use Rattle.std.specs.Prelude.{◌≡◌, false, List, [], ◌∷◌, ℕ, ◌+◌, ◌-◌, ◌*◌, ◌≤◌, ◌<◌, eqb, length, get_or};
@@ -14,43 +17,22 @@ ghost use Rattle.steps.specs.State.{each, when, enter};
 ghost use Rattle.steps.specs.Held.{Fit};
 ghost use Rattle.subscripts.specs.Subscripts.{in_expr, subscript_count};
 ghost use Rattle.subscripts.specs.Code.{use_of, Told};
-ghost use Rattle.parts.specs.Parts.{NameAt, written_if, arg_word};
+ghost use Rattle.parts.specs.Parts.{NameAt, written_if};
 ghost use Rattle.collect.specs.Seen.{Seen};
 ghost use Rattle.entries.specs.Entries.{row};
 ghost use Rattle.collect.specs.Diagnostics.{param_undefined};
 ghost use Rattle.collect.specs.Collect.{given, param_rows, fixed_length, result_type, param_string, check_variable_length_strings, ranked as ranked_step, array_param, undefined as undefined_step, typed_param, procedure as procedure_step};
 ghost use Rattle.collect.specs.Code.{Collects, Named};
-ghost use Rattle.procedures.specs.Post.{StmtTo, plain, ParamOf, ParamIs, ParamsAt, SomeParams, BodyAt, SomeBody, Quiet, ProcOf, SomeProc, ProcIs, Says, Enters, Acts, defined_before, before_entry, with_params, with_marks};
+ghost use Rattle.procedures.specs.Post.{StmtTo, plain, ParamOf, ParamIs, ParamsAt, SomeParams, BodyAt, Quiet, ProcOf, SomeProc, ProcIs, Says, Enters, Acts, defined_before, before_entry, with_params, with_marks};
+
+mod read;
 
 use lookup::Typed;
+use read::{ParamAt, ProcAt};
 use steps::Counts;
+use strings::Sound;
 use table::Rows;
-
-// A parameter, as it was read: its type is that of its AS clause. And the place past it.
-#[derive(Clone, Copy)]
-pub struct ParamAt {
-    pub name: u32,
-    pub byval: bool,
-    pub array: bool,
-    pub ty: Option<Typed>,
-    pub next: usize,
-}
-
-// A procedure, as it was read: the places of its first parameter, of its body and past that, its result's type, and whether it is a FUNCTION,
-// is STATIC and so keeps its variables, and is a DEF FN.
-#[derive(Clone, Copy)]
-pub struct ProcAt {
-    pub line: u32,
-    pub name: u32,
-    pub params: usize,
-    pub count: u32,
-    pub ty: Option<Typed>,
-    pub body: usize,
-    pub past: usize,
-    pub function: bool,
-    pub keeps: bool,
-    pub deffn: bool,
-}
+use tree::Source;
 
 // ---- reading
 
@@ -91,11 +73,12 @@ fn past_params(words: &[u32], from: usize, count: u32) -> usize
     at
 }
 
-// The SUB at a place: it has no result, and the last word before its end says whether it is STATIC.
-fn sub_at(words: &[u32], names: &[u8], n: u32, at: usize, end: usize) -> ProcAt
-    requires { StmtTo names.now n sub_kind words.now at end }
-    ensures { ProcIs names.now n sub_kind words.now at result }
+// The SUB at a place: it has no result, and the last word before its end says whether it is STATIC. How many strings there are is asked by the clauses alone.
+fn sub_at(source: &Source<'_>, strings: &Sound<'_>, at: usize, end: usize) -> ProcAt
+    requires { StmtTo source.now.names.now (length strings.now.ends.now) sub_kind source.now.words.now at end }
+    ensures { ProcIs source.now.names.now (length strings.now.ends.now) sub_kind source.now.words.now at result }
 {
+    let words = source.words;
     let line = words[at] % 16777216;
     let name = words[at + 1] % 16777216;
     let count = words[at + 2] % 16777216;
@@ -117,10 +100,11 @@ fn sub_at(words: &[u32], names: &[u8], n: u32, at: usize, end: usize) -> ProcAt
 
 // The FUNCTION at a place: of the last two words before its end the first says whether it is STATIC, the second whether it is a DEF FN. It differs from `sub_at` in what
 // words stand there, and each is said of its own sort of statement.
-fn function_at(words: &[u32], names: &[u8], n: u32, at: usize, end: usize) -> ProcAt
-    requires { StmtTo names.now n function_kind words.now at end }
-    ensures { ProcIs names.now n function_kind words.now at result }
+fn function_at(source: &Source<'_>, strings: &Sound<'_>, at: usize, end: usize) -> ProcAt
+    requires { StmtTo source.now.names.now (length strings.now.ends.now) function_kind source.now.words.now at end }
+    ensures { ProcIs source.now.names.now (length strings.now.ends.now) function_kind source.now.words.now at result }
 {
+    let words = source.words;
     let line = words[at] % 16777216;
     let name = words[at + 1] % 16777216;
     let count = words[at + 2] % 16777216;
@@ -144,24 +128,16 @@ fn function_at(words: &[u32], names: &[u8], n: u32, at: usize, end: usize) -> Pr
 
 // ---- what is said of a procedure before it is entered
 
-// A declared result type and a type suffix must agree.
-fn result_type(
-    bytes: &[u8],
-    ends: &[u32],
-    d: &mut [u32],
-    s: Counts,
-    line: u32,
-    name: u32,
-    ty: Option<Typed>,
-) -> Counts
-    requires { NameAt bytes.now ends.now name × (name < 1024) × (s.notes * note_width ≤ length d.old) }
-    ensures { Says (λ o. ty ≡ written_if o) (λ o N D. result_type (given (some N) (some D) bytes.now ends.now []) line name o) s result d.old d.new }
+// A declared result type and a type suffix must agree. `NameAt` stays a clause here and below: it is about the strings as well as the procedure, so that neither struct can hold it.
+fn result_type(strings: &Sound<'_>, d: &mut [u32], s: Counts, p: ProcAt) -> Counts
+    requires { NameAt strings.now.bytes.now strings.now.ends.now p.name × (s.notes * note_width ≤ length d.old) }
+    ensures { Says (λ o. p.ty ≡ written_if o) (λ o N D. result_type (given (some N) (some D) strings.now.bytes.now strings.now.ends.now []) p.line p.name o) s result d.old d.new }
 {
-    let Some(t) = ty else {
+    let Some(t) = p.ty else {
         return s;
     };
-    let yes = parts::differs(bytes, ends, name, t.head);
-    steps::push_if(d, s, yes, 15, line, name + 1, 0, 0, 0)
+    let yes = parts::differs(strings, p.name, t.head);
+    steps::push_if(d, s, yes, 15, p.line, p.name + 1, 0, 0, 0)
 }
 
 // The length of a fixed string, else 0, as the definition has it: of a length of 0 nothing is said either.
@@ -175,112 +151,103 @@ fn fixed_length(ty: Option<Typed>) -> u32
 }
 
 // A parameter may not be a fixed string.
-fn param_string(d: &mut [u32], s: Counts, line: u32, name: u32, p: ParamAt) -> Counts
-    requires { (name < 16777216) × (p.name < 16777216) × (s.notes * note_width ≤ length d.old) }
-    ensures { Says (ParamOf p) (λ q N D. param_string (plain N D) line name q) s result d.old d.new }
+fn param_string(d: &mut [u32], s: Counts, p: ProcAt, q: ParamAt) -> Counts
+    requires { s.notes * note_width ≤ length d.old }
+    ensures { Says (ParamOf q) (λ x N D. param_string (plain N D) p.line p.name x) s result d.old d.new }
 {
-    let n = fixed_length(p.ty);
-    steps::push_if(d, s, n != 0, 22, line, p.name + 1, name + 1, n, 0)
+    let n = fixed_length(q.ty);
+    steps::push_if(d, s, n != 0, 22, p.line, q.name + 1, p.name + 1, n, 0)
 }
 
 // Nor may any of them.
-fn param_strings(
-    words: &[u32],
-    d: &mut [u32],
-    s: Counts,
-    line: u32,
-    name: u32,
-    from: usize,
-    count: u32,
-) -> Counts
-    requires { SomeParams words.now from count × (name < 16777216) × (s.notes * note_width ≤ length d.old) }
-    ensures { Says (ParamsAt words.now from count) (λ ps N D. each (param_string (plain N D) line name) ps) s result d.old d.new }
+fn param_strings(words: &[u32], d: &mut [u32], s: Counts, p: ProcAt) -> Counts
+    requires { SomeProc words.now p × (s.notes * note_width ≤ length d.old) }
+    ensures { Says (ParamsAt words.now p.params p.count) (λ ps N D. each (param_string (plain N D) p.line p.name) ps) s result d.old d.new }
 {
     let mut c = s;
-    let mut at = from;
-    for _ in 0..count {
-        let p = param(words, at);
-        c = param_string(d, c, line, name, p);
-        at = p.next;
+    let mut at = p.params;
+    for _ in 0..p.count {
+        let q = param(words, at);
+        c = param_string(d, c, p, q);
+        at = q.next;
     }
     c
 }
 
 // The parameters, and then the result, which may not be one either.
 fn check_variable_length_strings(words: &[u32], d: &mut [u32], s: Counts, p: ProcAt) -> Counts
-    requires { SomeProc words.now p × (p.name < 1024) × (s.notes * note_width ≤ length d.old) }
+    requires { SomeProc words.now p × (s.notes * note_width ≤ length d.old) }
     ensures { Says (ProcOf words.now p) (λ f N D. check_variable_length_strings (plain N D) p.line f) s result d.old d.new }
 {
-    let t = param_strings(words, d, s, p.line, p.name, p.params, p.count);
+    let t = param_strings(words, d, s, p);
     let n = fixed_length(p.ty);
     steps::push_if(d, t, n != 0, 23, p.line, p.name + 1, 0, n, 0)
 }
 
 // A procedure of that name was there: the note has its line.
-fn defined_before(b: &[u32], d: &mut [u32], s: Counts, line: u32, name: u32) -> Counts
-    requires { (name < 1024) × Fit s (length b.now) (length d.old) }
-    ensures { Acts (λ x. name ≡ x) (λ x N D. defined_before (plain N D) line x) s result b.now d.old b.now d.new }
+fn defined_before(b: &[u32], d: &mut [u32], s: Counts, p: ProcAt) -> Counts
+    requires { Fit s (length b.now) (length d.old) }
+    ensures { Acts (λ x. p.name ≡ x) (λ x N D. defined_before (plain N D) p.line x) s result b.now d.old b.now d.new }
 {
     let rows = Rows {
         words: b,
         count: s.rows,
     };
-    let Some(i) = lookup::find_entry(&rows, 135, name, 0) else {
+    let Some(i) = lookup::find_entry(&rows, 135, p.name, 0) else {
         return s;
     };
     let prev = b[i * table::WIDTH + 3];
-    steps::push(d, s, 25, line, name + 1, 0, 0, prev)
+    steps::push(d, s, 25, p.line, p.name + 1, 0, 0, prev)
 }
 
 // All that is said of it, in order.
 fn before_entry(
     words: &[u32],
-    bytes: &[u8],
-    ends: &[u32],
+    strings: &Sound<'_>,
     b: &[u32],
     d: &mut [u32],
     s: Counts,
     scope: u32,
     p: ProcAt,
 ) -> Counts
-    requires { SomeProc words.now p × NameAt bytes.now ends.now p.name × (p.name < 1024) × Fit s (length b.now) (length d.old) }
-    ensures { Acts (ProcOf words.now p) (λ f N D. before_entry (given (some N) (some D) bytes.now ends.now []) scope p.line f) s result b.now d.old b.now d.new }
+    requires { SomeProc words.now p × NameAt strings.now.bytes.now strings.now.ends.now p.name × Fit s (length b.now) (length d.old) }
+    ensures { Acts (ProcOf words.now p) (λ f N D. before_entry (given (some N) (some D) strings.now.bytes.now strings.now.ends.now []) scope p.line f) s result b.now d.old b.now d.new }
 {
-    let s1 = result_type(bytes, ends, d, s, p.line, p.name, p.ty);
+    let s1 = result_type(strings, d, s, p);
     let s2 = check_variable_length_strings(words, d, s1, p);
     let s3 = steps::push_if(d, s2, scope != 0, 24, p.line, p.name + 1, 0, 0, 0);
-    defined_before(b, d, s3, p.line, p.name)
+    defined_before(b, d, s3, p)
 }
 
 // ---- its rows
 
 // The parameters in order, each under its ordinal.
-fn param_rows(words: &[u32], b: &mut [u32], s: Counts, name: u32, from: usize, count: u32) -> Counts
-    requires { SomeParams words.now from count × (name < 16777216) × (s.rows * width ≤ length b.old) }
-    ensures { Enters (ParamsAt words.now from count) (λ ps N D. each (enter (some N)) (param_rows name 0 ps)) s result b.old b.new }
+fn param_rows(words: &[u32], b: &mut [u32], s: Counts, p: ProcAt) -> Counts
+    requires { SomeProc words.now p × (s.rows * width ≤ length b.old) }
+    ensures { Enters (ParamsAt words.now p.params p.count) (λ ps N D. each (enter (some N)) (param_rows p.name 0 ps)) s result b.old b.new }
 {
     let mut c = s;
-    let mut at = from;
-    for i in 0..count {
-        let p = param(words, at);
-        let m = entries::bit(p.byval) + 2 * entries::bit(p.array);
-        let (head, arg) = parts::row_words(p.ty);
-        c = steps::enter(b, c, 136, name, i, p.name, m, head, arg);
-        at = p.next;
+    let mut at = p.params;
+    for i in 0..p.count {
+        let q = param(words, at);
+        let m = entries::bit(q.byval) + 2 * entries::bit(q.array);
+        let (head, arg) = parts::row_words(q.ty);
+        c = steps::enter(b, c, 136, p.name, i, q.name, m, head, arg);
+        at = q.next;
     }
     c
 }
 
 // The procedure and its parameters, in the place of the old ones: of these only those go that the new ones don't replace.
 fn with_params(words: &[u32], b: &mut [u32], s: Counts, p: ProcAt) -> Counts
-    requires { SomeProc words.now p × (p.name < 1024) × (s.rows * width ≤ length b.old) }
+    requires { SomeProc words.now p × (s.rows * width ≤ length b.old) }
     ensures { Enters (ProcOf words.now p) (λ f N D. with_params (plain N D) p.line f) s result b.old b.new }
 {
     let s1 = steps::remove_under(b, s, 136, p.name, p.count);
     let f = entries::bit(p.function);
     let (head, arg) = parts::row_words(p.ty);
     let s2 = steps::enter(b, s1, 135, p.name, 0, f, p.line, head, arg);
-    param_rows(words, b, s2, p.name, p.params, p.count)
+    param_rows(words, b, s2, p)
 }
 
 // A row that is only a mark, where `yes`.
@@ -296,7 +263,7 @@ fn mark_if(b: &mut [u32], s: Counts, yes: bool, kind: u32, name: u32) -> Counts
 
 // STATIC, and a DEF FN.
 fn with_marks(b: &mut [u32], s: Counts, p: ProcAt) -> Counts
-    requires { (p.name < 1024) × (s.rows * width ≤ length b.old) }
+    requires { s.rows * width ≤ length b.old }
     ensures { (ws : List ℕ) → Enters (ProcOf ws p) (λ f N D. with_marks (plain N D) f) s result b.old b.new }
 {
     let t = mark_if(b, s, p.keeps, 140, p.name);
@@ -306,10 +273,13 @@ fn with_marks(b: &mut [u32], s: Counts, p: ProcAt) -> Counts
 // ---- its parameters inside the body
 
 // An array with the rank of its first use; without one its rank is 1, and that is marked.
-fn ranked(b: &mut [u32], s: Counts, scope: u32, line: u32, name: u32, u: Option<u32>) -> Counts
-    requires { (name < 16777216) × (s.rows * width ≤ length b.old) }
-    ensures { Enters (λ o. use_of u ≡ o) (λ o N D. ranked_step (plain N D) scope line name o) s result b.old b.new }
+fn ranked(b: &mut [u32], s: Counts, p: ProcAt, q: ParamAt, u: Option<u32>) -> Counts
+    requires { s.rows * width ≤ length b.old }
+    ensures { Enters (λ o. use_of u ≡ o) (λ o N D. ranked_step (plain N D) (p.name + 1) p.line q.name o) s result b.old b.new }
 {
+    let scope = p.name + 1;
+    let line = p.line;
+    let name = q.name;
     if let Some(n) = u {
         return steps::enter(b, s, 133, name, scope, n, line, 1, 0);
     }
@@ -333,17 +303,18 @@ fn listed(words: &[u32], from: usize, to: usize, w: u32) -> bool
     (from + 1..to).any(|i| follows(words, i, w))
 }
 
-// The first use of a name in a body: from the notes of its uses where they have room for it. Where not, and no list stands after the name, there is none, and to
+// The first use of a parameter's name in the body: from the notes of its uses where they have room for it. Where not, and no list stands after the name, there is none, and to
 // see that is much less than to walk the body.
-fn used(words: &[u32], body: usize, past: usize, uses: &[usize], name: u32) -> Option<u32>
-    requires { SomeBody words.now body past × Told words.now body 0 uses.now × (name < 16777216) }
-    ensures { (ns : List ℕ) (n : ℕ) (v : Tree Expr (one body_sort)) → Stands words.now ns n body v past → use_of result ≡ subscript_count (λ name (e : Expr). in_expr name e) name v }
+fn used(words: &[u32], p: ProcAt, uses: &[usize], q: ParamAt) -> Option<u32>
+    requires { SomeProc words.now p × Told words.now p.body 0 uses.now }
+    ensures { (ns : List ℕ) (n : ℕ) (v : Tree Expr (one body_sort)) → Stands words.now ns n p.body v p.past → use_of result ≡ subscript_count (λ name (e : Expr). in_expr name e) q.name v }
 {
+    let name = q.name;
     if 2 * name as usize + 1 < uses.len() {
         return subscripts::first_use(uses, 0, name);
     }
-    if listed(words, body, past, 33554432 + name) {
-        return subscripts::subscript_count(words, body, name);
+    if listed(words, p.body, p.past, 33554432 + name) {
+        return subscripts::subscript_count(words, p.body, name);
     }
     None
 }
@@ -353,113 +324,78 @@ fn array_param(
     words: &[u32],
     b: &mut [u32],
     s: Counts,
-    scope: u32,
-    line: u32,
-    body: usize,
-    past: usize,
+    p: ProcAt,
     uses: &[usize],
-    p: ParamAt,
+    q: ParamAt,
 ) -> Counts
-    requires { SomeBody words.now body past × Told words.now body 0 uses.now × (p.name < 16777216) × (s.rows * width ≤ length b.old) }
-    ensures { (t : Tree Seen (one body_sort)) → BodyAt words.now body past t → Enters (ParamOf p) (λ q N D. array_param (plain N D) scope line t q) s result b.old b.new }
+    requires { SomeProc words.now p × Told words.now p.body 0 uses.now × (s.rows * width ≤ length b.old) }
+    ensures { (t : Tree Seen (one body_sort)) → BodyAt words.now p.body p.past t → Enters (ParamOf q) (λ x N D. array_param (plain N D) (p.name + 1) p.line t x) s result b.old b.new }
 {
-    if !p.array {
+    if !q.array {
         return s;
     }
-    let u = used(words, body, past, uses, p.name);
-    ranked(b, s, scope, line, p.name, u)
+    let u = used(words, p, uses, q);
+    ranked(b, s, p, q, u)
 }
 
 // All of them by notes of the first uses in the body; those that are no arrays are passed over.
-fn arrays_by(
-    words: &[u32],
-    b: &mut [u32],
-    s: Counts,
-    scope: u32,
-    line: u32,
-    body: usize,
-    past: usize,
-    from: usize,
-    count: u32,
-    uses: &[usize],
-) -> Counts
-    requires { SomeBody words.now body past × SomeParams words.now from count × (s.rows * width ≤ length b.old) × Told words.now body 0 uses.now }
-    ensures { (t : Tree Seen (one body_sort)) → BodyAt words.now body past t → Enters (ParamsAt words.now from count) (λ ps N D. each (array_param (plain N D) scope line t) ps) s result b.old b.new }
+fn arrays_by(words: &[u32], b: &mut [u32], s: Counts, p: ProcAt, uses: &[usize]) -> Counts
+    requires { SomeProc words.now p × Told words.now p.body 0 uses.now × (s.rows * width ≤ length b.old) }
+    ensures { (t : Tree Seen (one body_sort)) → BodyAt words.now p.body p.past t → Enters (ParamsAt words.now p.params p.count) (λ ps N D. each (array_param (plain N D) (p.name + 1) p.line t) ps) s result b.old b.new }
 {
     let mut c = s;
-    let mut at = from;
-    for _ in 0..count {
-        let p = param(words, at);
-        c = array_param(words, b, c, scope, line, body, past, uses, p);
-        at = p.next;
+    let mut at = p.params;
+    for _ in 0..p.count {
+        let q = param(words, at);
+        c = array_param(words, b, c, p, uses, q);
+        at = q.next;
     }
     c
 }
 
 // The same by one walk of the body, which notes the first uses of as many names as N words have room for.
-fn arrays_noted<const N: usize>(
-    words: &[u32],
-    b: &mut [u32],
-    s: Counts,
-    scope: u32,
-    line: u32,
-    body: usize,
-    past: usize,
-    from: usize,
-    count: u32,
-) -> Counts
-    requires { SomeBody words.now body past × SomeParams words.now from count × (s.rows * width ≤ length b.old) × (N ≤ 2048) }
-    ensures { (t : Tree Seen (one body_sort)) → BodyAt words.now body past t → Enters (ParamsAt words.now from count) (λ ps N D. each (array_param (plain N D) scope line t) ps) s result b.old b.new }
+fn arrays_noted<const N: usize>(words: &[u32], b: &mut [u32], s: Counts, p: ProcAt) -> Counts
+    requires { SomeProc words.now p × (s.rows * width ≤ length b.old) × (N ≤ 2048) }
+    ensures { (t : Tree Seen (one body_sort)) → BodyAt words.now p.body p.past t → Enters (ParamsAt words.now p.params p.count) (λ ps N D. each (array_param (plain N D) (p.name + 1) p.line t) ps) s result b.old b.new }
 {
     let mut uses = [0usize; N];
-    subscripts::first_uses(words, body, &mut uses, 0);
-    arrays_by(words, b, s, scope, line, body, past, from, count, &uses)
+    subscripts::first_uses(words, p.body, &mut uses, 0);
+    arrays_by(words, b, s, p, &uses)
 }
 
 // How many of the parameters are arrays.
-fn arrays(words: &[u32], from: usize, count: u32) -> u32
-    requires { SomeParams words.now from count }
+fn arrays(words: &[u32], p: ProcAt) -> u32
+    requires { SomeProc words.now p }
 {
     let mut n = 0;
-    let mut at = from;
-    for _ in 0..count {
-        let p = param(words, at);
-        n += entries::bit(p.array);
-        at = p.next;
+    let mut at = p.params;
+    for _ in 0..p.count {
+        let q = param(words, at);
+        n += entries::bit(q.array);
+        at = q.next;
     }
     n
 }
 
 // The array parameters: one walk for two or more, since the body may be long. `few` says that there are at most 64 strings, so that their names have numbers
 // below 64; a table of strings has at most 1,024, and a name has two words in the notes.
-fn array_params(
-    words: &[u32],
-    b: &mut [u32],
-    s: Counts,
-    scope: u32,
-    line: u32,
-    body: usize,
-    past: usize,
-    from: usize,
-    count: u32,
-    few: bool,
-) -> Counts
-    requires { SomeBody words.now body past × SomeParams words.now from count × (s.rows * width ≤ length b.old) }
-    ensures { (t : Tree Seen (one body_sort)) → BodyAt words.now body past t → Enters (ParamsAt words.now from count) (λ ps N D. each (array_param (plain N D) scope line t) ps) s result b.old b.new }
+fn array_params(words: &[u32], b: &mut [u32], s: Counts, p: ProcAt, few: bool) -> Counts
+    requires { SomeProc words.now p × (s.rows * width ≤ length b.old) }
+    ensures { (t : Tree Seen (one body_sort)) → BodyAt words.now p.body p.past t → Enters (ParamsAt words.now p.params p.count) (λ ps N D. each (array_param (plain N D) (p.name + 1) p.line t) ps) s result b.old b.new }
 {
-    if arrays(words, from, count) < 2 {
-        return arrays_by(words, b, s, scope, line, body, past, from, count, &[]);
+    if arrays(words, p) < 2 {
+        return arrays_by(words, b, s, p, &[]);
     }
     if few {
-        return arrays_noted::<128>(words, b, s, scope, line, body, past, from, count);
+        return arrays_noted::<128>(words, b, s, p);
     }
-    arrays_noted::<2048>(words, b, s, scope, line, body, past, from, count)
+    arrays_noted::<2048>(words, b, s, p)
 }
 
 // A record's TYPE must be there.
-fn undefined(b: &[u32], d: &mut [u32], s: Counts, line: u32, name: u32, ty: Typed) -> Counts
-    requires { (name < 16777216) × (ty.arg < 16777216) × Fit s (length b.now) (length d.old) }
-    ensures { Acts (λ t. (ty.head ≡ head_is t) × (ty.arg ≡ arg_is t)) (λ t N D. undefined_step (plain N D) t (λ x. param_undefined line name x)) s result b.now d.old b.now d.new }
+fn undefined(b: &[u32], d: &mut [u32], s: Counts, line: u32, q: ParamAt, ty: Typed) -> Counts
+    requires { (ty.arg < 16777216) × Fit s (length b.now) (length d.old) }
+    ensures { Acts (λ t. (ty.head ≡ head_is t) × (ty.arg ≡ arg_is t)) (λ t N D. undefined_step (plain N D) t (λ x. param_undefined line q.name x)) s result b.now d.old b.now d.new }
 {
     if ty.head != 45 {
         return s;
@@ -469,44 +405,35 @@ fn undefined(b: &[u32], d: &mut [u32], s: Counts, line: u32, name: u32, ty: Type
         count: s.rows,
     };
     let known = lookup::has(&rows, 130, ty.arg, 0);
-    steps::push_if(d, s, !known, 26, line, name + 1, ty.arg + 1, 0, 0)
+    steps::push_if(d, s, !known, 26, line, q.name + 1, ty.arg + 1, 0, 0)
 }
 
 // A parameter with an AS clause is a typed variable.
-fn typed_param(b: &mut [u32], d: &mut [u32], s: Counts, scope: u32, line: u32, p: ParamAt) -> Counts
-    requires { (p.name < 16777216) × (arg_word p.ty < 16777216) × Fit s (length b.old) (length d.old) }
-    ensures { Acts (ParamOf p) (λ q N D. typed_param (plain N D) scope line q) s result b.old d.old b.new d.new }
+fn typed_param(b: &mut [u32], d: &mut [u32], s: Counts, p: ProcAt, q: ParamAt) -> Counts
+    requires { Fit s (length b.old) (length d.old) }
+    ensures { Acts (ParamOf q) (λ x N D. typed_param (plain N D) (p.name + 1) p.line x) s result b.old d.old b.new d.new }
 {
-    if p.array {
+    if q.array {
         return s;
     }
-    let Some(ty) = p.ty else {
+    let Some(ty) = q.ty else {
         return s;
     };
-    let t = undefined(b, d, s, line, p.name, ty);
-    steps::enter(b, t, 134, p.name, scope, ty.head, ty.arg, 0, 0)
+    let t = undefined(b, d, s, p.line, q, ty);
+    steps::enter(b, t, 134, q.name, p.name + 1, ty.head, ty.arg, 0, 0)
 }
 
 // All of them, after all arrays.
-fn typed_params(
-    words: &[u32],
-    b: &mut [u32],
-    d: &mut [u32],
-    s: Counts,
-    scope: u32,
-    line: u32,
-    from: usize,
-    count: u32,
-) -> Counts
-    requires { SomeParams words.now from count × Fit s (length b.old) (length d.old) }
-    ensures { Acts (ParamsAt words.now from count) (λ ps N D. each (typed_param (plain N D) scope line) ps) s result b.old d.old b.new d.new }
+fn typed_params(words: &[u32], b: &mut [u32], d: &mut [u32], s: Counts, p: ProcAt) -> Counts
+    requires { SomeProc words.now p × Fit s (length b.old) (length d.old) }
+    ensures { Acts (ParamsAt words.now p.params p.count) (λ ps N D. each (typed_param (plain N D) (p.name + 1) p.line) ps) s result b.old d.old b.new d.new }
 {
     let mut c = s;
-    let mut at = from;
-    for _ in 0..count {
-        let p = param(words, at);
-        c = typed_param(b, d, c, scope, line, p);
-        at = p.next;
+    let mut at = p.params;
+    for _ in 0..p.count {
+        let q = param(words, at);
+        c = typed_param(b, d, c, p, q);
+        at = q.next;
     }
     c
 }
@@ -516,42 +443,27 @@ fn typed_params(
 // A procedure that was read. Its body's scope is its name plus 1.
 fn procedure(
     words: &[u32],
-    bytes: &[u8],
-    ends: &[u32],
+    strings: &Sound<'_>,
     b: &mut [u32],
     d: &mut [u32],
     s: Counts,
     scope: u32,
     p: ProcAt,
 ) -> Counts
-    requires { SomeProc words.now p × NameAt bytes.now ends.now p.name × (p.name < 1024) × Fit s (length b.old) (length d.old) }
-    ensures { Acts (ProcOf words.now p) (λ f N D. procedure_step (given (some N) (some D) bytes.now ends.now []) scope p.line f) s result b.old d.old b.new d.new }
+    requires { SomeProc words.now p × NameAt strings.now.bytes.now strings.now.ends.now p.name × Fit s (length b.old) (length d.old) }
+    ensures { Acts (ProcOf words.now p) (λ f N D. procedure_step (given (some N) (some D) strings.now.bytes.now strings.now.ends.now []) scope p.line f) s result b.old d.old b.new d.new }
 {
-    let s1 = before_entry(words, bytes, ends, b, d, s, scope, p);
+    let s1 = before_entry(words, strings, b, d, s, scope, p);
     let s2 = with_params(words, b, s1, p);
     let s3 = with_marks(b, s2, p);
-    let inner = p.name + 1;
-    let s4 = array_params(
-        words,
-        b,
-        s3,
-        inner,
-        p.line,
-        p.body,
-        p.past,
-        p.params,
-        p.count,
-        ends.len() <= 64,
-    );
-    typed_params(words, b, d, s4, inner, p.line, p.params, p.count)
+    let s4 = array_params(words, b, s3, p, strings.ends.len() <= 64);
+    typed_params(words, b, d, s4, p)
 }
 
 // A SUB. Which names are erased does not matter.
 pub fn sub(
-    words: &[u32],
-    names: &[u8],
-    bytes: &[u8],
-    ends: &[u32],
+    source: &Source<'_>,
+    strings: &Sound<'_>,
     b: &mut [u32],
     d: &mut [u32],
     s: Counts,
@@ -559,19 +471,17 @@ pub fn sub(
     at: usize,
     end: usize,
 ) -> Counts
-    requires { StmtTo names.now (length ends.now) sub_kind words.now at end × Named bytes.now ends.now names.now × (length ends.now ≤ 1024) × Fit s (length b.old) (length d.old) }
-    ensures { (erased : List ℕ) → Collects names.now (length ends.now) sub_kind words.now bytes.now ends.now erased scope at s result b.old d.old b.new d.new }
+    requires { StmtTo source.now.names.now (length strings.now.ends.now) sub_kind source.now.words.now at end × Named strings.now.bytes.now strings.now.ends.now source.now.names.now × (length strings.now.ends.now ≤ 1024) × Fit s (length b.old) (length d.old) }
+    ensures { (erased : List ℕ) → Collects source.now.names.now (length strings.now.ends.now) sub_kind source.now.words.now strings.now.bytes.now strings.now.ends.now erased scope at s result b.old d.old b.new d.new }
 {
-    let p = sub_at(words, names, ends.len() as u32, at, end);
-    procedure(words, bytes, ends, b, d, s, scope, p)
+    let p = sub_at(source, strings, at, end);
+    procedure(source.words, strings, b, d, s, scope, p)
 }
 
 // A FUNCTION, or a DEF FN. It differs from `sub` in how it is read, which is all that either has to say.
 pub fn function(
-    words: &[u32],
-    names: &[u8],
-    bytes: &[u8],
-    ends: &[u32],
+    source: &Source<'_>,
+    strings: &Sound<'_>,
     b: &mut [u32],
     d: &mut [u32],
     s: Counts,
@@ -579,9 +489,9 @@ pub fn function(
     at: usize,
     end: usize,
 ) -> Counts
-    requires { StmtTo names.now (length ends.now) function_kind words.now at end × Named bytes.now ends.now names.now × (length ends.now ≤ 1024) × Fit s (length b.old) (length d.old) }
-    ensures { (erased : List ℕ) → Collects names.now (length ends.now) function_kind words.now bytes.now ends.now erased scope at s result b.old d.old b.new d.new }
+    requires { StmtTo source.now.names.now (length strings.now.ends.now) function_kind source.now.words.now at end × Named strings.now.bytes.now strings.now.ends.now source.now.names.now × (length strings.now.ends.now ≤ 1024) × Fit s (length b.old) (length d.old) }
+    ensures { (erased : List ℕ) → Collects source.now.names.now (length strings.now.ends.now) function_kind source.now.words.now strings.now.bytes.now strings.now.ends.now erased scope at s result b.old d.old b.new d.new }
 {
-    let p = function_at(words, names, ends.len() as u32, at, end);
-    procedure(words, bytes, ends, b, d, s, scope, p)
+    let p = function_at(source, strings, at, end);
+    procedure(source.words, strings, b, d, s, scope, p)
 }

@@ -4,7 +4,6 @@ use mathlib.Core.Path.{◌≡◌, refl, sym, ap, ◌∙◌}
 use mathlib.Core.Bool.{Bool, true, false, ◌&&◌}
 use mathlib.Mathlib.Data.Bool.Basic.{and_elim_left, and_elim_right}
 use mathlib.Core.List.{List}
-use mathlib.Core.Logic.{◌⊎◌, inl, inr}
 use native.Mathlib.Omega.{arith}
 use native.Mathlib.Numerals.{add-one}
 use lib.ListN.{length, get_or, take, drop, drop_of_length-le}
@@ -43,40 +42,10 @@ node_err ws at g {m = Deep p} e q = rw (answer_deep g e q) refl
 -- ---- sizes
 
 module _ (bytes ends ws : List ℕ) where
-  -- too many bytes
-  pub bytes_over : 16384 < length bytes → sized_tree bytes ends ws ≡ false
-  unfolding sized_tree sized_strings
-  bytes_over p = and_false _ _ (and_false _ _ (lt-leb (length bytes) 16384 p))
-
-  -- too many strings
-  pub ends_over : length bytes ≤ 16384 → 1024 < length ends → sized_tree bytes ends ws ≡ false
-  unfolding sized_tree sized_strings
-  ends_over p q = and_false _ _ (and_true _ _ (le-leb (length bytes) 16384 p) ∙ lt-leb (length ends) 1024 q)
-
-  -- else the words decide
-  pub words_are : length bytes ≤ 16384 → length ends ≤ 1024 → sized_tree bytes ends ws ≡ leb (length ws) 8192
-  unfolding sized_tree sized_strings
-  words_are p q = and_true _ _ (and_true _ _ (le-leb (length bytes) 16384 p) ∙ le-leb (length ends) 1024 q)
-
-  -- too many bytes or too many strings
-  pub strings_over : (length bytes ≤ 16384) × (1024 < length ends) ⊎ (16384 < length bytes) → sized_tree bytes ends ws ≡ false
-  strings_over (inl p) = ends_over p.0 p.1
-  strings_over (inr p) = bytes_over p
-
   -- within the sizes there are at most 1,024 strings
   pub few_strings : sized_tree bytes ends ws ≡ true → length ends ≤ max_strings
   unfolding sized_tree sized_strings
   few_strings e = leb-true (length ends) 1024 (and_elim_right (leb (length bytes) 16384) _ (and_elim_left (sized_strings bytes ends) _ e))
-
-  -- what is too large for a tree is for a program
-  pub tree_over : (erased : List ℕ) → sized_tree bytes ends ws ≡ false → sized_program bytes ends ws erased ≡ false
-  unfolding sized_program
-  tree_over erased e = and_false _ _ e
-
-  -- else the erased names decide
-  pub erased_are : (erased : List ℕ) → sized_tree bytes ends ws ≡ true → sized_program bytes ends ws erased ≡ leb (length erased) 1024
-  unfolding sized_program
-  erased_are erased e = and_true _ _ e
 
   -- within the sizes of a program there are at most 1,024 strings
   pub few_strings' : (erased : List ℕ) → sized_program bytes ends ws erased ≡ true → length ends ≤ max_strings
@@ -88,10 +57,6 @@ module _ (bytes ends ws : List ℕ) where
 -- there is a mark for each string
 pub as_many : {bytes ends marks : List ℕ} → Names bytes ends marks → length ends ≤ max_strings → length ends ≡ length (take (length ends) marks)
 as_many {bytes} {ends} {marks} n p = sym (length-take-le (length ends) marks (omega (arith, n.long)))
-
--- so there are at most 1,024
-pub few_marks : {bytes ends marks : List ℕ} → Names bytes ends marks → length ends ≤ max_strings → length (take (length ends) marks) ≤ max_strings
-few_marks n p = omega (arith, as_many n p)
 
 -- ---- whole programs
 

@@ -1,7 +1,7 @@
 // Reads one statement or one expression at a place, and checks whole programs, with document 01's refusals.
 #![tactic(auto)]
 
-ghost use Rattle.std.specs.Prelude.{◌≡◌, true, List, ℕ, ◌+◌, ◌≤◌, length, get_or, drop};
+ghost use Rattle.std.specs.Prelude.{◌≡◌, true, ◌≤◌, length, get_or};
 ghost use Rattle.words.specs.Sizes.{max_strings};
 ghost use Rattle.tree.specs.Memo.{Keeps};
 ghost use Rattle.strings.specs.Table.{names_of};
@@ -12,6 +12,8 @@ ghost use Rattle.reader.specs.Reading.{statement_of, expression_of, told, moved_
 ghost use Rattle.reader.specs.Program.{erased_from, accepted_of, verdict, end_of, told as told_program};
 
 use expr::Cursor;
+use strings::{Sound, Strings};
+use tree::Source;
 use words::Refusal;
 
 // A node: its head word, its place, and the place past it.
@@ -23,11 +25,12 @@ pub struct Node {
 }
 
 // Whether a string table and a tree's words are within the sizes.
-pub fn sized_tree(bytes: &[u8], ends: &[u32], words: &[u32]) -> bool
-    ensures { result ≡ sized_tree_of bytes.now ends.now words.now }
+#[tactic(auto, unfolding(crate::specs::Sized::sized_tree, crate::specs::Sized::sized_strings))]
+pub fn sized_tree(strings: &Strings<'_>, words: &[u32]) -> bool
+    ensures { result ≡ sized_tree_of strings.now.bytes.now strings.now.ends.now words.now }
 {
-    bytes.len() <= words::MAX_BYTES
-        && ends.len() <= words::MAX_STRINGS
+    strings.bytes.len() <= words::MAX_BYTES
+        && strings.ends.len() <= words::MAX_STRINGS
         && words.len() <= words::MAX_WORDS
 }
 
@@ -51,43 +54,52 @@ fn passed(words: &[u32], at: usize, past: Cursor) -> Node
 
 // One statement, where the names' marks are known. (It and the next differ in the call alone; one function that takes the call as a closure would be longer by
 // the closure's promise.)
-fn statement_at(at: usize, words: &[u32], names: &[u8]) -> Result<Node, Refusal>
-    requires { length names.now ≤ max_strings }
-    ensures { told result ≡ statement_of names.now words.now at }
+fn statement_at(at: usize, source: &Source<'_>) -> Result<Node, Refusal>
+    ensures { told result ≡ statement_of source.now.names.now source.now.words.now at }
 {
-    let count = names.len() as u32;
-    let past = tree::stmt(Cursor { at }, words, names, count, words::MAX_DEPTH)?;
-    Ok(passed(words, at, past))
+    let past = tree::stmt(
+        Cursor { at },
+        source.words,
+        &source.marks(),
+        words::MAX_DEPTH,
+    )?;
+    Ok(passed(source.words, at, past))
 }
 
 // One expression, where the names' marks are known.
-fn expression_at(at: usize, words: &[u32], names: &[u8]) -> Result<Node, Refusal>
-    requires { length names.now ≤ max_strings }
-    ensures { told result ≡ expression_of names.now words.now at }
+fn expression_at(at: usize, source: &Source<'_>) -> Result<Node, Refusal>
+    ensures { told result ≡ expression_of source.now.names.now source.now.words.now at }
 {
-    let count = names.len() as u32;
-    let past = Cursor { at }.expr(words, names, count, words::MAX_DEPTH)?;
-    Ok(passed(words, at, past))
+    let past = Cursor { at }.expr(source.words, &source.marks(), words::MAX_DEPTH)?;
+    Ok(passed(source.words, at, past))
 }
 
 // How an entry begins, where it is known whether its sizes are right: the names' marks of a right string table.
-pub fn marks(sized: bool, bytes: &[u8], ends: &[u32]) -> Result<[u8; 1024], Refusal>
-    requires { sized ≡ true → length ends.now ≤ max_strings }
-    ensures { Begun sized bytes.now ends.now result }
+pub fn marks(sized: bool, strings: &Strings<'_>) -> Result<[u8; 1024], Refusal>
+    requires { sized ≡ true → length strings.now.ends.now ≤ max_strings }
+    ensures { Begun sized strings.now.bytes.now strings.now.ends.now result }
 {
     if !sized {
         return Err(Refusal::Size);
     }
-    strings::check(bytes, ends)?;
-    Ok(strings::names_of(bytes, ends))
+    strings::check(strings)?;
+    let sound = Sound {
+        bytes: strings.bytes,
+        ends: strings.ends,
+    };
+    Ok(strings::names_of(&sound))
 }
+
+// These entries take a string table as document 01 gives it, as bytes and ends; what stands behind them takes `Strings` and `Source`.
 
 // One statement at a place.
 pub fn read_statement(at: usize, bytes: &[u8], ends: &[u32], words: &[u32]) -> Result<Node, Refusal>
     ensures { Answers (sized_tree_of bytes.now ends.now words.now) bytes.now ends.now (told result) (statement_of (names_of bytes.now ends.now) words.now at) }
 {
-    let names = marks(sized_tree(bytes, ends, words), bytes, ends)?;
-    statement_at(at, words, &names[..ends.len()])
+    let strings = &Strings { bytes, ends };
+    let names = marks(sized_tree(strings, words), strings)?;
+    let names = &names[..ends.len()];
+    statement_at(at, &Source { words, names })
 }
 
 // One expression at a place.
@@ -99,8 +111,10 @@ pub fn read_expression(
 ) -> Result<Node, Refusal>
     ensures { Answers (sized_tree_of bytes.now ends.now words.now) bytes.now ends.now (told result) (expression_of (names_of bytes.now ends.now) words.now at) }
 {
-    let names = marks(sized_tree(bytes, ends, words), bytes, ends)?;
-    expression_at(at, words, &names[..ends.len()])
+    let strings = &Strings { bytes, ends };
+    let names = marks(sized_tree(strings, words), strings)?;
+    let names = &names[..ends.len()];
+    expression_at(at, &Source { words, names })
 }
 
 // A reading place.
@@ -162,52 +176,53 @@ fn erased_right(erased: &[u32], names: &[u8]) -> bool
 }
 
 // A program that was read up to `at`: whether that is all, and its erased names.
-fn whole(at: usize, words: &[u32], erased: &[u32], names: &[u8]) -> Result<(), Refusal>
-    ensures { told_program result ≡ end_of names.now words.now erased.now at }
+fn whole(at: usize, source: &Source<'_>, erased: &[u32]) -> Result<(), Refusal>
+    ensures { told_program result ≡ end_of source.now.names.now source.now.words.now erased.now at }
 {
-    if at != words.len() {
+    if at != source.words.len() {
         return Err(Refusal::Word(at));
     }
-    if !erased_right(erased, names) {
+    if !erased_right(erased, source.names) {
         return Err(Refusal::Erased);
     }
     Ok(())
 }
 
-// A program's words and erased names, where the names' marks are known.
-fn check_program(words: &[u32], erased: &[u32], names: &[u8]) -> Result<(), Refusal>
-    requires { length names.now ≤ max_strings }
-    ensures { told_program result ≡ verdict (accepted_of names.now words.now erased.now) }
+// A program's words and erased names, where the names' marks are known. (`source` and `erased` stay two here: joined with the strings they are
+// `collecting::Program`, and nothing here reads the strings; a struct for three functions would be no plainer.)
+fn check_program(source: &Source<'_>, erased: &[u32]) -> Result<(), Refusal>
+    ensures { told_program result ≡ verdict (accepted_of source.now.names.now source.now.words.now erased.now) }
 {
-    let end = tree::program(words, names, names.len() as u32)?;
-    whole(end.at, words, erased, names)
+    let end = tree::program(source.words, &source.marks())?;
+    whole(end.at, source, erased)
 }
 
 // The same, with the ends of the program's procedures noted in a memo.
 pub fn check_program_with(
-    words: &[u32],
+    source: &Source<'_>,
     erased: &[u32],
-    names: &[u8],
     memo: &mut [u32],
 ) -> Result<(), Refusal>
-    requires { length names.now ≤ max_strings }
-    ensures { (told_program result ≡ verdict (accepted_of names.now words.now erased.now)) × Keeps words.now names.now (length names.now) memo.old memo.new }
+    ensures { (told_program result ≡ verdict (accepted_of source.now.names.now source.now.words.now erased.now)) × Keeps source.now.words.now source.now.names.now (length source.now.names.now) memo.old memo.new }
 {
-    let end = tree::program_with(words, names, names.len() as u32, memo)?;
-    whole(end.at, words, erased, names)
+    let end = tree::program_with(source.words, &source.marks(), memo)?;
+    whole(end.at, source, erased)
 }
 
 // Whether a program is within the sizes.
-pub fn sized_program(bytes: &[u8], ends: &[u32], words: &[u32], erased: &[u32]) -> bool
-    ensures { result ≡ sized_program_of bytes.now ends.now words.now erased.now }
+#[tactic(auto, unfolding(crate::specs::Sized::sized_program))]
+pub fn sized_program(strings: &Strings<'_>, words: &[u32], erased: &[u32]) -> bool
+    ensures { result ≡ sized_program_of strings.now.bytes.now strings.now.ends.now words.now erased.now }
 {
-    sized_tree(bytes, ends, words) && erased.len() <= words::MAX_ERASED
+    sized_tree(strings, words) && erased.len() <= words::MAX_ERASED
 }
 
 // The check of a program with its strings and erased names.
 pub fn accept(bytes: &[u8], ends: &[u32], words: &[u32], erased: &[u32]) -> Result<(), Refusal>
     ensures { Answers (sized_program_of bytes.now ends.now words.now erased.now) bytes.now ends.now (told_program result) (verdict (accepted_of (names_of bytes.now ends.now) words.now erased.now)) }
 {
-    let names = marks(sized_program(bytes, ends, words, erased), bytes, ends)?;
-    check_program(words, erased, &names[..ends.len()])
+    let strings = &Strings { bytes, ends };
+    let names = marks(sized_program(strings, words, erased), strings)?;
+    let names = &names[..ends.len()];
+    check_program(&Source { words, names }, erased)
 }

@@ -1,8 +1,8 @@
 // Resolving over lent strings, words and rows, into a lent output. On a refusal the output stays as it came.
 #![tactic(auto)]
 
-ghost use Rattle.std.specs.Prelude.{◌≡◌, true, ◌&&◌, ℕ, ◌-◌, ◌≤◌, length};
-ghost use Rattle.words.specs.Sizes.{max_strings, max_depth};
+ghost use Rattle.std.specs.Prelude.{◌≡◌, ◌&&◌, ℕ, length};
+ghost use Rattle.words.specs.Sizes.{max_depth};
 ghost use Rattle.strings.specs.Table.{names_of};
 ghost use Rattle.expr.specs.Reader.{expr_at, list_at};
 ghost use Rattle.tree.specs.Tree.{strings as strings_of};
@@ -14,7 +14,10 @@ ghost use Rattle.reader.specs.Answered.{ReadTo};
 ghost use Rattle.resolution.specs.Inner.{Ruled};
 
 use expr::Cursor;
+use resolver::Spot;
+use strings::Strings;
 use table::Rows;
+use tree::Source;
 use words::Refusal;
 
 // The reading place past what was read, and how many words were written.
@@ -51,22 +54,23 @@ fn admits(names: &[u8], scope: u32, name: u32) -> bool
     lent::scope_ok(names, scope) && lent::is_name(names, name)
 }
 
-// The expression from `at` to `end`.
+// The expression from `at` to `end`. Source, rows and output stay three parameters here and below: only `ruled` reads the rows, and a struct with
+// the output would hold a `&mut`.
 fn expression(
-    words: &[u32],
-    names: &[u8],
+    source: &Source<'_>,
     rows: &[u32],
     scope: u32,
     at: usize,
     end: usize,
     out: &mut [u32],
 ) -> Result<Reached, Refusal>
-    requires { ReadTo (expr_at words.now (strings_of names.now (length names.now)) max_depth at) end × (length names.now ≤ max_strings) }
-    ensures { Tells result out.old out.new (resolve_expr_at names.now words.now rows.now (length out.old) scope at) }
+    requires { ReadTo (expr_at source.now.words.now (strings_of source.now.names.now (length source.now.names.now)) max_depth at) end }
+    ensures { Tells result out.old out.new (resolve_expr_at source.now.names.now source.now.words.now rows.now (length out.old) scope at) }
 {
-    let right = lent::scope_ok(names, scope);
-    let held = ruled(rows, names, right, end - at, out.len())?;
-    let past = resolver::resolve_expr(&words[at..end], &held, scope, out, 0, 0);
+    let right = lent::scope_ok(source.names, scope);
+    let held = ruled(rows, source.names, right, end - at, out.len())?;
+    let spot = Spot { at: 0, to: 0 };
+    let past = resolver::resolve_expr(&source.words[at..end], &held, scope, out, spot);
     Ok(Reached {
         end,
         count: past.to,
@@ -75,8 +79,7 @@ fn expression(
 
 // The list of expressions from `at` to `end`, as the arguments of a name.
 fn arguments(
-    words: &[u32],
-    names: &[u8],
+    source: &Source<'_>,
     rows: &[u32],
     scope: u32,
     name: u32,
@@ -84,14 +87,23 @@ fn arguments(
     end: usize,
     out: &mut [u32],
 ) -> Result<Reached, Refusal>
-    requires { ReadTo (list_at words.now (strings_of names.now (length names.now)) (λ (x : ℕ). expr_at words.now (strings_of names.now (length names.now)) max_depth x) at) end × (length names.now ≤ max_strings) }
-    ensures { Tells result out.old out.new (resolve_args_at names.now words.now rows.now (length out.old) scope name at) }
+    requires { ReadTo (list_at source.now.words.now (strings_of source.now.names.now (length source.now.names.now)) (λ (x : ℕ). expr_at source.now.words.now (strings_of source.now.names.now (length source.now.names.now)) max_depth x) at) end }
+    ensures { Tells result out.old out.new (resolve_args_at source.now.names.now source.now.words.now rows.now (length out.old) scope name at) }
 {
-    let right = admits(names, scope, name);
-    let held = ruled(rows, names, right, end - at, out.len())?;
-    let w = words[at];
+    let right = admits(source.names, scope, name);
+    let held = ruled(rows, source.names, right, end - at, out.len())?;
+    let w = source.words[at];
     out[0] = w;
-    let past = resolver::resolve_args(&words[at..end], &held, scope, out, 1, 1, name, w % 16777216);
+    let spot = Spot { at: 1, to: 1 };
+    let past = resolver::resolve_args(
+        &source.words[at..end],
+        &held,
+        scope,
+        out,
+        spot,
+        name,
+        w % 16777216,
+    );
     Ok(Reached {
         end,
         count: past.to,
@@ -99,69 +111,59 @@ fn arguments(
 }
 
 // The whole tree, which ends with the words.
-fn program(words: &[u32], names: &[u8], rows: &[u32], out: &mut [u32]) -> Result<Reached, Refusal>
-    requires { ReadTo (program_at words.now names.now (length names.now)) (length words.now) × (length names.now ≤ max_strings) }
-    ensures { Tells result out.old out.new (resolve_all names.now words.now rows.now (length out.old)) }
+fn program(source: &Source<'_>, rows: &[u32], out: &mut [u32]) -> Result<Reached, Refusal>
+    requires { ReadTo (program_at source.now.words.now source.now.names.now (length source.now.names.now)) (length source.now.words.now) }
+    ensures { Tells result out.old out.new (resolve_all source.now.names.now source.now.words.now rows.now (length out.old)) }
 {
-    let held = ruled(rows, names, true, words.len(), out.len())?;
-    let count = accesses::resolve_array_accesses(words, names, &held, out);
+    let held = ruled(rows, source.names, true, source.words.len(), out.len())?;
+    let count = accesses::resolve_array_accesses(source, &held, out);
     Ok(Reached {
-        end: words.len(),
+        end: source.words.len(),
         count,
     })
 }
 
 // The expression at `at`.
 fn expression_at(
-    words: &[u32],
-    names: &[u8],
+    source: &Source<'_>,
     rows: &[u32],
     scope: u32,
     at: usize,
     out: &mut [u32],
 ) -> Result<Reached, Refusal>
-    requires { length names.now ≤ max_strings }
-    ensures { Tells result out.old out.new (resolve_expr_at names.now words.now rows.now (length out.old) scope at) }
+    ensures { Tells result out.old out.new (resolve_expr_at source.now.names.now source.now.words.now rows.now (length out.old) scope at) }
 {
-    let past = Cursor { at }.expr(words, names, names.len() as u32, words::MAX_DEPTH)?;
-    expression(words, names, rows, scope, at, past.at, out)
+    let past = Cursor { at }.expr(source.words, &source.marks(), words::MAX_DEPTH)?;
+    expression(source, rows, scope, at, past.at, out)
 }
 
 // The list of expressions at `at`, as the arguments of a name.
 fn arguments_at(
-    words: &[u32],
-    names: &[u8],
+    source: &Source<'_>,
     rows: &[u32],
     scope: u32,
     name: u32,
     at: usize,
     out: &mut [u32],
 ) -> Result<Reached, Refusal>
-    requires { length names.now ≤ max_strings }
-    ensures { Tells result out.old out.new (resolve_args_at names.now words.now rows.now (length out.old) scope name at) }
+    ensures { Tells result out.old out.new (resolve_args_at source.now.names.now source.now.words.now rows.now (length out.old) scope name at) }
 {
-    let past = Cursor { at }.list(words, names, names.len() as u32, words::MAX_DEPTH)?;
-    arguments(words, names, rows, scope, name, at, past.at, out)
+    let past = Cursor { at }.list(source.words, &source.marks(), words::MAX_DEPTH)?;
+    arguments(source, rows, scope, name, at, past.at, out)
 }
 
 // The whole tree.
-fn program_at(
-    words: &[u32],
-    names: &[u8],
-    rows: &[u32],
-    out: &mut [u32],
-) -> Result<Reached, Refusal>
-    requires { length names.now ≤ max_strings }
-    ensures { Tells result out.old out.new (resolve_all names.now words.now rows.now (length out.old)) }
+fn program_at(source: &Source<'_>, rows: &[u32], out: &mut [u32]) -> Result<Reached, Refusal>
+    ensures { Tells result out.old out.new (resolve_all source.now.names.now source.now.words.now rows.now (length out.old)) }
 {
-    let past = tree::program(words, names, names.len() as u32)?;
-    if past.at != words.len() {
+    let past = tree::program(source.words, &source.marks())?;
+    if past.at != source.words.len() {
         return Err(Refusal::Word(past.at));
     }
-    program(words, names, rows, out)
+    program(source, rows, out)
 }
 
-// Resolves the expression at a place, in a scope.
+// Resolves the expression at a place, in a scope. The entries take what is lent slice by slice, as docs/ENTRIES.md lists it.
 pub fn resolve_expr(
     bytes: &[u8],
     ends: &[u32],
@@ -173,8 +175,11 @@ pub fn resolve_expr(
 ) -> Result<Reached, Refusal>
     ensures { Rewrites (sized_tree bytes.now ends.now words.now) bytes.now ends.now result out.old out.new (resolve_expr_at (names_of bytes.now ends.now) words.now rows.now (length out.old) scope at) }
 {
-    let names = reader::marks(reader::sized_tree(bytes, ends, words), bytes, ends)?;
-    expression_at(words, &names[..ends.len()], rows, scope, at, out)
+    let strings = &Strings { bytes, ends };
+    let names = reader::marks(reader::sized_tree(strings, words), strings)?;
+    let names = &names[..ends.len()];
+    let source = &Source { words, names };
+    expression_at(source, rows, scope, at, out)
 }
 
 // Resolves the list of expressions at a place, as the arguments of a name.
@@ -190,8 +195,11 @@ pub fn resolve_args(
 ) -> Result<Reached, Refusal>
     ensures { Rewrites (sized_tree bytes.now ends.now words.now) bytes.now ends.now result out.old out.new (resolve_args_at (names_of bytes.now ends.now) words.now rows.now (length out.old) scope name at) }
 {
-    let names = reader::marks(reader::sized_tree(bytes, ends, words), bytes, ends)?;
-    arguments_at(words, &names[..ends.len()], rows, scope, name, at, out)
+    let strings = &Strings { bytes, ends };
+    let names = reader::marks(reader::sized_tree(strings, words), strings)?;
+    let names = &names[..ends.len()];
+    let source = &Source { words, names };
+    arguments_at(source, rows, scope, name, at, out)
 }
 
 // Resolves the whole tree.
@@ -204,6 +212,9 @@ pub fn resolve_array_accesses(
 ) -> Result<Reached, Refusal>
     ensures { Rewrites (sized_tree bytes.now ends.now words.now) bytes.now ends.now result out.old out.new (resolve_all (names_of bytes.now ends.now) words.now rows.now (length out.old)) }
 {
-    let names = reader::marks(reader::sized_tree(bytes, ends, words), bytes, ends)?;
-    program_at(words, &names[..ends.len()], rows, out)
+    let strings = &Strings { bytes, ends };
+    let names = reader::marks(reader::sized_tree(strings, words), strings)?;
+    let names = &names[..ends.len()];
+    let source = &Source { words, names };
+    program_at(source, rows, out)
 }

@@ -1,4 +1,5 @@
-// What resolving asks of the rows: whether an argument keeps its pair of parentheses, and whether a call is an element.
+// What resolving asks of the rows: whether an argument keeps its pair of parentheses, and whether a call is an element. A scope and a name are numbers
+// with their bounds as clauses: callers have them as the payload of a word, and a type for them would be made at each call and opened at each key.
 #![tactic(auto)]
 
 ghost use Rattle.std.specs.Prelude.{◌≡◌, List, ◌≤◌, ◌<◌};

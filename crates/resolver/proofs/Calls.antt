@@ -117,14 +117,14 @@ pair_done {ws} {buf} {out} {last} {count} {scope} q d = record {
 -- ---- a call
 
 -- its arguments may be resolved, after its first three words
-pub ready_call : {ws buf : List ℕ} {count scope at to size size' : ℕ} → Ready ws buf count scope at to size → kind_of (get_or ws at 0) ≡ 21 → size' ≡ size → ReadyAll ws buf count scope (at + 3) (to + 3) size' (pay_of (get_or ws (at + 2) 0))
-ready_call r q z =
+pub ready_call : {ws buf : List ℕ} {count scope at to size size' a t : ℕ} → Ready ws buf count scope at to size → kind_of (get_or ws at 0) ≡ 21 → size' ≡ size → a ≡ at + 3 → t ≡ to + 3 → ReadyAll ws buf count scope a t size' (pay_of (get_or ws (at + 2) 0))
+ready_call r q z x y =
     let C = (in_call q r.some.stands).parts in
     record {
       strings = r.some.strings;
       trees = C.args;
       end = r.some.end;
-      stands = C.there;
+      stands = rw x C.there;
       counted = many_is C;
       room = record { rows = r.room.rows; holds = r.room.holds; held = r.room.held; scoped = r.room.scoped; behind = omega (arith, r.room.behind); fits = omega (arith, r.room.fits) };
     }
@@ -136,8 +136,8 @@ call_room {ws} {at = at} r q =
     (l, omega (arith, r.room.behind, r.room.fits))
 
 -- its head by the rows, its name and list's head copied, its arguments resolved: the call is
-pub call_done : {ws buf out mid last : List ℕ} {count scope at to a t h : ℕ} → kind_of (get_or ws at 0) ≡ 21 → ((rows : List Row) → Holds rows count buf → h ≡ word_of (pick (element (tables_of rows) scope (pay_of (get_or ws (at + 1) 0))) 18 21) 0) → mid ≡ sets out to (h ∷ get_or ws (at + 1) 0 ∷ get_or ws (at + 2) 0 ∷ []) → ResolvedArgs (pay_of (get_or ws (at + 1) 0)) (pay_of (get_or ws (at + 2) 0)) ws buf mid last count scope (at + 3) (to + 3) a t → Resolved ws buf out last count scope at to a t
-call_done {ws} {buf} {out} {mid} {last} {count} {scope} {at} {to} {a} {t} {h} q hh b d = record { gives = λ rows H n e end s. go rows H n e end s }
+pub call_done : {ws buf out mid last : List ℕ} {count scope at to a₀ t₀ a t h : ℕ} → kind_of (get_or ws at 0) ≡ 21 → ((rows : List Row) → Holds rows count buf → h ≡ word_of (pick (element (tables_of rows) scope (pay_of (get_or ws (at + 1) 0))) 18 21) 0) → (a₀ ≡ at + 3) × (t₀ ≡ to + 3) × (mid ≡ sets out to (h ∷ get_or ws (at + 1) 0 ∷ get_or ws (at + 2) 0 ∷ [])) → ResolvedArgs (pay_of (get_or ws (at + 1) 0)) (pay_of (get_or ws (at + 2) 0)) ws buf mid last count scope a₀ t₀ a t → Resolved ws buf out last count scope at to a t
+call_done {ws} {buf} {out} {mid} {last} {count} {scope} {at} {to} {a₀} {t₀} {a} {t} {h} q hh b d = record { gives = λ rows H n e end s. go rows H n e end s }
   where
     go : (rows : List Row) → Holds rows count buf → (n : Strings) (e : Expr) (end : ℕ) → Stands ws n at e end → Put (words (resolve_expr (tables_of rows) scope e)) out last to a t end
     go rows H n e end s =
@@ -146,17 +146,17 @@ call_done {ws} {buf} {out} {mid} {last} {count} {scope} {at} {to} {a} {t} {h} q 
         let T : Tables = tables_of rows in
         let f : ℕ = C.name in
         let name : pay_of (get_or ws (at + 1) 0) ≡ f = name_is C in
-        let args = d.gives rows H n C.args end C.there (many_is C) in
+        let args = d.gives rows H n C.args end (rw b.0 C.there) (many_is C) in
         let y : List ℕ = words_all (resolve_args T scope (places T f) C.args) in
         let yy : words_all (resolve_args T scope (places T (pay_of (get_or ws (at + 1) 0))) C.args) ≡ y = ap (λ (g : ℕ). words_all (resolve_args T scope (places T g) C.args)) name in
         let head : h ≡ word_of (pick (element T scope f) 18 21) 0 = hh rows H ∙ ap (λ (g : ℕ). word_of (pick (element T scope g) 18 21) 0) name in
         let x : List ℕ = word_of (pick (element T scope f) 18 21) 0 ∷ word_of 2 f ∷ word_of 1 (many C.args) ∷ [] in
-        let xx : mid ≡ sets out to x = b ∙ ap (λ (g : ℕ). sets out to (g ∷ get_or ws (at + 1) 0 ∷ get_or ws (at + 2) 0 ∷ [])) head ∙ ap₂ (λ (g l : ℕ). sets out to (word_of (pick (element T scope f) 18 21) 0 ∷ g ∷ l ∷ [])) C.called C.listed in
+        let xx : mid ≡ sets out to x = b.2 ∙ ap (λ (g : ℕ). sets out to (g ∷ get_or ws (at + 1) 0 ∷ get_or ws (at + 2) 0 ∷ [])) head ∙ ap₂ (λ (g l : ℕ). sets out to (word_of (pick (element T scope f) 18 21) 0 ∷ g ∷ l ∷ [])) C.called C.listed in
         let whole : words (resolve_expr T scope e) ≡ x ++ y = ap (λ (g : Expr). words (resolve_expr T scope g)) I.is ∙ call_words T scope f C.args in
         record {
           past = args.past;
-          upto = rw whole (simp length-append (omega (arith, args.upto, ap length yy)));
-          now = rw whole (args.now ∙ ap (λ (l : List ℕ). sets mid (to + 3) l) yy ∙ ap (λ (l : List ℕ). sets l (to + 3) y) xx ∙ sym (sets_append x y out to));
+          upto = rw whole (simp length-append (omega (arith, b.1, args.upto, ap length yy)));
+          now = rw whole (args.now ∙ ap₂ (λ (j : ℕ) (l : List ℕ). sets mid j l) b.1 yy ∙ ap (λ (l : List ℕ). sets l (to + 3) y) xx ∙ sym (sets_append x y out to));
         }
 
 -- ---- any other node

@@ -1,14 +1,15 @@
-// Resolves expressions over flat words, into a lent output.
+// Resolves expressions over flat words, into a lent output. Words, rows, scope and output stay parameters of their own: callers have them apart,
+// and would make a struct of them at each call.
 #![tactic(auto)]
 
 ghost use Rattle.std.specs.Prelude.{◌≡◌, List, [], ◌∷◌, ◌+◌, ◌≤◌, ◌<◌, length, take, drop, get_or};
 ghost use Rattle.std.proofs.lemmas.List.Edits.{sets};
-ghost use Rattle.words.specs.Word.{word_of, kind_of, pick};
+ghost use Rattle.words.specs.Word.{word_of, pick};
 ghost use Rattle.table.specs.Rows.{Row};
 ghost use Rattle.table.specs.Answers.{HeldIn};
 ghost use Rattle.resolve.specs.Tables.{Tables, places, element};
 ghost use Rattle.resolve.specs.FromRows.{tables_of};
-ghost use Rattle.resolver.specs.Post.{Room, Some, Ready, ReadyAll, Resolved, ResolvedArgs, Paired};
+ghost use Rattle.resolver.specs.Post.{Some, Ready, ReadyAll, Resolved, ResolvedArgs, Paired};
 
 use table::Rows;
 
@@ -20,24 +21,24 @@ pub struct Spot {
 }
 
 // Copies n words, a node's own: they are few, and a call for each node that moves memory would cost more than the loop.
-fn copy(words: &[u32], out: &mut [u32], at: usize, to: usize, n: usize)
-    requires { (at + n ≤ length words.now) × (to + n ≤ length out.old) }
-    ensures { out.new ≡ sets out.old to (take n (drop at words.now)) }
+fn copy(words: &[u32], out: &mut [u32], spot: Spot, n: usize)
+    requires { (spot.at + n ≤ length words.now) × (spot.to + n ≤ length out.old) }
+    ensures { out.new ≡ sets out.old spot.to (take n (drop spot.at words.now)) }
 {
     for i in 0..n {
-        out[to + i] = words[at + i];
+        out[spot.to + i] = words[spot.at + i];
     }
 }
 
 // Copies n words, and tells the places past them.
-fn copied(words: &[u32], out: &mut [u32], at: usize, to: usize, n: usize) -> Spot
-    requires { (at + n ≤ length words.now) × (to + n ≤ length out.old) }
-    ensures { (result.at ≡ at + n) × (result.to ≡ to + n) × (out.new ≡ sets out.old to (take n (drop at words.now))) }
+fn copied(words: &[u32], out: &mut [u32], spot: Spot, n: usize) -> Spot
+    requires { (spot.at + n ≤ length words.now) × (spot.to + n ≤ length out.old) }
+    ensures { (result.at ≡ spot.at + n) × (result.to ≡ spot.to + n) × (out.new ≡ sets out.old spot.to (take n (drop spot.at words.now))) }
 {
-    copy(words, out, at, to, n);
+    copy(words, out, spot, n);
     Spot {
-        at: at + n,
-        to: to + n,
+        at: spot.at + n,
+        to: spot.to + n,
     }
 }
 
@@ -48,7 +49,8 @@ pub fn headed(element: bool) -> u32
     if element { 0x12000000 } else { 0x15000000 }
 }
 
-// The head of a call of f: an element's where it is one.
+// The head of a call of f: an element's where it is one. (That f fits a payload is asked here and twice below: a type of its own would be taken
+// apart at each look-up.)
 fn head(rows: &Rows<'_>, scope: u32, f: u32) -> u32
     requires { (scope ≤ 16777216) × (f < 16777216) }
     ensures { (rs : List Row) → HeldIn rs rows.now → result ≡ word_of (pick (element (tables_of rs) scope f) 18 21) 0 }
@@ -56,32 +58,28 @@ fn head(rows: &Rows<'_>, scope: u32, f: u32) -> u32
     headed(resolve::is_element(rows, scope, f))
 }
 
-// Writes the head h, and the name and the list's head of the call at `at` as they are.
-pub fn begin(words: &[u32], out: &mut [u32], at: usize, to: usize, h: u32)
-    requires { (at + 3 ≤ length words.now) × (to + 3 ≤ length out.old) }
-    ensures { out.new ≡ sets out.old to (h ∷ get_or words.now (at + 1) 0 ∷ get_or words.now (at + 2) 0 ∷ []) }
+// Writes the head h, and the two words after the first at `at` as they are, of a call its name and its list's head. Tells the places past them.
+pub fn begin(words: &[u32], out: &mut [u32], spot: Spot, h: u32) -> Spot
+    requires { (spot.at + 3 ≤ length words.now) × (spot.to + 3 ≤ length out.old) }
+    ensures { (result.at ≡ spot.at + 3) × (result.to ≡ spot.to + 3) × (out.new ≡ sets out.old spot.to (h ∷ get_or words.now (spot.at + 1) 0 ∷ get_or words.now (spot.at + 2) 0 ∷ [])) }
 {
-    out[to] = h;
-    out[to + 1] = words[at + 1];
-    out[to + 2] = words[at + 2];
+    out[spot.to] = h;
+    out[spot.to + 1] = words[spot.at + 1];
+    out[spot.to + 2] = words[spot.at + 2];
+    Spot {
+        at: spot.at + 3,
+        to: spot.to + 3,
+    }
 }
 
 // Writes the pair of parentheses of the argument at `at`, at position i of f, if it keeps it; answers how many words that is:
 // a count, which is added to two places.
-fn pair(
-    words: &[u32],
-    rows: &Rows<'_>,
-    out: &mut [u32],
-    at: usize,
-    to: usize,
-    f: u32,
-    i: u32,
-) -> usize
-    requires { Some words.now at × (to < length out.old) × (f < 16777216) }
-    ensures { Paired (λ (T : Tables). places T f i) words.now rows.now.words.now out.old out.new rows.now.count at to result }
+fn pair(words: &[u32], rows: &Rows<'_>, out: &mut [u32], spot: Spot, f: u32, i: u32) -> usize
+    requires { Some words.now spot.at × (spot.to < length out.old) × (f < 16777216) }
+    ensures { Paired (λ (T : Tables). places T f i) words.now rows.now.words.now out.old out.new rows.now.count spot.at spot.to result }
 {
-    if words[at] / 16777216 == 23 && resolve::by_ref(rows, f, i) {
-        out[to] = 0x17000000;
+    if words[spot.at] / 16777216 == 23 && resolve::by_ref(rows, f, i) {
+        out[spot.to] = 0x17000000;
         return 1;
     }
     0
@@ -89,34 +87,31 @@ fn pair(
 
 // Resolves the expression at `at` into `out` from `to` on.
 #[cycle(resolve_args_resolve_expr)]
-pub fn resolve_expr(
-    words: &[u32],
-    rows: &Rows<'_>,
-    scope: u32,
-    out: &mut [u32],
-    at: usize,
-    to: usize,
-) -> Spot
-    requires { Ready words.now rows.now.words.now rows.now.count scope at to (length out.old) }
-    ensures { Resolved words.now rows.now.words.now out.old out.new rows.now.count scope at to result.at result.to }
+pub fn resolve_expr(words: &[u32], rows: &Rows<'_>, scope: u32, out: &mut [u32], spot: Spot) -> Spot
+    requires { Ready words.now rows.now.words.now rows.now.count scope spot.at spot.to (length out.old) }
+    ensures { Resolved words.now rows.now.words.now out.old out.new rows.now.count scope spot.at spot.to result.at result.to }
 {
-    let kind = words[at] / 16777216;
+    let kind = words[spot.at] / 16777216;
     // only grouping
     if kind == 23 {
-        return resolve_expr(words, rows, scope, out, at + 1, to);
+        let inner = Spot {
+            at: spot.at + 1,
+            to: spot.to,
+        };
+        return resolve_expr(words, rows, scope, out, inner);
     }
     if kind == 21 {
-        let f = words[at + 1] % 16777216;
-        let n = words[at + 2] % 16777216;
-        begin(words, out, at, to, head(rows, scope, f));
-        return resolve_args(words, rows, scope, out, at + 3, to + 3, f, n);
+        let f = words[spot.at + 1] % 16777216;
+        let n = words[spot.at + 2] % 16777216;
+        let first = begin(words, out, spot, head(rows, scope, f));
+        return resolve_args(words, rows, scope, out, first, f, n);
     }
-    let s = skip::shape_at(words, at);
-    let mut spot = copied(words, out, at, to, s.front);
+    let s = skip::shape_at(words, spot.at);
+    let mut next = copied(words, out, spot, s.front);
     for _ in 0..s.children {
-        spot = resolve_expr(words, rows, scope, out, spot.at, spot.to);
+        next = resolve_expr(words, rows, scope, out, next);
     }
-    copied(words, out, spot.at, spot.to, s.back)
+    copied(words, out, next, s.back)
 }
 
 // Resolves the n arguments of a call of f, one in parentheses keeping one pair where its parameter is by reference.
@@ -126,18 +121,21 @@ pub fn resolve_args(
     rows: &Rows<'_>,
     scope: u32,
     out: &mut [u32],
-    at: usize,
-    to: usize,
+    spot: Spot,
     f: u32,
     n: u32,
 ) -> Spot
-    requires { ReadyAll words.now rows.now.words.now rows.now.count scope at to (length out.old) n × (f < 16777216) }
-    ensures { ResolvedArgs f n words.now rows.now.words.now out.old out.new rows.now.count scope at to result.at result.to }
+    requires { ReadyAll words.now rows.now.words.now rows.now.count scope spot.at spot.to (length out.old) n × (f < 16777216) }
+    ensures { ResolvedArgs f n words.now rows.now.words.now out.old out.new rows.now.count scope spot.at spot.to result.at result.to }
 {
-    let mut spot = Spot { at, to };
+    let mut next = spot;
     for i in 0..n {
-        let h = pair(words, rows, out, spot.at, spot.to, f, i);
-        spot = resolve_expr(words, rows, scope, out, spot.at + h, spot.to + h);
+        let h = pair(words, rows, out, next, f, i);
+        let argument = Spot {
+            at: next.at + h,
+            to: next.to + h,
+        };
+        next = resolve_expr(words, rows, scope, out, argument);
     }
-    spot
+    next
 }

@@ -1,6 +1,7 @@
 // Rows that are entered in any order. The buffer has two runs, one after the other: new rows go into the late one, so that at most 31 rows move, and
 // when it has 32 rows the two are made one. The first has whole blocks of 16 rows, all of them or all but one: so a few rows can be taken out and
-// entered again, however many there are in all, without the runs being made one each time.
+// entered again, however many there are in all, without the runs being made one each time. `b` and `count`, and `lo` and `hi`, stay two parameters, as in
+// crate `table`.
 #![tactic(auto)]
 
 ghost use Rattle.std.specs.Prelude.{◌≡◌, List, ℕ, ◌+◌, ◌*◌, ◌≤◌, length, ltb};
@@ -140,8 +141,8 @@ pub fn settle(b: &mut [u32], count: usize)
 }
 
 // Puts the row into the late run, in the place of the one there with its key; none of the first m rows has it.
-fn put_late(b: &mut [u32], m: usize, count: usize, row: &[u32]) -> Option<usize>
-    requires { (count * width ≤ length b.old) × (m ≤ count) × (length row.now ≡ width) }
+fn put_late(b: &mut [u32], m: usize, count: usize, row: &[u32; WIDTH]) -> Option<usize>
+    requires { (count * width ≤ length b.old) × (m ≤ count) }
     ensures room { Fit width (length b.old) result }
     ensures after { (rows : List Row) (P : Parted rows m count b.old) → Near m count → find_row (key row.now) P.first ≡ none
         → PutIn (insert_row row.now rows) (length b.old) result b.new }
@@ -165,8 +166,8 @@ fn find_old(rows: &Rows<'_>, k: u64) -> Option<usize>
 }
 
 // Puts the row in, in the place of the one with its key where there is one.
-pub fn insert(b: &mut [u32], count: usize, row: &[u32]) -> Option<usize>
-    requires { (count * width ≤ length b.old) × (length row.now ≡ width) }
+pub fn insert(b: &mut [u32], count: usize, row: &[u32; WIDTH]) -> Option<usize>
+    requires { count * width ≤ length b.old }
     ensures room { Fit width (length b.old) result }
     ensures after { (rows : List Row) → Keeps rows count b.old → PutIn (insert_row row.now rows) (length b.old) result b.new }
 {

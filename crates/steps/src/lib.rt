@@ -1,6 +1,7 @@
 // Steps of collecting on two lent buffers, rows and diagnostics. Each gives the counts unchanged once the run is stopped, so that code over them
 // is a straight line, as its definition is. What is done is said for every state that the buffers hold. Kinds of rows and codes of diagnostics are numbers, as document 01
-// numbers them: the functions take any of them.
+// numbers them: the functions take any of them. `b`, `d` and the counts stay parameters, and that rows and diagnostics fit stays a clause: the buffers are written, and
+// this kit has no ghost field beside a `&mut` field.
 #![tactic(auto)]
 
 ghost use Rattle.std.specs.Prelude.{◌≡◌, true, List, [], ◌∷◌, ℕ, ◌+◌, ◌*◌, ◌≤◌, ◌<◌, length};

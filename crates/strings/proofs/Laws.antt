@@ -8,8 +8,8 @@ use native.Mathlib.Nat.{eq-or-lt_of_le}
 use mathlib.Core.List.{List, [], ◌∷◌, ◌++◌}
 use native.Mathlib.Omega.{arith}
 use native.Mathlib.Numerals.{add-one}
-use lib.ListN.{length, get_or, take, drop, drop_of_length-le, length-append, length-drop}
-use lib.Seq.{drop-cons, take_at}
+use lib.ListN.{length, get_or, take, drop, drop_of_length-le, length-append}
+use lib.Seq.{drop-cons}
 use lib.Dec.{leb, eqb}
 use borrow.Author.Tests.{lt-ltb, eq-eqb, ne_eqb, leb-true, eqb-true}
 use Rattle.std.specs.List.{list_all}
@@ -17,7 +17,7 @@ use Rattle.words.specs.Word.{pick}
 use Rattle.std.specs.Ordering.{is_lt, nat_cmp}
 use Rattle.strings.specs.Order.{order}
 use Rattle.strings.specs.Name.{between, inner, suffix, rest, is_name}
-use Rattle.strings.specs.Table.{Names, part, start_of, string_at, all_printable, end_right, rises, last_right, right_at, is_plain, all_below, sound, breaks_at, marks_below, names_of}
+use Rattle.strings.specs.Table.{part, start_of, string_at, all_printable, end_right, rises, last_right, right_at, is_plain, all_below, sound, breaks_at, marks_below, names_of}
 use Rattle.strings.specs.Open.{Said, verdict_of}
 use Rattle.std.specs.declared.cmp.Ordering.{Ordering}
 use Rattle.std.specs.Cmp.Lexicographic.{slice_cmp}
@@ -259,13 +259,3 @@ is_sound e = record { at = 0; place = λ f. absurd (false≢true (sym f ∙ e));
 pub is_broken : {bytes ends : List ℕ} {i : ℕ} → (sound bytes ends ≡ false) × (breaks_at bytes ends i ≡ true) → Said bytes ends (Err (record { string = i }))
 unfolding verdict_of
 is_broken {i} e = record { at = i; place = λ f. e.1; is = rw e.0 refl }
-
--- an array of 1,024 that begins with the marks
-pub names_made : {bytes ends x : List ℕ} (r : List ℕ) → x ≡ names_of bytes ends → length r ≡ 1024 → length ends ≤ 1024 → Names bytes ends (x ++ drop (length ends) r)
-unfolding names_of
-names_made {bytes} {ends} {x} r e p q =
-    let n : length x ≡ length ends = ap length e ∙ marks_length bytes ends (length ends) in
-    record {
-      long = length-append x _ ∙ rw (n, length-drop) (omega arith);
-      first = take_at x (drop (length ends) r) (length ends) n ∙ e;
-    }

@@ -1,15 +1,19 @@
 // The string table: its rule, the order of strings, names.
 #![tactic(auto)]
 
-ghost use Rattle.std.specs.Prelude.{◌≡◌, true, ◌||◌, ◌&&◌, ℕ, ◌+◌, ◌<◌, ◌≤◌, length, drop, get_or};
-ghost use Rattle.words.specs.Word.{pick};
+ghost use Rattle.std.specs.Prelude.{◌≡◌, ◌&&◌, ◌<◌, ◌≤◌, length, get_or};
 ghost use Rattle.words.specs.Sizes.{max_strings};
 ghost use Rattle.strings.specs.Order.{order};
 ghost use Rattle.strings.specs.Name.{between, inner, suffix, rest, is_name};
-ghost use Rattle.strings.specs.Table.{start_of, part, all_printable, rises as rises_of, last_right, right_at, sound, is_plain, names_of, Reached, Bounds, Names};
+ghost use Rattle.strings.specs.Table.{start_of, part, all_printable, rises as rises_of, last_right, right_at, is_plain, names_of, Reached, Bounds, Names};
 ghost use Rattle.strings.specs.Open.{Said};
 
+mod right;
+mod table;
+
+pub use right::Sound;
 use std::cmp::Ordering;
+pub use table::Strings;
 use words::{MAX_STRINGS, Refusal};
 
 // The order of two strings, byte by byte.
@@ -92,68 +96,81 @@ impl From<Break> for Refusal {
     }
 }
 
-// Whether string i, from `from` to `to`, is above the one before it, from `before` on.
-fn rises(bytes: &[u8], ends: &[u32], i: usize, before: usize, from: usize, to: usize) -> bool
-    requires { Bounds bytes.now ends.now i before from to }
-    ensures { result ≡ rises_of bytes.now ends.now i }
+// Where a string stands in the bytes: from `from` to `to`, the one before it from `before` on.
+#[derive(Clone, Copy)]
+struct Span {
+    string: usize,
+    before: usize,
+    from: usize,
+    to: usize,
+}
+
+// Whether a string is above the one before it.
+fn rises(strings: &Strings<'_>, span: Span) -> bool
+    requires { Bounds strings.now.bytes.now strings.now.ends.now span.string span.before span.from span.to }
+    ensures { result ≡ rises_of strings.now.bytes.now strings.now.ends.now span.string }
 {
-    i == 0 || compare(&bytes[before..from], &bytes[from..to]).is_lt()
+    span.string == 0
+        || compare(
+            &strings.bytes[span.before..span.from],
+            &strings.bytes[span.from..span.to],
+        )
+        .is_lt()
 }
 
 // Whether all bytes are from 32 to 126 and the last end is their count: of the strings only ends and order are then in doubt.
 #[tactic(auto, unfolding(crate::specs::Table::is_plain))]
-fn is_plain(bytes: &[u8], ends: &[u32]) -> bool
-    requires { 0 < length ends.now }
-    ensures { result ≡ is_plain bytes.now ends.now }
+fn is_plain(strings: &Strings<'_>) -> bool
+    requires { 0 < length strings.now.ends.now }
+    ensures { result ≡ is_plain strings.now.bytes.now strings.now.ends.now }
 {
-    start(ends, ends.len()) == bytes.len() && all_printable(bytes)
+    start(strings.ends, strings.ends.len()) == strings.bytes.len() && all_printable(strings.bytes)
 }
 
-// Whether the bytes of string i, from `from` to `to`, are right, and its end if it is the last.
+// Whether a string's bytes are right, and its end if it is the last.
 #[tactic(auto, unfolding(crate::specs::Table::last_right))]
-fn right_bytes(bytes: &[u8], ends: &[u32], i: usize, from: usize, to: usize) -> bool
-    requires { (i < length ends.now) × (to ≡ get_or ends.now i 0) × (from ≤ to) × (to ≤ length bytes.now) }
-    ensures { result ≡ (all_printable (part from to bytes.now) && last_right bytes.now ends.now i) }
+fn right_bytes(strings: &Strings<'_>, span: Span) -> bool
+    requires { Bounds strings.now.bytes.now strings.now.ends.now span.string span.before span.from span.to }
+    ensures { result ≡ (all_printable (part span.from span.to strings.now.bytes.now) && last_right strings.now.bytes.now strings.now.ends.now span.string) }
 {
-    all_printable(&bytes[from..to]) && (i + 1 != ends.len() || to == bytes.len())
+    all_printable(&strings.bytes[span.from..span.to])
+        && (span.string + 1 != strings.ends.len() || span.to == strings.bytes.len())
 }
 
-// Whether string i, from `from` to `to`, meets the rule.
-fn right_at(
-    bytes: &[u8],
-    ends: &[u32],
-    plain: bool,
-    i: usize,
-    before: usize,
-    from: usize,
-    to: usize,
-) -> bool
-    requires { Reached ends.now i before from to × (plain ≡ is_plain bytes.now ends.now) }
-    ensures { result ≡ right_at bytes.now ends.now i }
+// Whether a string meets the rule.
+fn right_at(strings: &Strings<'_>, plain: bool, span: Span) -> bool
+    requires { Reached strings.now.ends.now span.string span.before span.from span.to × (plain ≡ is_plain strings.now.bytes.now strings.now.ends.now) }
+    ensures { result ≡ right_at strings.now.bytes.now strings.now.ends.now span.string }
 {
-    from <= to
-        && to <= bytes.len()
-        && rises(bytes, ends, i, before, from, to)
-        && (plain || right_bytes(bytes, ends, i, from, to))
+    span.from <= span.to
+        && span.to <= strings.bytes.len()
+        && rises(strings, span)
+        && (plain || right_bytes(strings, span))
 }
 
 // Tests a string table. Of a table that breaks the rule it names a string where it breaks: the first.
-pub fn check(bytes: &[u8], ends: &[u32]) -> Result<(), Break>
-    ensures { Said bytes.now ends.now result }
+pub fn check(strings: &Strings<'_>) -> Result<(), Break>
+    ensures { Said strings.now.bytes.now strings.now.ends.now result }
 {
-    if ends.is_empty() {
-        return if bytes.is_empty() {
+    if strings.ends.is_empty() {
+        return if strings.bytes.is_empty() {
             Ok(())
         } else {
             Err(Break { string: 0 })
         };
     }
-    let plain = is_plain(bytes, ends);
+    let plain = is_plain(strings);
     let mut before = 0;
     let mut from = 0;
-    for (i, &end) in ends.iter().enumerate() {
+    for (i, &end) in strings.ends.iter().enumerate() {
         let to = end as usize;
-        if !right_at(bytes, ends, plain, i, before, from, to) {
+        let span = Span {
+            string: i,
+            before,
+            from,
+            to,
+        };
+        if !right_at(strings, plain, span) {
             return Err(Break { string: i });
         }
         before = from;
@@ -163,25 +180,25 @@ pub fn check(bytes: &[u8], ends: &[u32]) -> Result<(), Break>
 }
 
 // For each string 1 where it is a name, else 0.
-pub fn mark_names(bytes: &[u8], ends: &[u32], names: &mut [u8])
-    requires { (sound bytes.now ends.now ≡ true) × (length names.old ≡ length ends.now) }
-    ensures { names.new ≡ names_of bytes.now ends.now }
+pub fn mark_names(strings: &Sound<'_>, names: &mut [u8])
+    requires { length names.old ≡ length strings.now.ends.now }
+    ensures { names.new ≡ names_of strings.now.bytes.now strings.now.ends.now }
 {
     let mut from = 0;
-    for (i, &end) in ends.iter().enumerate() {
+    for (i, &end) in strings.ends.iter().enumerate() {
         let to = end as usize;
-        names[i] = u8::from(is_name(&bytes[from..to]));
+        names[i] = u8::from(is_name(&strings.bytes[from..to]));
         from = to;
     }
 }
 
 // The marks of a sound table of at most 1,024 strings: as many as there are strings, from the start of the array.
-pub fn names_of(bytes: &[u8], ends: &[u32]) -> [u8; MAX_STRINGS]
-    requires { (sound bytes.now ends.now ≡ true) × (length ends.now ≤ max_strings) }
-    ensures { Names bytes.now ends.now result }
+pub fn names_of(strings: &Sound<'_>) -> [u8; MAX_STRINGS]
+    requires { length strings.now.ends.now ≤ max_strings }
+    ensures { Names strings.now.bytes.now strings.now.ends.now result }
 {
     let mut names = [0; MAX_STRINGS];
-    let n = ends.len();
-    mark_names(bytes, ends, &mut names[..n]);
+    let n = strings.ends.len();
+    mark_names(strings, &mut names[..n]);
     names
 }

@@ -1,18 +1,15 @@
--- Kinds of statements: those in which no statement stands, those with targets or with expressions in another order than their words, and the uses of all others. Assumes nothing.
-use Prim.Native.Nat.{ℕ, ◌+◌, ◌<◌, ◌≤◌}
+-- Kinds of statements: those in which no statement stands, and the uses of those without targets. Assumes nothing.
+use Prim.Native.Nat.{ℕ, ◌+◌}
 use native.Mathlib.Omega.{arith}
 use mathlib.Core.Path.{◌≡◌, refl, sym, ap, ap₂, subst, ◌∙◌}
 use mathlib.Core.Bool.{Bool, true, false, not, ◌&&◌, false≢true}
 use mathlib.Mathlib.Data.Bool.Basic.{and_elim_left, and_elim_right}
 use mathlib.Core.List.{List}
 use mathlib.Core.Option.{Option, none as nothing}
-use lib.Dec.{eqb, ltb}
 use lib.ListN.{get_or}
-use borrow.Author.Tests.{le-leb, lt-leb, ne_eqb, eqb-true, eqb-false, ltb-true, ltb-false}
 use Rattle.words.specs.Word.{kind_of}
 use Rattle.words.specs.Each.{tuple}
 use Rattle.expr.specs.Expr.{Expr}
-use Rattle.expr.proofs.Steps.{past}
 use Rattle.tree.specs.Sorts.{Sort, leaf, expr, stmt, many, group, either, never, Sorts, nil, ◌&◌, Kind, sorts, number_of, kind_at, kinds}
 use Rattle.tree.specs.KindLaws.{none_of, same_kinds}
 use Rattle.tree.specs.Tree.{Shape, one, row, rows, Tree, word, value, Stmt, list, part, this, that, done, cons, none, more}
@@ -76,40 +73,6 @@ module _ {ws ns : List ℕ} {n at end : ℕ} where
   -- what holds of every statement of a kind holds of one whose head says it
   pub of_kind : (j : ℕ) (C : Tree Expr (one stmt) → Type 0) → ((line : ℕ) (r : Tree Expr (row (sorts (kind_at j)))) → Stands ws ns n (at + 1) r end → C (Stmt (kind_at j) line r)) → kind_of (get_or ws at 0) ≡ 64 + j → {v : Tree Expr (one stmt)} → Stands ws ns n at v end → C v
   of_kind j C f q {v = Stmt k line r} s = subst (λ (k : Kind). (r : Tree Expr (row (sorts k))) → Stands ws ns n (at + 1) r end → C (Stmt k line r)) (sym (of_number k j (omega (arith, head_kind s, q)))) (λ r t. f line r t) r (fields s)
-
--- ---- which kinds they are
-
--- LET, PRINT, INPUT and LINE INPUT are
-pub targeted_range : (k : ℕ) → 66 ≤ k → k < 70 → true ≡ targeted k
-unfolding targeted
-targeted_range k a b =
-    let h : k ≤ 69 = omega arith in
-    rw (le-leb 66 k a, le-leb k 69 h) refl
-
--- of the kinds below them none is
-pub targeted_below : (k : ℕ) → k < 66 → (k ≡ 88 → ⊥) → (k ≡ 96 → ⊥) → false ≡ targeted k
-unfolding targeted
-targeted_below k a y z = rw (lt-leb 66 k a, ne_eqb k 88 y, ne_eqb k 96 z) refl
-
--- nor is any above them but SWAP and READ
-pub targeted_above : (k : ℕ) → 70 ≤ k → (k ≡ 88 → ⊥) → (k ≡ 96 → ⊥) → false ≡ targeted k
-unfolding targeted
-targeted_above k a y z =
-    let b : 66 ≤ k = omega arith in
-    let h : 69 < k = omega arith in
-    rw (le-leb 66 k b, lt-leb k 69 h, ne_eqb k 88 y, ne_eqb k 96 z) refl
-
--- what is left is a READ
-pub read_kind : (k : ℕ) → targeted k ≡ true → (k ≡ 66 → ⊥) → (k ≡ 67 → ⊥) → (k ≡ 68 → ⊥) → (k ≡ 69 → ⊥) → (k ≡ 88 → ⊥) → k ≡ 96
-read_kind k t a b c d e = go (eqb k 96) refl
-  where
-    low : (x : Bool) → ltb k 66 ≡ x → (k ≡ 96 → ⊥) → false ≡ targeted k
-    low true q z = targeted_below k (ltb-true k 66 q) e z
-    low false q z = targeted_above k (past 69 k (past 68 k (past 67 k (past 66 k (ltb-false k 66 q) a) b) c) d) e z
-
-    go : (x : Bool) → eqb k 96 ≡ x → k ≡ 96
-    go true q = eqb-true k 96 q
-    go false q = absurd (false≢true (low (ltb k 66) refl (eqb-false k 96 q) ∙ t))
 
 -- ---- all other kinds
 

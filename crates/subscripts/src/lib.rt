@@ -1,4 +1,5 @@
 // `subscript_count`: how many subscripts a body gives a name the first time it subscripts it. One read-only walk notes the first uses of many names at once.
+// (`SomeTree`, `SomeExpr` and `KindAt` stay clauses: each says of words, at a place, what stands there, in nearly each function another shape, and a struct for each would be opened at each call.)
 #![tactic(auto)]
 
 ghost use Rattle.std.specs.Prelude.{◌≡◌, List, true, false, ℕ, ◌+◌, ◌<◌, eqb, get_or};
@@ -19,7 +20,9 @@ ghost use Rattle.subscripts.specs.Code.{use_of, HereNotes, NotesExpr, SomeExprs,
 pub const UNRANKED: u32 = 1;
 
 // The notes are a caller's words, a table with two for each name from `base` on: the place of the statement that has the name's first use so far, or one of the next
-// two, which orders the uses within the statement, and one more than the number of its subscripts; 0 where there is none.
+// two, which orders the uses within the statement, and one more than the number of its subscripts; 0 where there is none. (Words and no `Option`s: what they note, and that
+// they are blank, is defined over a list of numbers.)
+// (`t` and `base` stay two parameters: a struct of both would hold a `&mut`, so that each function here would promise besides that it still lends the same words.)
 
 // Notes a use of the name f with n subscripts at k, unless one at k or before is there.
 fn note(t: &mut [usize], base: u32, k: usize, f: u32, n: u32)
@@ -216,6 +219,7 @@ fn targeted(kind: u32) -> bool
 }
 
 // A statement of such a kind. No statement stands in one.
+#[tactic(auto, using(std::proofs::lemmas::Bool::Decides::nat_tests), unfolding(crate::specs::Code::targeted))]
 fn by_hand(words: &[u32], at: usize, t: &mut [usize], base: u32) -> usize
     requires { SomeTree (one stmt_sort) words.now at × (is_targeted (kind_of (get_or words.now at 0)) ≡ true) }
     ensures { NotesStmt words.now at (mark_at base t.old) (mark_at base t.new) result }

@@ -1,3 +1,4 @@
--- The laws that the proofs cite: words moved within a buffer, rows entered in turn.
+-- The laws that the proofs cite: words moved within a buffer or cut into rows, rows entered in turn.
 pub mod Moves
+mod Cut
 mod Turns

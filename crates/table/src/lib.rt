@@ -1,5 +1,7 @@
 // The table of rows in a lent buffer, and diagnostics in theirs: find, insert, take out, replace, push. Safety asks only that the count fits the
-// buffer; what is done is said for every table that the buffer holds.
+// buffer; what is done is said for every table that the buffer holds. `b` and `count` stay two parameters, and that the rows fit a clause, where the buffer
+// is written: this kit has no ghost field beside a `&mut` field. `lo` and `hi` stay two, and `lo ≤ hi` a clause: the library's `Range` doesn't promise it, and
+// a type of both would be made for one call.
 #![tactic(auto)]
 
 ghost use Rattle.std.specs.Prelude.{◌≡◌, List, [], ◌++◌, ◌+◌, ◌-◌, ◌*◌, ◌≤◌, ◌<◌, length, take, drop, get_or};
@@ -22,7 +24,7 @@ pub fn shift_up(b: &mut [u32], from: usize, to: usize)
     requires { (from ≤ to) × (to + width ≤ length b.old) }
     ensures { b.new ≡ take (from + width) b.old ++ (slice from to b.old ++ drop (to + width) b.old) }
 {
-    // there the distance is a constant, so that the compiler makes one move of memory
+    // `from` first, so that the distance is a constant and the compiler makes one move of memory
     b[from..].copy_within(..to - from, WIDTH);
 }
 
@@ -65,18 +67,8 @@ impl Rows<'_> {
         ensures within { result ≤ self.now.count }
         ensures ranked { (rs : List Row) → HeldIn rs self.now → result ≡ rank k rs }
     {
-        // by hand: the library's `partition_point` goes over a slice's elements, and the rows lie here as words, which would first be cut into arrays
-        let mut lo = 0;
-        let mut hi = self.count;
-        while lo < hi {
-            let mid = lo + (hi - lo) / 2;
-            if self.key(mid) < k {
-                lo = mid + 1;
-            } else {
-                hi = mid;
-            }
-        }
-        lo
+        let (rows, _) = self.words[..self.count * WIDTH].as_chunks::<WIDTH>();
+        rows.partition_point(|row| key_of(row[0], row[1]) < k)
     }
 
     // The row with the key k.
@@ -106,8 +98,8 @@ pub fn clear(b: &mut [u32], from: usize, to: usize)
 }
 
 // Puts the row in, in the place of the one with its key where there is one.
-pub fn insert(b: &mut [u32], count: usize, row: &[u32]) -> Option<usize>
-    requires { (count * width ≤ length b.old) × (length row.now ≡ width) }
+pub fn insert(b: &mut [u32], count: usize, row: &[u32; WIDTH]) -> Option<usize>
+    requires { count * width ≤ length b.old }
     ensures room { Fit width (length b.old) result }
     ensures after { (rows : List Row) → Holds rows count b.old → Inserted row.now rows (length b.old) result b.new }
 {
@@ -159,17 +151,17 @@ pub fn replace(
     ensures after { (rows : List Row) → Holds rows count b.old
         → Entered (replace_rows lo hi (rows_of n src.now) rows) (length b.old) result b.new }
 {
+    let (rows, _) = src[..n * WIDTH].as_chunks();
     let mut m = remove(b, count, lo, hi);
-    for i in 0..n {
-        let at = i * WIDTH;
-        m = insert(b, m, &src[at..at + WIDTH])?;
+    for row in rows {
+        m = insert(b, m, row)?;
     }
     Some(m)
 }
 
 // Puts a diagnostic after the last.
-pub fn push(b: &mut [u32], count: usize, note: &[u32]) -> Option<usize>
-    requires { (count * note_width ≤ length b.old) × (length note.now ≡ note_width) }
+pub fn push(b: &mut [u32], count: usize, note: &[u32; NOTE_WIDTH]) -> Option<usize>
+    requires { count * note_width ≤ length b.old }
     ensures room { Fit note_width (length b.old) result }
     ensures after { (notes : List Row) → Filled note_width notes count b.old
         → Pushed note.now notes (length b.old) result b.new }

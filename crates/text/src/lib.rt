@@ -1,4 +1,5 @@
 // Writes text into a lent buffer, as much as fits. A writer's state is one place in it; a place past the end says that not all fitted.
+// `out` and `at` stay two: a struct of both would hold a `&mut`, so that each writer would promise besides that it still lends the same bytes.
 // By hand and no `Display`: the text goes into lent bytes, without a heap, as much as fits, and its place is counted.
 #![tactic(auto)]
 

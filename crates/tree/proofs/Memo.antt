@@ -28,10 +28,6 @@ pub recalled_slot : (memo : List ℕ) (at i r : ℕ) → (get_or memo (2 * i) 0 
 unfolding EndsAt
 recalled_slot memo at i r h = record { gives = λ ws ns n R v e S. R.right i at h.0 v e S ∙ sym h.1 }
 
--- a memo that is left as it was is right
-pub remembered_none : {memo : List ℕ} {at end : ℕ} → Remembered memo at end memo
-remembered_none = record { gives = λ ws ns n R E. R }
-
 -- a slot that is written
 module _ (memo : List ℕ) (at end i : ℕ) (h : 2 * i + 1 < length memo) where
   abbrev after : List ℕ
@@ -70,10 +66,6 @@ module _ (memo : List ℕ) (at end i : ℕ) (h : 2 * i + 1 < length memo) where
 -- nothing noted
 pub noted_none : {sort at end : ℕ} {memo : List ℕ} → Noted sort memo at end memo
 noted_none = record { gives = λ ws ns n R E. R }
-
--- a statement's end remembered
-pub noted_one : {sort at end : ℕ} {memo after : List ℕ} → sort ≡ 10 → Remembered memo at end after → Noted sort memo at end after
-noted_one q m = record { gives = λ ws ns n R E. m.gives ws ns n R (E q) }
 
 -- a statement that was read: whatever stands there ends at the answer's place
 pub field_ends : (ws ns : List ℕ) (n left at sort : ℕ) {c : Cursor} → field_step ws ns n left (sort_at sort) at ≡ Ok c → sort ≡ 10 → EndsAt ws ns n at c.at

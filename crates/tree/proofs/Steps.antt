@@ -212,16 +212,6 @@ sort_group s a = let z : 16 ≤ s = omega arith in let y : 64 ≤ s = omega arit
 pub pos : {k : ℕ} → (k ≡ 0 → ⊥) → 0 < k
 pos {k} f = omega arith
 
--- past the words there is no 0
-pub zero_end : (ws : List ℕ) (at : ℕ) → length ws ≤ at → is_at ws 0 at ≡ false
-unfolding is_at
-zero_end ws at h = simp (le-ltb at (length ws) h)
-
--- a word that is not 0 isn't taken for one
-pub zero_not : (ws : List ℕ) (at : ℕ) → at < length ws → (get_or ws at 0 ≡ 0 → ⊥) → is_at ws 0 at ≡ false
-unfolding is_at
-zero_not ws at h f = simp (lt-ltb at (length ws) h, ne_eqb (get_or ws at 0) 0 f)
-
 -- where nothing is read after it
 pub then_read : (s : Step) → then s (λ m. Ok (record { at = m })) ≡ s
 unfolding then

@@ -1,20 +1,16 @@
--- The code's tables: past the last row there is nothing, and rows with the same numbers are the same in one number. Assumes nothing.
+-- The code's tables, one after the other: the parts' rows, then the statements', and past the last row nothing. Assumes nothing.
 use Prim.Native.Nat.{ℕ, ◌+◌, ◌-◌, ◌<◌, ◌≤◌}
-use mathlib.Core.Path.{◌≡◌, refl, sym, ap, ◌∙◌}
+use mathlib.Core.Path.{◌≡◌, sym, ap, ◌∙◌}
 use mathlib.Core.List.{List, [], ◌++◌}
 use native.Mathlib.Omega.{arith}
 use lib.ListN.{get_or, get_or-append, get_or-eq_default}
 use lib.Seq.{get_or-append-add}
-use Rattle.tree.specs.Codes.{part_codes, stmt_codes, codes, pack}
+use Rattle.tree.specs.Codes.{part_codes, stmt_codes, codes}
 
 -- past the last row there are only zeros
 pub no_row : (r i : ℕ) → 93 ≤ r → 0 ≡ get_or (codes r) i 0
 unfolding codes part_codes stmt_codes
 no_row r i h = sym (ap (λ (l : List ℕ). get_or l i 0) (get_or-eq_default (part_codes ++ stmt_codes) [] h))
-
--- two rows with the same numbers are the same in one number
-pub pack_same : (l m : List ℕ) → ((i : ℕ) → get_or l i 0 ≡ get_or m i 0) → pack l ≡ pack m
-pack_same l m h = rw (h 0, h 1, h 2, h 3, h 4, h 5) refl
 
 -- ---- the parts' rows, then the statements'
 

@@ -1,17 +1,22 @@
 // Reads statements of all kinds by two tables of their fields.
+// The place, `words`, `names` and `left` stay parameters of their own, and no form is plainer: the place and `left` change from field to field, what reads no name takes
+// the words alone, and a `Source`, which `expr` doesn't know, has as many strings as marks, where the contracts here hold for any count.
 #![tactic(auto)]
 
-ghost use Rattle.std.specs.Prelude.{◌≡◌, ℕ, ◌<◌, ◌≤◌, ◌+◌, length, get_or, take, drop, eqb, List, [], IfSome, Ok};
+ghost use Rattle.std.specs.Prelude.{◌≡◌, ℕ, ◌<◌, ◌≤◌, ◌+◌, length, get_or, take, drop, List, IfSome, Ok};
 ghost use Rattle.tree.specs.Sorts.{many, opt, expr as expr_sort, stmt as stmt_sort, body as body_sort, GotoTarget, TypeRef, PrintItem};
 ghost use Rattle.tree.specs.Tree.{between, strings};
-ghost use Rattle.tree.specs.Codes.{part_codes, stmt_codes, codes, pack, sort_at, row_of, chain, all_rows};
+ghost use Rattle.tree.specs.Codes.{codes, pack, sort_at, row_of, chain, all_rows};
 ghost use Rattle.tree.specs.Reader.{word_at, never_at, field_at, stmt_at, program_at};
 ghost use Rattle.tree.specs.Memo.{Recalled, Remembered, Noted, Keeps, Past};
 ghost use Rattle.tree.specs.Frames.{told_of, field_step, frame_at, Goes, Turned, rest_of, again_of, Opens, height};
 ghost use Rattle.expr.specs.Reader.{leaf_at, name_at, list_at, body_at, expr_at};
 ghost use Rattle.expr.specs.Answer.{step_of, then};
 
-use expr::{Cursor, Misread, Step};
+mod source;
+
+use expr::{Cursor, Misread, Names, Step};
+pub use source::Source;
 use words::Refusal;
 
 // What is left to be read of a row and of the rows after it: fields in numbers, in base 256, the next lowest; then `times`
@@ -171,7 +176,7 @@ pub fn sort(row: usize, i: usize) -> u8
     numbers(row)[i]
 }
 
-// a word of a kind, its payload from a number to below another
+// a word of a kind, its payload from a number to below another (`Cursor::leaf` is this from 0 on, by a definition of its own)
 #[tactic(auto, unfolding(expr::specs::Answer::step_of, crate::specs::Reader::word_at))]
 fn mark(c: Cursor, words: &[u32], kind: u32, from: u32, below: u32) -> Step
     ensures { result ≡ step_of (word_at words.now kind (between from below) c.at) }
@@ -191,26 +196,26 @@ fn nowhere(c: Cursor, words: &[u32]) -> Step
 }
 
 // a type: one of the plain heads, a fixed string with its length, or a record with its name
-fn type_ref(c: Cursor, words: &[u32], names: &[u8], n: u32, left: usize) -> Step
-    ensures { result ≡ step_of (field_at words.now names.now n (expr_at words.now (strings names.now n) left) (stmt_at words.now names.now n left) TypeRef c.at) }
+fn type_ref(c: Cursor, words: &[u32], names: &Names<'_>, left: usize) -> Step
+    ensures { result ≡ step_of (field_at words.now names.now.marks.now names.now.count (expr_at words.now (strings names.now.marks.now names.now.count) left) (stmt_at words.now names.now.marks.now names.now.count left) TypeRef c.at) }
 {
     let next = c.head(words, 40, 45)?;
     match words[c.at] / 16777216 {
         40..=43 => Ok(next),
         44 => mark(next, words, 4, 0, 16777216),
-        _ => next.name(words, names),
+        _ => next.name(words, names.marks),
     }
 }
 
 // where GOTO goes: a line's number or a label's name, each behind its head
-fn goto_target(c: Cursor, words: &[u32], names: &[u8], n: u32, left: usize) -> Step
-    ensures { result ≡ step_of (field_at words.now names.now n (expr_at words.now (strings names.now n) left) (stmt_at words.now names.now n left) GotoTarget c.at) }
+fn goto_target(c: Cursor, words: &[u32], names: &Names<'_>, left: usize) -> Step
+    ensures { result ≡ step_of (field_at words.now names.now.marks.now names.now.count (expr_at words.now (strings names.now.marks.now names.now.count) left) (stmt_at words.now names.now.marks.now names.now.count left) GotoTarget c.at) }
 {
     let next = c.head(words, 48, 49)?;
     if words[c.at] / 16777216 == 48 {
         mark(next, words, 4, 0, 16777216)
     } else {
-        next.name(words, names)
+        next.name(words, names.marks)
     }
 }
 
@@ -238,10 +243,10 @@ fn list(c: Cursor, words: &[u32], left: usize, row: usize) -> Result<Turn, Misre
 }
 
 // the name of a call or of an array, and the count of what it is given
-fn call(c: Cursor, words: &[u32], names: &[u8], left: usize) -> Result<Turn, Misread>
-    ensures { (n : ℕ) → Goes words.now names.now n c.at (then (step_of (name_at words.now names.now c.at)) (λ m. step_of (list_at words.now (strings names.now n) (expr_at words.now (strings names.now n) left) m))) result }
+fn call(c: Cursor, words: &[u32], marks: &[u8], left: usize) -> Result<Turn, Misread>
+    ensures { (n : ℕ) → Goes words.now marks.now n c.at (then (step_of (name_at words.now marks.now c.at)) (λ m. step_of (list_at words.now (strings marks.now n) (expr_at words.now (strings marks.now n) left) m))) result }
 {
-    let d = c.name(words, names)?;
+    let d = c.name(words, marks)?;
     list(d, words, left, 0)
 }
 
@@ -256,21 +261,14 @@ fn operator(c: Cursor, words: &[u32], left: usize, below: u32, fields: u64) -> R
 
 // An expression, past its head of the kind k: what stands before the expressions in it. Crate `expr` reads an expression by
 // recursion, for those who read one alone; here what is left of the statement around it waits on the same stack.
-fn value(
-    c: Cursor,
-    words: &[u32],
-    names: &[u8],
-    n: u32,
-    left: usize,
-    k: u32,
-) -> Result<Turn, Misread>
+fn value(c: Cursor, words: &[u32], names: &Names<'_>, left: usize, k: u32) -> Result<Turn, Misread>
     requires { (16 ≤ k) × (k ≤ 23) × (c.at ≤ length words.now) }
-    ensures { (at : ℕ) → at < c.at → Goes words.now names.now n at (step_of (body_at words.now (strings names.now n) (expr_at words.now (strings names.now n) left) k c.at)) result }
+    ensures { (at : ℕ) → at < c.at → Goes words.now names.now.marks.now names.now.count at (step_of (body_at words.now (strings names.now.marks.now names.now.count) (expr_at words.now (strings names.now.marks.now names.now.count) left) k c.at)) result }
 {
     match k {
-        16 => told(c.literal(words, n)),
-        17 => told(c.name(words, names)),
-        18 | 21 => call(c, words, names, left),
+        16 => told(c.literal(words, names.count)),
+        17 => told(c.name(words, names.marks)),
+        18 | 21 => call(c, words, names.marks, left),
         19 => operator(c, words, left, 2, 9),
         20 => operator(c, words, left, 18, 2313),
         22 => Ok(Turn::Into(c, one_field(265, left))),
@@ -279,15 +277,15 @@ fn value(
 }
 
 // an expression: its head, and what stands before the expressions in it
-fn expression(c: Cursor, words: &[u32], names: &[u8], n: u32, left: usize) -> Result<Turn, Misread>
-    ensures { Goes words.now names.now n c.at (field_step words.now names.now n left expr_sort c.at) result }
+fn expression(c: Cursor, words: &[u32], names: &Names<'_>, left: usize) -> Result<Turn, Misread>
+    ensures { Goes words.now names.now.marks.now names.now.count c.at (field_step words.now names.now.marks.now names.now.count left expr_sort c.at) result }
 {
     let d = c.head(words, 16, 23)?;
     if left == 0 {
         return Err(Misread::Deep(c.at));
     }
     let k = words[c.at] / 16777216;
-    value(d, words, names, n, left - 1, k)
+    value(d, words, names, left - 1, k)
 }
 
 // a statement: its head; its row is left
@@ -362,30 +360,23 @@ fn optional(c: Cursor, words: &[u32], left: usize, row: usize) -> Turn
 }
 
 // the own words of a field of a sort, with so many levels left for what stands in it; the sorts are the numbers of the tables
-fn look(
-    c: Cursor,
-    words: &[u32],
-    names: &[u8],
-    n: u32,
-    left: usize,
-    sort: u8,
-) -> Result<Turn, Misread>
-    ensures { Turned words.now names.now n left c.at (sort_at sort) result }
+fn look(c: Cursor, words: &[u32], names: &Names<'_>, left: usize, sort: u8) -> Result<Turn, Misread>
+    ensures { Turned words.now names.now.marks.now names.now.count left c.at (sort_at sort) result }
 {
     match sort {
         0 => told(nowhere(c, words)),
-        1 => told(c.name(words, names)),
-        2 => told(mark(c, words, 2, 0, n)),
+        1 => told(c.name(words, names.marks)),
+        2 => told(mark(c, words, 2, 0, names.count)),
         3 => told(mark(c, words, 3, 0, 2)),
         4 => told(mark(c, words, 4, 0, 16777216)),
         5 => told(mark(c, words, 7, 65, 91)),
         6 => told(mark(c, words, 9, 0, 4)),
         7 => told(mark(c, words, 9, 0, 5)),
         8 => told(mark(c, words, 9, 0, 18)),
-        9 => expression(c, words, names, n, left),
+        9 => expression(c, words, names, left),
         10 => statement(c, words, left),
-        11 => told(goto_target(c, words, names, n, left)),
-        12 => told(type_ref(c, words, names, n, left)),
+        11 => told(goto_target(c, words, names, left)),
+        12 => told(type_ref(c, words, names, left)),
         13 => item(c, words, left),
         14 => choice(c, words, left, 36, 3, 33),
         15 => choice(c, words, left, 52, 3, 36),
@@ -438,8 +429,8 @@ fn room(sort: u8, row: usize) -> usize
 // Reads what a frame says. What is left of the frames around the current one stands on a stack; where that is full, and of
 // a procedure, whose end the memo then has, the next frame is read by a call. A `loop`: which frame is next shows in each turn,
 // and it ends where none is left. What is left of the frame in hand is stored in any case: only the height says whether it counts.
-fn run(words: &[u32], names: &[u8], n: u32, f: Frame, from: usize, memo: &mut [u32]) -> Step
-    ensures { (result ≡ frame_at words.now names.now n f from) × Keeps words.now names.now n memo.old memo.new }
+fn run(words: &[u32], names: &Names<'_>, f: Frame, from: usize, memo: &mut [u32]) -> Step
+    ensures { (result ≡ frame_at words.now names.now.marks.now names.now.count f from) × Keeps words.now names.now.marks.now names.now.count memo.old memo.new }
 {
     let mut stack = [f; HEIGHT];
     let mut sp = 0;
@@ -459,7 +450,7 @@ fn run(words: &[u32], names: &[u8], n: u32, f: Frame, from: usize, memo: &mut [u
             continue;
         }
         let sort = (cur.fields % 256) as u8;
-        let t = look(Cursor { at }, words, names, n, cur.left, sort)?;
+        let t = look(Cursor { at }, words, names, cur.left, sort)?;
         cur = rest(cur);
         match t {
             Turn::Past(c) => at = c.at,
@@ -470,7 +461,7 @@ fn run(words: &[u32], names: &[u8], n: u32, f: Frame, from: usize, memo: &mut [u
                     at = c.at;
                     cur = frame;
                 } else {
-                    let d = run(words, names, n, frame, c.at, memo)?;
+                    let d = run(words, names, frame, c.at, memo)?;
                     note(memo, sort, at, d.at);
                     at = d.at;
                 }
@@ -480,11 +471,11 @@ fn run(words: &[u32], names: &[u8], n: u32, f: Frame, from: usize, memo: &mut [u
 }
 
 // a statement, with so many levels left
-pub fn stmt(c: Cursor, words: &[u32], names: &[u8], n: u32, left: usize) -> Step
-    ensures { result ≡ step_of (stmt_at words.now names.now n left c.at) }
+pub fn stmt(c: Cursor, words: &[u32], names: &Names<'_>, left: usize) -> Step
+    ensures { result ≡ step_of (stmt_at words.now names.now.marks.now names.now.count left c.at) }
 {
     let mut memo = [0u32; 1];
-    run(words, names, n, one_field(10, left), c.at, &mut memo)
+    run(words, names, one_field(10, left), c.at, &mut memo)
 }
 
 // one field is left
@@ -499,26 +490,38 @@ fn one_field(sort: u64, left: usize) -> Frame
     }
 }
 
+impl Source<'_> {
+    // The marks, with how many strings there are.
+    pub fn marks(&self) -> Names<'_>
+        ensures { (result.marks.now ≡ self.now.names.now) × (result.count ≡ length self.now.names.now) }
+    {
+        Names {
+            marks: self.names,
+            count: self.names.len() as u32,
+        }
+    }
+}
+
 // A whole program: one list of statements. The deepest level is 100.
-pub fn program(words: &[u32], names: &[u8], n: u32) -> Step
-    ensures { result ≡ step_of (program_at words.now names.now n) }
+pub fn program(words: &[u32], names: &Names<'_>) -> Step
+    ensures { result ≡ step_of (program_at words.now names.now.marks.now names.now.count) }
 {
-    program_with(words, names, n, &mut [0; 1])
+    program_with(words, names, &mut [0; 1])
 }
 
 // The same, with the ends of its procedures noted in a memo.
-pub fn program_with(words: &[u32], names: &[u8], n: u32, memo: &mut [u32]) -> Step
-    ensures { (result ≡ step_of (program_at words.now names.now n)) × Keeps words.now names.now n memo.old memo.new }
+pub fn program_with(words: &[u32], names: &Names<'_>, memo: &mut [u32]) -> Step
+    ensures { (result ≡ step_of (program_at words.now names.now.marks.now names.now.count)) × Keeps words.now names.now.marks.now names.now.count memo.old memo.new }
 {
-    run(words, names, n, one_field(68, 100), 0, memo)
+    run(words, names, one_field(68, 100), 0, memo)
 }
 
 // A body: a list of statements, with so many levels left.
-pub fn body(c: Cursor, words: &[u32], names: &[u8], n: u32, left: usize) -> Step
-    ensures { result ≡ step_of (field_at words.now names.now n (expr_at words.now (strings names.now n) left) (stmt_at words.now names.now n left) body_sort c.at) }
+pub fn body(c: Cursor, words: &[u32], names: &Names<'_>, left: usize) -> Step
+    ensures { result ≡ step_of (field_at words.now names.now.marks.now names.now.count (expr_at words.now (strings names.now.marks.now names.now.count) left) (stmt_at words.now names.now.marks.now names.now.count left) body_sort c.at) }
 {
     let mut memo = [0u32; 1];
-    run(words, names, n, one_field(68, left), c.at, &mut memo)
+    run(words, names, one_field(68, left), c.at, &mut memo)
 }
 
 // The place that a slot's two words tell for a place, if they are its own.
@@ -528,7 +531,8 @@ fn slot(place: u32, end: u32, at: usize) -> Option<usize>
     ((place as usize).checked_sub(1) == Some(at)).then_some(end as usize)
 }
 
-// The place past the statement at `at` where the memo has it. It has a slot for each two of its words.
+// The place past the statement at `at` where the memo has it. It has a slot for each two of its words. (Words and no
+// `Option`s: what a memo remembers is defined over a list of numbers.)
 pub fn recall(memo: &[u32], at: usize) -> Option<usize>
     ensures { IfSome result (λ r. Recalled memo.now at r) }
 {
@@ -563,13 +567,13 @@ fn note(memo: &mut [u32], sort: u8, at: usize, end: usize)
 }
 
 // The place past the statement at `at`, which the memo may have; else it is read.
-pub fn past(words: &[u32], names: &[u8], n: u32, memo: &[u32], at: usize) -> usize
-    ensures { Past words.now names.now n memo.now at result }
+pub fn past(words: &[u32], names: &Names<'_>, memo: &[u32], at: usize) -> usize
+    ensures { Past words.now names.now.marks.now names.now.count memo.now at result }
 {
     if let Some(end) = recall(memo, at) {
         return end;
     }
-    match stmt(Cursor { at }, words, names, n, 100) {
+    match stmt(Cursor { at }, words, names, 100) {
         Ok(c) => c.at,
         Err(m) => Refusal::from(m).place(),
     }

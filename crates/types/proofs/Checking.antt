@@ -21,7 +21,7 @@ use Rattle.steps.specs.declared.Counts.{Counts}
 use Rattle.steps.specs.Held.{Held}
 use Rattle.collect.specs.Collect.{FieldInfo}
 use Rattle.types.specs.Types.{SomeFields, FieldIs, Below, Marks, field_code, sized, sized_by, looks, checks, total, kept_fields, Codes, Looks, Checks}
-use Rattle.types.specs.declared.FieldAt.{FieldAt}
+use Rattle.types.specs.declared.read.FieldAt.{FieldAt}
 use Rattle.types.specs.declared.Kept.{Kept}
 use Rattle.types.proofs.Marks.{marks_none, marks_code, marks_next}
 use Rattle.types.proofs.Walk.{next_of, next_name, Rest, rest_all, rest_next, rest_none}

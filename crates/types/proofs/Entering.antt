@@ -22,7 +22,7 @@ use Rattle.steps.specs.Held.{Held, Rows}
 use Rattle.steps.proofs.Compose.{stays_each, stays_enter}
 use Rattle.collect.specs.Collect.{FieldInfo, field_rows}
 use Rattle.types.specs.Types.{SomeFields, FieldIs, Below, Marks, type_code, field_code, sized, sized_by, kept_fields, Codes, KeepsField, Enters}
-use Rattle.types.specs.declared.FieldAt.{FieldAt}
+use Rattle.types.specs.declared.read.FieldAt.{FieldAt}
 use Rattle.types.specs.declared.Kept.{Kept}
 use Rattle.types.proofs.Alike.{Alike, alike_refl, alike_field, Small, small_right, type_code_alike, sized_alike, AlikeIn, change_alike, Entering}
 use Rattle.types.proofs.Walk.{rows_small, next_of, next_name, Rest, rest_all, rest_next, rest_none}

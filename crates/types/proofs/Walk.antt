@@ -18,7 +18,7 @@ use Rattle.lent.specs.RuleLaws.{name_below as marked_below}
 use Rattle.lookup.specs.declared.Typed.{Typed}
 use Rattle.parts.specs.Parts.{TypeIs}
 use Rattle.types.specs.Types.{FieldIs}
-use Rattle.types.specs.declared.FieldAt.{FieldAt}
+use Rattle.types.specs.declared.read.FieldAt.{FieldAt}
 use Rattle.types.proofs.Alike.{Small}
 
 -- ---- one field
@@ -52,7 +52,8 @@ module _ {ws : List ℕ} {at : ℕ} where
       record { names = S.names; strings = S.strings; tree = p.type; end = S.end; stands = p.there }
 
   -- so the field is read from these words
-  pub field_is : {t : Typed} {next : ℕ} → TypeIs ws (at + 1) t next → FieldIs ws at (record { name = pay_of (get_or ws at 0); ty = t; next = next })
+  pub field_is : {t : Typed} {next : ℕ} → TypeIs ws (at + 1) t next → {k : (pay_of (get_or ws at 0) < 16777216) × (t.arg < 16777216)}
+      → FieldIs ws at (record { name = pay_of (get_or ws at 0); ty = t; next = next; small = k })
   field_is T =
       record {
         is = λ ns n v end s.

@@ -17,7 +17,7 @@ use Rattle.steps.specs.Held.{Held, Does, Notes, Rows}
 use Rattle.collect.specs.Diagnostics.{field_twice, contains_itself, field_undefined}
 use Rattle.collect.specs.Collect.{FieldInfo, field_rows, given, fields}
 use Rattle.collect.specs.Code.{SomeStmt}
-use Rattle.types.specs.declared.FieldAt.{FieldAt}
+use Rattle.types.specs.declared.read.FieldAt.{FieldAt}
 use Rattle.types.specs.declared.Rejected.{Rejected}
 use Rattle.types.specs.declared.Rejected.TheVariants.{Twice, Itself, Undefined}
 use Rattle.types.specs.declared.Kept.{Kept}

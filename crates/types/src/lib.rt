@@ -1,7 +1,9 @@
 // What collecting does for TYPE: its fields are looked at in order, then the TYPE and the fields that are kept are entered as one change.
+// `b, d, s` stay side by side, and that the counts fit stays a clause (`Fit`, `s.rows * width ≤ length b`): a ghost field beside a `&mut` field isn't had (the kit's NOT_COVERED).
+// `SomeTree` and `SomeFields` stay clauses: they name the tree that stands at a place, and a ghost field takes a proposition alone.
 #![tactic(auto)]
 
-ghost use Rattle.std.specs.Prelude.{◌≡◌, List, ℕ, ◌+◌, ◌*◌, ◌≤◌, ◌<◌, length};
+ghost use Rattle.std.specs.Prelude.{◌≡◌, List, ◌*◌, ◌≤◌, ◌<◌, length};
 ghost use Rattle.table.specs.Rows.{Row, width, note_width};
 ghost use Rattle.runs.specs.Runs.{KeptIn};
 ghost use Rattle.tree.specs.Sorts.{FieldDecl as FieldRow, type_def};
@@ -11,17 +13,11 @@ ghost use Rattle.steps.specs.Held.{Fit, Notes, pushing};
 ghost use Rattle.collect.specs.Code.{CollectsAny};
 ghost use Rattle.types.specs.Types.{SomeType, SomeFields, FieldIs, Below, type_code, code_told, code_of_why, note_of, grown as grown_of, Codes, Looks, Checks, KeepsField, Enters, Defines};
 
-use lookup::Typed;
+mod read;
+
+use read::{FieldAt, TypeAt};
 use steps::Counts;
 use table::Rows;
-
-// A field of a TYPE: its name, its type, and the place past it.
-#[derive(Clone, Copy)]
-pub struct FieldAt {
-    pub name: u32,
-    pub ty: Typed,
-    pub next: usize,
-}
 
 // Why a field is not kept.
 #[derive(Clone, Copy, Debug, PartialEq, Eq)]
@@ -52,18 +48,17 @@ fn field_at(words: &[u32], at: usize) -> FieldAt
     FieldAt { name, ty, next }
 }
 
-// Whether a type may stand in the TYPE `owner`. Its own name is asked first: its row may be there or not.
-fn check_type(rows: &Rows<'_>, owner: u32, ty: Typed) -> Result<(), Rejected>
-    requires { ty.arg < 16777216 }
-    ensures { (rs : List Row) → KeptIn rs rows.now → code_told result ≡ type_code rs owner ty.head ty.arg }
+// Whether a field may stand in the TYPE `owner` by its type. Its own name is asked first: its row may be there or not.
+fn check_type(rows: &Rows<'_>, owner: TypeAt, f: FieldAt) -> Result<(), Rejected>
+    ensures { (rs : List Row) → KeptIn rs rows.now → code_told result ≡ type_code rs owner.name f.ty.head f.ty.arg }
 {
-    if ty.head != 45 {
+    if f.ty.head != 45 {
         return Ok(());
     }
-    if ty.arg == owner {
+    if f.ty.arg == owner.name {
         return Err(Rejected::Itself);
     }
-    if lookup::has(rows, 130, ty.arg, 0) {
+    if lookup::has(rows, 130, f.ty.arg, 0) {
         return Ok(());
     }
     Err(Rejected::Undefined)
@@ -73,31 +68,31 @@ fn check_type(rows: &Rows<'_>, owner: u32, ty: Typed) -> Result<(), Rejected>
 fn check_field(
     rows: &Rows<'_>,
     seen: &mut [u8],
-    owner: u32,
+    owner: TypeAt,
     mark: u8,
     f: FieldAt,
 ) -> Result<(), Rejected>
-    requires { (f.name < length seen.old) × (f.ty.arg < 16777216) }
-    ensures { Codes mark owner rows.now.count f.name f.ty.head f.ty.arg (code_told result) rows.now.words.now seen.old seen.new }
+    requires { f.name < length seen.old }
+    ensures { Codes mark owner.name rows.now.count f.name f.ty.head f.ty.arg (code_told result) rows.now.words.now seen.old seen.new }
 {
     let x = f.name as usize;
     if seen[x] == mark {
         return Err(Rejected::Twice);
     }
-    check_type(rows, owner, f.ty)?;
+    check_type(rows, owner, f)?;
     seen[x] = mark;
     Ok(())
 }
 
 // The diagnostic of a field that is not kept.
-fn reject(d: &mut [u32], s: Counts, why: Rejected, line: u32, owner: u32, f: FieldAt) -> Counts
-    requires { (s.notes * note_width ≤ length d.old) × (owner < 16777216) × (f.name < 16777216) × (f.ty.arg < 16777216) }
-    ensures { Notes (pushing (note_of (code_of_why why) line owner f.name f.ty.arg)) s result d.old d.new }
+fn reject(d: &mut [u32], s: Counts, why: Rejected, owner: TypeAt, f: FieldAt) -> Counts
+    requires { s.notes * note_width ≤ length d.old }
+    ensures { Notes (pushing (note_of (code_of_why why) owner.line owner.name f.name f.ty.arg)) s result d.old d.new }
 {
     match why {
-        Rejected::Twice => steps::push(d, s, 5, line, f.name + 1, owner + 1, 0, 0),
-        Rejected::Itself => steps::push(d, s, 6, line, owner + 1, 0, 0, 0),
-        Rejected::Undefined => steps::push(d, s, 7, line, f.name + 1, f.ty.arg + 1, 0, 0),
+        Rejected::Twice => steps::push(d, s, 5, owner.line, f.name + 1, owner.name + 1, 0, 0),
+        Rejected::Itself => steps::push(d, s, 6, owner.line, owner.name + 1, 0, 0, 0),
+        Rejected::Undefined => steps::push(d, s, 7, owner.line, f.name + 1, f.ty.arg + 1, 0, 0),
     }
 }
 
@@ -107,17 +102,16 @@ fn look(
     d: &mut [u32],
     s: Kept,
     told: Result<(), Rejected>,
-    line: u32,
-    owner: u32,
+    owner: TypeAt,
     f: FieldAt,
 ) -> Kept
-    requires { Fit s.counts (length b.now) (length d.old) × (s.words ≤ 65535) × (s.fields < 16777216) × (owner < 16777216) × (f.name < 16777216) × (f.ty.arg < 16777216) }
-    ensures { Looks line owner (code_told told) f.name f.ty.head f.ty.arg s result b.now d.old d.new }
+    requires { Fit s.counts (length b.now) (length d.old) × (s.words ≤ 65535) × (s.fields < 16777216) }
+    ensures { Looks owner.line owner.name (code_told told) f.name f.ty.head f.ty.arg s result b.now d.old d.new }
 {
     let c = s.counts;
     if let Err(why) = told {
         return Kept {
-            counts: reject(d, c, why, line, owner, f),
+            counts: reject(d, c, why, owner, f),
             ..s
         };
     }
@@ -140,20 +134,10 @@ fn look(
     }
 }
 
-// The n fields from `at` on looked at in order. The marks of the kept ones are 1.
-fn check(
-    words: &[u32],
-    b: &[u32],
-    d: &mut [u32],
-    seen: &mut [u8],
-    s: Counts,
-    line: u32,
-    owner: u32,
-    at: usize,
-    n: u32,
-) -> Kept
-    requires { Fit s (length b.now) (length d.old) × SomeFields words.now at n × (owner < 16777216) × (n < 16777216) × Below 1 seen.old }
-    ensures { Checks words.now at n line owner s result b.now d.old d.new × Below 2 seen.new }
+// The fields of the TYPE looked at in order. The marks of the kept ones are 1.
+fn check(words: &[u32], b: &[u32], d: &mut [u32], seen: &mut [u8], s: Counts, owner: TypeAt) -> Kept
+    requires { Fit s (length b.now) (length d.old) × SomeFields words.now owner.fields owner.count × Below 1 seen.old }
+    ensures { Checks words.now owner.fields owner.count owner.line owner.name s result b.now d.old d.new × Below 2 seen.new }
 {
     let rows = Rows {
         words: b,
@@ -164,12 +148,12 @@ fn check(
         fields: 0,
         words: 0,
     };
-    let mut a = at;
-    for _ in 0..n {
-        let f = field_at(words, a);
+    let mut at = owner.fields;
+    for _ in 0..owner.count {
+        let f = field_at(words, at);
         let told = check_field(&rows, seen, owner, 1, f);
-        c = look(b, d, c, told, line, owner, f);
-        a = f.next;
+        c = look(b, d, c, told, owner, f);
+        at = f.next;
     }
     c
 }
@@ -187,9 +171,9 @@ fn grown(words: u32, more: u32) -> u32
 }
 
 // A field entered where it is kept.
-fn keep(b: &mut [u32], s: Kept, told: Result<(), Rejected>, owner: u32, f: FieldAt) -> Kept
-    requires { (s.counts.rows * width ≤ length b.old) × (s.words ≤ 65535) × (s.fields < 16777216) × (owner < 16777216) × (f.ty.arg < 16777216) }
-    ensures { KeepsField owner (code_told told) f.name f.ty.head f.ty.arg s result b.old b.new }
+fn keep(b: &mut [u32], s: Kept, told: Result<(), Rejected>, owner: TypeAt, f: FieldAt) -> Kept
+    requires { (s.counts.rows * width ≤ length b.old) × (s.words ≤ 65535) × (s.fields < 16777216) }
+    ensures { KeepsField owner.name (code_told told) f.name f.ty.head f.ty.arg s result b.old b.new }
 {
     if told.is_err() {
         return s;
@@ -201,7 +185,7 @@ fn keep(b: &mut [u32], s: Kept, told: Result<(), Rejected>, owner: u32, f: Field
     };
     let w = grown(s.words, lookup::type_words(&rows, f.ty.head, f.ty.arg));
     let t = steps::enter(
-        b, c, 131, owner, s.fields, f.name, s.words, f.ty.head, f.ty.arg,
+        b, c, 131, owner.name, s.fields, f.name, s.words, f.ty.head, f.ty.arg,
     );
     Kept {
         counts: t,
@@ -210,62 +194,45 @@ fn keep(b: &mut [u32], s: Kept, told: Result<(), Rejected>, owner: u32, f: Field
     }
 }
 
-// Those of the n fields from `at` on that are kept, entered under the TYPE: what is asked of the rows is as it was before. The marks of the kept ones are 2.
-fn enter_fields(
-    words: &[u32],
-    b: &mut [u32],
-    seen: &mut [u8],
-    s: Counts,
-    owner: u32,
-    at: usize,
-    n: u32,
-) -> Counts
-    requires { (s.rows * width ≤ length b.old) × SomeFields words.now at n × (owner < 16777216) × (n < 16777216) × Below 2 seen.old }
-    ensures { Enters words.now at n owner s result b.old b.new }
+// Those of its fields that are kept, entered under the TYPE: what is asked of the rows is as it was before. The marks of the kept ones are 2.
+fn enter_fields(words: &[u32], b: &mut [u32], seen: &mut [u8], s: Counts, owner: TypeAt) -> Counts
+    requires { (s.rows * width ≤ length b.old) × SomeFields words.now owner.fields owner.count × Below 2 seen.old }
+    ensures { Enters words.now owner.fields owner.count owner.name s result b.old b.new }
 {
     let mut c = Kept {
         counts: s,
         fields: 0,
         words: 0,
     };
-    let mut a = at;
-    for _ in 0..n {
-        let f = field_at(words, a);
+    let mut at = owner.fields;
+    for _ in 0..owner.count {
+        let f = field_at(words, at);
         let rows = Rows {
             words: b,
             count: c.counts.rows,
         };
         let told = check_field(&rows, seen, owner, 2, f);
         c = keep(b, c, told, owner, f);
-        a = f.next;
+        at = f.next;
     }
     c.counts
 }
 
-// The n fields from `at` on of the TYPE: two passes, for a run that the first one stops enters no row. Of the old fields only those go that the new
+// The fields of the TYPE: two passes, for a run that the first one stops enters no row. Of the old fields only those go that the new
 // ones don't replace. The marks are by the numbers of names, which are below 1,024.
-fn fields(
-    words: &[u32],
-    b: &mut [u32],
-    d: &mut [u32],
-    s: Counts,
-    line: u32,
-    owner: u32,
-    at: usize,
-    n: u32,
-) -> Counts
-    requires { Fit s (length b.old) (length d.old) × SomeFields words.now at n × (owner + 1 < 16777216) × (n < 16777216) }
-    ensures { Defines words.now at n line owner s result b.old d.old b.new d.new }
+fn fields(words: &[u32], b: &mut [u32], d: &mut [u32], s: Counts, owner: TypeAt) -> Counts
+    requires { Fit s (length b.old) (length d.old) × SomeFields words.now owner.fields owner.count }
+    ensures { Defines words.now owner.fields owner.count owner.line owner.name s result b.old d.old b.new d.new }
 {
     if s.stop != 0 {
         return s;
     }
     let mut seen = [0u8; 1024];
-    let c = check(words, b, d, &mut seen, s, line, owner, at, n);
+    let c = check(words, b, d, &mut seen, s, owner);
     let t = c.counts;
-    let t1 = steps::remove_under(b, t, 131, owner, c.fields);
-    let t2 = steps::enter(b, t1, 130, owner, 0, c.words, line, 0, 0);
-    enter_fields(words, b, &mut seen, t2, owner, at, n)
+    let t1 = steps::remove_under(b, t, 131, owner.name, c.fields);
+    let t2 = steps::enter(b, t1, 130, owner.name, 0, c.words, owner.line, 0, 0);
+    enter_fields(words, b, &mut seen, t2, owner)
 }
 
 // A TYPE, defined again or not.
@@ -282,7 +249,7 @@ pub fn type_def(
 {
     let line = words[at] % 16777216;
     let name = words[at + 1] % 16777216;
-    let n = words[at + 2] % 16777216;
+    let count = words[at + 2] % 16777216;
     let rows = Rows {
         words: b,
         count: s.rows,
@@ -291,5 +258,11 @@ pub fn type_def(
     let prev = lookup::word(&rows, 130, name, 0, 3);
     let t1 = steps::push_if(d, s, twice, 3, line, name + 1, 0, 0, prev);
     let t2 = steps::push_if(d, t1, scope != 0, 4, line, name + 1, 0, 0, 0);
-    fields(words, b, d, t2, line, name, at + 3, n)
+    let owner = TypeAt {
+        line,
+        name,
+        fields: at + 3,
+        count,
+    };
+    fields(words, b, d, t2, owner)
 }

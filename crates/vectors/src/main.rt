@@ -52,7 +52,7 @@ fn float(w: TwoWords) -> f64
     if not_finite(w) {
         0.0
     } else {
-        numbers::of_words(w.low, w.high)
+        numbers::of_words(w)
     }
 }
 
@@ -73,13 +73,13 @@ fn narrows(x: TwoWords, y: TwoWords) -> bool {
 
 fn rounds(x: TwoWords, y: TwoWords) -> bool {
     match numbers::to_long(Halves::Even, float(x)) {
-        Some(z) => z == numbers::of_whole_words(y.low, y.high),
+        Some(z) => z == numbers::of_whole_words(y),
         None => y.high == 2147483648,
     }
 }
 
 fn widens(x: TwoWords, y: TwoWords) -> bool {
-    bits(numbers::to_double(numbers::of_whole_words(x.low, x.high))) == y
+    bits(numbers::to_double(numbers::of_whole_words(x))) == y
 }
 
 // Whether a line's second number is what becomes of the first.

@@ -5,18 +5,18 @@ use Rattle.accesses.proofs.Scanning.{Scanned}
 use Rattle.accesses.proofs.+procedure_scan_token.Given as goal
 
 abbrev pub decreases-procedure : goal.decreases-procedure
-decreases-procedure l = 3 * (length l.words.now - l.at)
+decreases-procedure l = 3 * (length l.inputs.now.source.words.now - l.spot.at)
 
 abbrev pub decreases-scan : goal.decreases-scan
-decreases-scan l = 3 * (length l.words.now - l.from) + 2
+decreases-scan l = 3 * (length l.inputs.now.source.words.now - l.spot.at) + 2
 
 abbrev pub decreases-token : goal.decreases-token
-decreases-token l = 3 * (length l.words.now - l.at) + 1
+decreases-token l = 3 * (length l.inputs.now.source.words.now - l.spot.at) + 1
 
-abbrev pub invariant-scan-loop-spot : goal.invariant-scan-loop-spot
-invariant-scan-loop-spot l =
-    Scanned l.names l.words l.rows.words.now l.initial.out l.rows.count l.scope l.from l.end l.to l.spot.at l.spot.to l.out
+abbrev pub invariant-scan-loop-next : goal.invariant-scan-loop-next
+invariant-scan-loop-next l =
+    Scanned l.inputs.source.names.now l.inputs.source.words.now l.inputs.rows.words.now l.initial.out l.inputs.rows.count l.scope l.fn.spot.at l.end l.fn.spot.to l.next.at l.next.to l.out
 
-abbrev pub decreases-scan-loop-spot : goal.decreases-scan-loop-spot
-decreases-scan-loop-spot l =
-    l.end - l.spot.at
+abbrev pub decreases-scan-loop-next : goal.decreases-scan-loop-next
+decreases-scan-loop-next l =
+    l.end - l.next.at

@@ -6,8 +6,8 @@ use Rattle.words.specs.Word.{pay_of}
 use Rattle.accesses.proofs.Steps.{call_room, ready_call, not_procedure, array_head, call_done, call_head_done}
 use Rattle.accesses.proofs.call.Goals as goal
 
-pub bounds-words-at : goal.bounds-words-at
-bounds-words-at c = omega (arith, call_room c.requires.0 c.requires.1)
+pub bounds-inputs-spot : goal.bounds-inputs-spot
+bounds-inputs-spot c = omega (arith, call_room c.requires.0 c.requires.1)
 
 pub resolve_expr-requires : goal.resolve_expr-requires
 resolve_expr-requires c = ready_call c.requires.0 c.requires.1
@@ -15,11 +15,11 @@ resolve_expr-requires c = ready_call c.requires.0 c.requires.1
 pub returns-then-has : goal.returns-then-has
 returns-then-has c = call_done c.requires.1 c.resolve_expr.ensures
 
-pub three-requires : goal.three-requires
-three-requires c = call_room c.requires.0 c.requires.1
+pub begin-requires : goal.begin-requires
+begin-requires c = call_room c.requires.0 c.requires.1
 
 pub returns : goal.returns
 returns c =
-    let f : ℕ = pay_of (get_or c.args.words.now (c.args.at + 1) 0) in
+    let f : ℕ = pay_of (get_or c.args.inputs.now.source.words.now (c.args.spot.at + 1) 0) in
     let n = not_procedure f c.has.ensures c.if-has.false in
-    call_head_done c.requires.1 n (array_head c.args.scope f c.headed-h.ensures c.is_array.ensures n) c.three.ensures
+    call_head_done c.requires.1 n (array_head c.args.scope f c.headed-h.ensures c.is_array.ensures n) c.begin.ensures

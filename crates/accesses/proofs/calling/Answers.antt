@@ -6,20 +6,20 @@ use Rattle.words.specs.Word.{pay_of}
 use Rattle.accesses.proofs.Steps.{calling_room, ready_args, not_procedure, calling_done, calling_head_done}
 use Rattle.accesses.proofs.calling.Goals as goal
 
-pub bounds-words-at : goal.bounds-words-at
-bounds-words-at c = omega (arith, calling_room c.requires.0 c.requires.1)
+pub bounds-inputs-spot : goal.bounds-inputs-spot
+bounds-inputs-spot c = omega (arith, calling_room c.requires.0 c.requires.1)
 
-pub bounds-words-at-2 : goal.bounds-words-at-2
-bounds-words-at-2 c = omega (arith, calling_room c.requires.0 c.requires.1)
+pub bounds-inputs-spot-2 : goal.bounds-inputs-spot-2
+bounds-inputs-spot-2 c = omega (arith, calling_room c.requires.0 c.requires.1)
 
-pub three-s-requires : goal.three-s-requires
-three-s-requires c = calling_room c.requires.0 c.requires.1
+pub begin-first-requires : goal.begin-first-requires
+begin-first-requires c = calling_room c.requires.0 c.requires.1
 
 pub resolve_args-requires : goal.resolve_args-requires
-resolve_args-requires c = (ready_args c.requires.0 c.requires.1 c.three-s.auto.out, omega arith)
+resolve_args-requires c = (ready_args c.requires.0 c.requires.1 c.begin-first.auto.out c.begin-first.ensures.0 c.begin-first.ensures.1, omega arith)
 
 pub returns-then-has : goal.returns-then-has
-returns-then-has c = calling_done c.requires.1 c.three-s.ensures.2 c.resolve_args.ensures
+returns-then-has c = calling_done c.requires.1 c.begin-first.ensures c.resolve_args.ensures
 
 pub returns : goal.returns
-returns c = calling_head_done c.requires.1 (not_procedure (pay_of (get_or c.args.words.now (c.args.at + 1) 0)) c.has.ensures c.if-has.false) c.three-s.ensures
+returns c = calling_head_done c.requires.1 (not_procedure (pay_of (get_or c.args.inputs.now.source.words.now (c.args.spot.at + 1) 0)) c.has.ensures c.if-has.false) c.begin-first.ensures

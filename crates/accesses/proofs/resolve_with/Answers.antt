@@ -3,7 +3,7 @@ use Rattle.accesses.proofs.Scanning.{ready_scan, program_done}
 use Rattle.accesses.proofs.resolve_with.Goals as goal
 
 pub scan-requires : goal.scan-requires
-scan-requires c = (ready_scan c.requires.0, c.requires.1)
+scan-requires c = ready_scan c.requires.0
 
 pub returns : goal.returns
 returns c = program_done c.requires.0 c.scan.ensures

@@ -12,8 +12,11 @@ returns-then-not-sized_program c = entry_tells (answers_size (sym c.sized_progra
 pub returns-in_err-check : goal.returns-in_err-check
 returns-in_err-check c = let p = err_from_is_err_and c.from_residual.result c.from_residual.ensures.1 in rw (p.1, p.2) (entry_tells (answers_breaks (sym c.sized_program.ensures ∙ c.if-not-sized_program.false) c.check.ensures c.in_err-check.was refl) (breaks_tells _ c.args.notes.now c.args.rows.now c.args.out.now))
 
+pub invariant_of-strings : goal.invariant_of-strings
+invariant_of-strings c = record { right = said_sound c.check.ensures c.in_ok-check.was }
+
 pub marked-requires : goal.marked-requires
-marked-requires c = (said_sound c.check.ensures c.in_ok-check.was, few_strings' c.args.bytes.now c.args.ends.now c.args.words.now c.args.erased.now (sym c.sized_program.ensures ∙ c.if-not-sized_program.false), c.requires)
+marked-requires c = (few_strings' c.args.strings.now.bytes.now c.args.strings.now.ends.now c.args.words.now c.args.erased.now (sym c.sized_program.ensures ∙ c.if-not-sized_program.false), c.requires)
 
 pub returns : goal.returns
 returns c = entry_tells (answers_inner (sym c.sized_program.ensures ∙ c.if-not-sized_program.false) (said_sound c.check.ensures c.in_ok-check.was) refl) c.marked.ensures

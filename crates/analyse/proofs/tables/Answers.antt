@@ -1,5 +1,4 @@
 -- Empty buffers, the walk, the rows put in order, the collision check, and zeros where it stopped. Assumes nothing.
-use mathlib.Core.Path.{◌∙◌}
 use mathlib.Core.List.{[]}
 use Rattle.collecting.specs.Start.{start_ready}
 use Rattle.analyse.proofs.Laws.{check_ready, tabled}
@@ -8,17 +7,11 @@ use Rattle.analyse.proofs.tables.Goals as goal
 pub statements-c-requires : goal.statements-c-requires
 statements-c-requires c = (start_ready c.requires.0 c.begin_in-s.ensures, c.requires.1)
 
-pub settle-requires : goal.settle-requires
-settle-requires c = c.statements-c.ensures.kept.fit.0
-
 pub collisions-d-requires : goal.collisions-d-requires
 collisions-d-requires c = check_ready c.requires.0 c.statements-c.ensures.kept c.settle.ensures
 
 pub finish-requires : goal.finish-requires
 finish-requires c = (c.collisions-d.ensures.does []).fit.0
-
-pub shape_of-rows : goal.shape_of-rows
-shape_of-rows c = c.finish.auto.b ∙ c.settle.auto.b ∙ c.statements-c.auto.b ∙ c.begin_in-s.auto.b
 
 pub returns : goal.returns
 returns c = tabled c.requires.0 c.begin_in-s.ensures c.statements-c.ensures c.settle.ensures c.collisions-d.ensures c.finish.ensures

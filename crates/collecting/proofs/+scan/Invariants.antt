@@ -11,7 +11,7 @@ decreases-scan l = l.to - l.from
 
 abbrev pub invariant-loop-at : goal.invariant-loop-at
 invariant-loop-at l =
-    (length l.b ≡ length l.initial.b) × (length l.d ≡ length l.initial.d) × SoFar l.words l.names l.bytes l.ends l.erased l.scope l.from l.at l.to l.initial.t l.t l.initial.b l.initial.d l.b l.d × (l.at < l.to → Doing (kind_of (get_or l.words l.at 0)))
+    (length l.b ≡ length l.initial.b) × (length l.d ≡ length l.initial.d) × SoFar l.words l.program.source.names.now l.program.strings.bytes.now l.program.strings.ends.now l.program.erased.now l.scope l.from l.at l.to l.initial.t l.t l.initial.b l.initial.d l.b l.d × (l.at < l.to → Doing (kind_of (get_or l.words l.at 0)))
 
 abbrev pub decreases-loop-at : goal.decreases-loop-at
 decreases-loop-at l =

@@ -1,10 +1,6 @@
 -- A procedure is a SUB or a FUNCTION. Assumes nothing.
-use Rattle.plans.proofs.Walk.{head_range}
 use Rattle.collecting.proofs.Match.{sub_there, sub_done, function_there, function_done, function_kind_lem}
 use Rattle.collecting.proofs.procedure.Goals as goal
-
-pub bounds-words-at : goal.bounds-words-at
-bounds-words-at c = (head_range c.requires.ready.tree.stands).2
 
 pub sub-requires : goal.sub-requires
 sub-requires c = sub_there c.requires c.if-words-at-eq84.true

@@ -1,11 +1,8 @@
 -- The match: each arm asks what its crate asks, and does what the definition says of its kind. Assumes nothing.
-use Rattle.plans.proofs.Walk.{head_range}
-use Rattle.collecting.proofs.Heads.{nothing_said, head_less}
+use native.Mathlib.Omega.{arith}
+use Rattle.collecting.proofs.Heads.{nothing_said}
 use Rattle.collecting.proofs.Match.{label_there, label_done, label_name_there, label_name_done, dim_there, dim_done, shared_there, shared_done, statics_there, statics_done, redim_there, redim_done, constant_there, constant_done, option_base_there, option_base_done, type_def_there, type_def_done}
 use Rattle.collecting.proofs.statement.Goals as goal
-
-pub bounds-words-at : goal.bounds-words-at
-bounds-words-at c = (head_range c.requires.0.tree.stands).2
 
 pub label-requires : goal.label-requires
 label-requires c = label_there c.requires.0 c.in-64.is
@@ -62,4 +59,4 @@ pub returns-in-93 : goal.returns-in-93
 returns-in-93 c = type_def_done c.in-93.is c.type_def.ensures
 
 pub returns-in_default : goal.returns-in_default
-returns-in_default c = nothing_said c.requires.0.kept.fit (record { no_label = λ e. c.in_default.in_default-own.rest.0.0.0.0.0.0.0.0.1 (head_less 0 c.requires.0.tree.stands e); no_label_name = λ e. c.in_default.in_default-own.rest.0.0.0.0.0.0.0.1 (head_less 1 c.requires.0.tree.stands e); no_dim = λ e. c.in_default.in_default-own.rest.0.0.0.0.0.0.1 (head_less 15 c.requires.0.tree.stands e); no_shared = λ e. c.in_default.in_default-own.rest.0.0.0.0.0.1 (head_less 17 c.requires.0.tree.stands e); no_static = λ e. c.in_default.in_default-own.rest.0.0.0.0.1 (head_less 18 c.requires.0.tree.stands e); no_redim = λ e. c.in_default.in_default-own.rest.0.0.0.1 (head_less 19 c.requires.0.tree.stands e); no_sub = λ e. c.requires.1.no_sub (head_less 20 c.requires.0.tree.stands e); no_function = λ e. c.requires.1.no_function (head_less 21 c.requires.0.tree.stands e); no_const = λ e. c.in_default.in_default-own.rest.0.0.1 (head_less 25 c.requires.0.tree.stands e); no_option_base = λ e. c.in_default.in_default-own.rest.0.1 (head_less 28 c.requires.0.tree.stands e); no_type_def = λ e. c.in_default.in_default-own.rest.1 (head_less 29 c.requires.0.tree.stands e) })
+returns-in_default c = nothing_said c.requires.0.kept.fit (grind arith)

@@ -6,16 +6,16 @@ use Rattle.collection.proofs.Entry.{refused_tells, run_stops, run_refused, run_d
 use Rattle.collection.proofs.noted.Goals as goal
 
 pub returns-in_err-check_program_with : goal.returns-in_err-check_program_with
-returns-in_err-check_program_with c = let p = err_from_is_err_and c.from_residual.result c.from_residual.ensures.1 in rw (p.1, p.2) (refused_tells c.args.bytes.now c.args.ends.now c.args.erased.now c.args.words.now (length c.args.b.now) (length c.args.d.now) c.args.b.now c.args.d.now (not_passed c.args.erased.now c.args.words.now c.requires.0 c.check_program_with.ensures.0 c.in_err-check_program_with.was))
+returns-in_err-check_program_with c = let p = err_from_is_err_and c.from_residual.result c.from_residual.ensures.1 in rw (p.1, p.2) (refused_tells c.args.program.now.strings.bytes.now c.args.program.now.strings.ends.now c.args.program.now.erased.now c.args.program.now.source.words.now (length c.args.b.now) (length c.args.d.now) c.args.b.now c.args.d.now (not_passed c.args.program.now.erased.now c.args.program.now.source.words.now c.args.program.now.named c.check_program_with.ensures.0 c.in_err-check_program_with.was))
 
 pub tables-s-requires : goal.tables-s-requires
-tables-s-requires c = (passed c.requires.0 c.requires.1 c.check_program_with.ensures.0 c.in_ok-check_program_with.was, c.check_program_with.ensures.1.gives c.requires.2)
+tables-s-requires c = (passed c.args.program.now.named c.args.program.now.source.few c.check_program_with.ensures.0 c.in_ok-check_program_with.was, c.check_program_with.ensures.1.gives c.requires)
 
 pub refusal-requires : goal.refusal-requires
-refusal-requires c = run_stops (passed c.requires.0 c.requires.1 c.check_program_with.ensures.0 c.in_ok-check_program_with.was) c.tables-s.ensures c.if-s-ne0.true
+refusal-requires c = run_stops (passed c.args.program.now.named c.args.program.now.source.few c.check_program_with.ensures.0 c.in_ok-check_program_with.was) c.tables-s.ensures c.if-s-ne0.true
 
 pub returns-then-s-ne0 : goal.returns-then-s-ne0
-returns-then-s-ne0 c = run_refused (passed c.requires.0 c.requires.1 c.check_program_with.ensures.0 c.in_ok-check_program_with.was) c.tables-s.ensures c.if-s-ne0.true c.refusal.ensures
+returns-then-s-ne0 c = run_refused (passed c.args.program.now.named c.args.program.now.source.few c.check_program_with.ensures.0 c.in_ok-check_program_with.was) c.tables-s.ensures c.if-s-ne0.true c.refusal.ensures
 
 pub returns : goal.returns
-returns c = run_done (passed c.requires.0 c.requires.1 c.check_program_with.ensures.0 c.in_ok-check_program_with.was) c.tables-s.ensures c.if-s-ne0.false
+returns c = run_done (passed c.args.program.now.named c.args.program.now.source.few c.check_program_with.ensures.0 c.in_ok-check_program_with.was) c.tables-s.ensures c.if-s-ne0.false

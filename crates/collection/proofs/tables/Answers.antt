@@ -6,8 +6,5 @@ use Rattle.collection.proofs.tables.Goals as goal
 pub statements-t-requires : goal.statements-t-requires
 statements-t-requires c = (start_ready c.requires.0 c.begin-s.ensures, c.requires.1)
 
-pub finish-requires : goal.finish-requires
-finish-requires c = c.statements-t.ensures.kept.fit.0
-
 pub returns : goal.returns
-returns c = run_tabled (λ i. (c.shared_slice_known-1.given i).fits) c.requires.0 c.begin-s.ensures c.statements-t.ensures c.finish.ensures
+returns c = run_tabled c.requires.0 c.begin-s.ensures c.statements-t.ensures c.finish.ensures

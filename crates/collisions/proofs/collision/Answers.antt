@@ -3,7 +3,7 @@ use Rattle.collisions.proofs.Laws.{collides_proc, collides_none}
 use Rattle.collisions.proofs.collision.Goals as goal
 
 pub is_builtin-builtin-requires : goal.is_builtin-builtin-requires
-is_builtin-builtin-requires c = (c.requires.0.strings, c.requires.0.named)
+is_builtin-builtin-requires c = c.requires.0.named
 
 pub returns-in-Some : goal.returns-in-Some
 returns-in-Some c = collides_proc c.find_entry.ensures.found _ c.in-Some.is c.push.ensures

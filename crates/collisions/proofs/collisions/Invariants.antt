@@ -3,4 +3,4 @@ use Rattle.collisions.proofs.Laws.{Upto}
 use Rattle.collisions.proofs.collisions.Given as goal
 
 abbrev pub invariant-loop-i : goal.invariant-loop-i
-invariant-loop-i l = Upto l.bytes l.ends l.b l.rows.count l.from l.end l.initial.t l.initial.d l.t l.d l.i
+invariant-loop-i l = Upto l.strings.bytes.now l.strings.ends.now l.b l.rows.count l.from l.end l.initial.t l.initial.d l.t l.d l.i

@@ -8,4 +8,4 @@ pub spelled-requires : goal.spelled-requires
 spelled-requires c = c.requires
 
 pub returns : goal.returns
-returns c = c.is_some.ensures ∙ knows (string_at c.args.bytes.now c.args.ends.now c.args.name) c.spelled.ensures
+returns c = c.is_some.ensures ∙ knows (string_at c.args.strings.now.bytes.now c.args.strings.now.ends.now c.args.name) c.spelled.ensures

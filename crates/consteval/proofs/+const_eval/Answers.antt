@@ -1,59 +1,26 @@
 -- The proof of `const_eval`, which calls itself: the number of words left falls. Each answer is a law of `Laws` at the place. Assumes nothing.
 use native.Mathlib.Omega.{arith}
 use borrow.Author.Rules.{rules}
-use Rattle.consteval.proofs.Laws.{no_value, some_expr, holds_consts, literal_at_lem, row, good, moves, here, alone, name_fits, name_is, operand, negated_is, not_is, left_side, right_side, failed_is, combined_is, inner, paren_is, other_is}
+use Rattle.consteval.proofs.Laws.{no_value, some_expr, row, good, moves, here, alone, name_fits, name_is, operand, negated_is, not_is, left_side, right_side, failed_is, combined_is, inner, paren_is, other_is}
 use Rattle.consteval.proofs.+const_eval.Goals as goal
-
-pub offset_bounds-words-at : goal.offset_bounds-words-at
-offset_bounds-words-at t c = omega (arith, here c.requires, c.well_formed)
 
 pub bounds-words-at : goal.bounds-words-at
 bounds-words-at t c = here c.requires
 
-pub literal-requires : goal.literal-requires
-literal-requires t c = literal_at_lem c.requires c.in-16.is
-
-pub overflow_add-at : goal.overflow_add-at
-overflow_add-at t c = omega (arith, name_fits c.in-17.is c.requires, c.well_formed)
-
-pub offset_bounds-words-at-in-17 : goal.offset_bounds-words-at-in-17
-offset_bounds-words-at-in-17 t c = omega (arith, name_fits c.in-17.is c.requires, c.well_formed)
-
 pub bounds-words-at-in-17 : goal.bounds-words-at-in-17
 bounds-words-at-in-17 t c = name_fits c.in-17.is c.requires
-
-pub overflow_add-at-in-17 : goal.overflow_add-at-in-17
-overflow_add-at-in-17 t c = omega (arith, name_fits c.in-17.is c.requires, c.well_formed)
-
-pub constant-requires-clause-holds_consts : goal.constant-requires-clause-holds_consts
-constant-requires-clause-holds_consts t c = holds_consts c.requires
-
-pub overflow_add-at-in-19 : goal.overflow_add-at-in-19
-overflow_add-at-in-19 t c = omega (arith, here (operand c.in-19.is c.requires), c.well_formed)
-
-pub offset_bounds-words-at-in-19 : goal.offset_bounds-words-at-in-19
-offset_bounds-words-at-in-19 t c = omega (arith, here (operand c.in-19.is c.requires), c.well_formed)
 
 pub bounds-words-at-in-19 : goal.bounds-words-at-in-19
 bounds-words-at-in-19 t c = omega (arith, here (operand c.in-19.is c.requires))
 
-pub opaque-requires : goal.opaque-requires
-opaque-requires t c = some_expr c.requires
-
 pub returns-then-words-at-ne0 : goal.returns-then-words-at-ne0
 returns-then-words-at-ne0 t c = not_is c.in-19.is c.if-words-at-ne0.true c.opaque.ensures
-
-pub overflow_add-at-in-19-2 : goal.overflow_add-at-in-19-2
-overflow_add-at-in-19-2 t c = omega (arith, here (operand c.in-19.is c.requires), c.well_formed)
 
 pub const_eval-requires : goal.const_eval-requires
 const_eval-requires t c = (omega (arith, here (operand c.in-19.is c.requires), c.decreases), operand c.in-19.is c.requires)
 
 pub negated-requires : goal.negated-requires
 negated-requires t c = row {ws = c.args.words.now} (λ i. (c.type_inv.words i).fits) (operand c.in-19.is c.requires) c.const_eval.ensures
-
-pub overflow_add-at-in-20 : goal.overflow_add-at-in-20
-overflow_add-at-in-20 t c = omega (arith, here (left_side c.in-20.is c.requires), c.well_formed)
 
 pub const_eval-l-requires : goal.const_eval-l-requires
 const_eval-l-requires t c = (omega (arith, here (left_side c.in-20.is c.requires), c.decreases), left_side c.in-20.is c.requires)
@@ -67,12 +34,6 @@ returns-then-is_err t c = failed_is c.in-20.is c.const_eval-l.ensures (no_value 
 pub const_eval-r-requires : goal.const_eval-r-requires
 const_eval-r-requires t c = (omega (arith, moves (left_side c.in-20.is c.requires) c.const_eval-l.ensures, here (right_side c.in-20.is c.const_eval-l.ensures c.requires), c.decreases), right_side c.in-20.is c.const_eval-l.ensures c.requires)
 
-pub overflow_add-at-in-20-2 : goal.overflow_add-at-in-20-2
-overflow_add-at-in-20-2 t c = omega (arith, here (left_side c.in-20.is c.requires), c.well_formed)
-
-pub offset_bounds-words-at-in-20 : goal.offset_bounds-words-at-in-20
-offset_bounds-words-at-in-20 t c = omega (arith, here (left_side c.in-20.is c.requires), c.well_formed)
-
 pub bounds-words-at-in-20 : goal.bounds-words-at-in-20
 bounds-words-at-in-20 t c = omega (arith, here (left_side c.in-20.is c.requires))
 
@@ -82,14 +43,8 @@ combined-requires-clause-good_fold t c = good {ws = c.args.words.now} (λ i. (c.
 pub combined-requires-clause-good_fold_2 : goal.combined-requires-clause-good_fold_2
 combined-requires-clause-good_fold_2 t c = good {ws = c.args.words.now} (λ i. (c.type_inv.words i).fits) (right_side c.in-20.is c.const_eval-l.ensures c.requires) c.const_eval-r.ensures
 
-pub overflow_add-at-in-23 : goal.overflow_add-at-in-23
-overflow_add-at-in-23 t c = omega (arith, here (inner c.in-23.is c.requires), c.well_formed)
-
 pub const_eval-requires-in-23 : goal.const_eval-requires-in-23
 const_eval-requires-in-23 t c = (omega (arith, here (inner c.in-23.is c.requires), c.decreases), inner c.in-23.is c.requires)
-
-pub opaque-requires-in_default : goal.opaque-requires-in_default
-opaque-requires-in_default t c = some_expr c.requires
 
 pub returns-in-16 : goal.returns-in-16
 returns-in-16 t c = alone c.literal.ensures

@@ -4,7 +4,6 @@ use mathlib.Core.Path.{sym, subst}
 use Rattle.consteval.specs.Evaluates.{EvaluatesAlone}
 use Rattle.consteval.specs.declared.Folded.{Folded}
 use Rattle.consteval.proofs.Literals.{eval_whole, eval_float, eval_28, word_2, float_inside}
-use Rattle.consteval.proofs.literal.Goals.{in_default-via-then-k-lt24, in_default-via-else-k-lt24+else-k-lt26+else-k-lt28}
 use Rattle.consteval.proofs.literal.Goals as goal
 
 pub bounds-words-at : goal.bounds-words-at
@@ -17,12 +16,10 @@ pub bounds-words-at-in-26 : goal.bounds-words-at-in-26
 bounds-words-at-in-26 c = float_inside c.requires (omega arith) (omega arith)
 
 pub returns-in-24 : goal.returns-in-24
-returns-in-24 c = subst (λ (x : Folded). EvaluatesAlone c.args.words.now c.args.at x) (sym c.value.ensures) (eval_whole c.requires.kind (omega arith) (omega arith) c.sign.ensures)
+returns-in-24 c = subst (λ (x : Folded). EvaluatesAlone c.args.words.now c.args.at x) (sym c.value.ensures) (eval_whole c.requires.kind (omega arith) (omega arith) c.sign-high.ensures)
 
 pub returns-in-26 : goal.returns-in-26
 returns-in-26 c = subst (λ (x : Folded). EvaluatesAlone c.args.words.now c.args.at x) (sym c.value-in-26.ensures) (eval_float c.requires.kind (omega arith) (omega arith))
 
 pub returns-in_default : goal.returns-in_default
-returns-in_default c =
-    subst (λ (x : Folded). EvaluatesAlone c.args.words.now c.args.at x) (sym c.value-in_default.ensures)
-    (elim c.in_default.branch [ in_default-via-then-k-lt24 w ↦ eval_28 c.requires.kind (λ e. omega arith) (λ e. omega arith) (λ e. omega arith) (λ e. omega arith) | in_default-via-else-k-lt24+else-k-lt26+else-k-lt28 w ↦ eval_28 c.requires.kind (λ e. omega arith) (λ e. omega arith) (λ e. omega arith) (λ e. omega arith) ])
+returns-in_default c = subst (λ (x : Folded). EvaluatesAlone c.args.words.now c.args.at x) (sym c.value-in_default.ensures) (eval_28 c.requires.kind (λ e. grind arith) (λ e. grind arith) (λ e. grind arith) (λ e. grind arith))

@@ -9,13 +9,13 @@ unfolding clash_of
 returns-in_err-old c = rw c.in_err-old.was c.from_residual.ensures
 
 pub returns-then-kept : goal.returns-then-kept
-returns-then-kept c = rw c.in_ok-old.was (clash_kept c.args.erased.now c.args.redim c.args.preserve c.args.name c.args.rank _ c.kept.ensures c.if-kept.true)
+returns-then-kept c = rw c.in_ok-old.was (clash_kept c.args.erased.now c.args.st.redim c.args.st.preserve c.args.name c.args.rank _ c.kept.ensures c.if-kept.true)
 
 pub returns-then-old-rank : goal.returns-then-old-rank
-returns-then-old-rank c = rw c.in_ok-old.was (clash_same c.args.erased.now c.args.redim c.args.preserve c.args.name c.args.rank _ c.kept.ensures c.if-kept.false c.if-old-rank.true)
+returns-then-old-rank c = rw c.in_ok-old.was (clash_same c.args.erased.now c.args.st.redim c.args.st.preserve c.args.name c.args.rank _ c.kept.ensures c.if-kept.false c.if-old-rank.true)
 
-pub returns-then-preserve : goal.returns-then-preserve
-returns-then-preserve c = rw c.in_ok-old.was (clash_other c.args.erased.now c.args.redim c.args.preserve c.args.name c.args.rank _ c.kept.ensures c.if-kept.false c.if-old-rank.false (rw c.if-preserve.true refl))
+pub returns-then-st : goal.returns-then-st
+returns-then-st c = rw c.in_ok-old.was (clash_other c.args.erased.now c.args.st.redim c.args.st.preserve c.args.name c.args.rank _ c.kept.ensures c.if-kept.false c.if-old-rank.false (rw c.if-st.true refl))
 
-pub returns-else-preserve : goal.returns-else-preserve
-returns-else-preserve c = rw c.in_ok-old.was (clash_other c.args.erased.now c.args.redim c.args.preserve c.args.name c.args.rank _ c.kept.ensures c.if-kept.false c.if-old-rank.false (rw c.if-preserve.false refl))
+pub returns-else-st : goal.returns-else-st
+returns-else-st c = rw c.in_ok-old.was (clash_other c.args.erased.now c.args.st.redim c.args.st.preserve c.args.name c.args.rank _ c.kept.ensures c.if-kept.false c.if-old-rank.false (rw c.if-st.false refl))

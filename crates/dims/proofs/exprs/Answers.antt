@@ -1,10 +1,7 @@
 -- `exprs`: so many rows of one expression, each skipped. Assumes nothing.
-use Rattle.parts.specs.Turns.{turn_start, turn_some, turn_next, turn_end}
+use Rattle.parts.specs.Turns.{turn_some, turn_next, turn_end}
 use Rattle.dims.proofs.Reading.{some_expr, row_past}
 use Rattle.dims.proofs.exprs.Goals as goal
-
-pub loop-init : goal.loop-init
-loop-init c = turn_start (λ l. Unit {0}) tt _ _ _
 
 pub expr-at-requires : goal.expr-at-requires
 expr-at-requires c = some_expr (turn_some c.loop.invariant c.loop-test.true c.requires)

@@ -1,14 +1,10 @@
 -- `lowers`: so many bounds, and whether one of them is written. Assumes nothing.
-use native.Mathlib.Omega.{arith}
 use Rattle.parts.specs.Turns.{turn_some, list_inside, list_rows}
 use Rattle.dims.proofs.Reading.{low_start, low_next, low_end}
 use Rattle.dims.proofs.lowers.Goals as goal
 
 pub bounds-words-at : goal.bounds-words-at
 bounds-words-at c = list_inside c.requires.stands
-
-pub overflow_add-m : goal.overflow_add-m
-overflow_add-m c = omega (arith, list_inside c.requires.stands)
 
 pub loop-init : goal.loop-init
 loop-init c = low_start _ _ _

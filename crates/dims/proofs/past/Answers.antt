@@ -1,18 +1,11 @@
 -- `past`: so many declarators, each passed. Assumes nothing.
 use mathlib.Core.Path.{◌≡◌}
-use native.Mathlib.Omega.{arith}
-use Rattle.parts.specs.Turns.{turn_start, turn_some, turn_next, turn_end, list_inside, list_rows, list_all}
+use Rattle.parts.specs.Turns.{turn_some, turn_next, turn_end, list_inside, list_rows, list_all}
 use Rattle.dims.proofs.Reading.{decl_past}
 use Rattle.dims.proofs.past.Goals as goal
 
 pub bounds-words-at : goal.bounds-words-at
 bounds-words-at c = list_inside c.requires.stands
-
-pub overflow_add-m : goal.overflow_add-m
-overflow_add-m c = omega (arith, list_inside c.requires.stands)
-
-pub loop-init : goal.loop-init
-loop-init c = turn_start (λ l. Unit {0}) tt _ _ _
 
 pub declarator-m-requires : goal.declarator-m-requires
 declarator-m-requires c = turn_some c.loop.invariant c.loop-test.true (list_rows c.requires)

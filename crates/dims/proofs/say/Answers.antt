@@ -6,4 +6,4 @@ use Rattle.steps.proofs.Laws.{no_note}
 use Rattle.dims.proofs.say.Goals as goal
 
 pub returns-in-None : goal.returns-in-None
-returns-in-None c = rw c.in-None.is (no_note c.args.s c.args.d.now [] c.requires.0 false refl)
+returns-in-None c = rw c.in-None.is (no_note c.args.s c.args.d.now [] c.requires false refl)

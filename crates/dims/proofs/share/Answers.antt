@@ -1,14 +1,11 @@
 -- `share`: nothing, a diagnostic, or all of them shared. Assumes nothing.
-use Rattle.dims.proofs.Doing.{share_no, share_inside, share_module}
+use Rattle.dims.proofs.Doing.{share_inside, share_module}
 use mathlib.Core.Bool.{not}
 use mathlib.Core.Path.{ap}
 use Rattle.dims.proofs.share.Goals as goal
 
-pub returns-then-not-shared : goal.returns-then-not-shared
-returns-then-not-shared c = share_no c.requires.0 (ap not c.if-not-shared.true)
-
-pub returns-then-scope-ne0 : goal.returns-then-scope-ne0
-returns-then-scope-ne0 c = share_inside c.requires.0 (ap not c.if-not-shared.false) c.if-scope-ne0.true c.push.ensures
+pub returns-then-st-ne0 : goal.returns-then-st-ne0
+returns-then-st-ne0 c = share_inside c.requires.0 (ap not c.if-not-shared.false) c.if-st-ne0.true c.push.ensures
 
 pub returns : goal.returns
-returns c = share_module c.requires.0 (ap not c.if-not-shared.false) c.if-scope-ne0.false c.share_all.ensures
+returns c = share_module c.requires.0 (ap not c.if-not-shared.false) c.if-st-ne0.false c.share_all.ensures

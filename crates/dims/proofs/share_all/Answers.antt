@@ -2,14 +2,10 @@
 use Rattle.dims.proofs.Doing.{share_start, share_next, share_end}
 use Rattle.parts.specs.Turns.{list_inside, list_rows, turn_some}
 use mathlib.Core.Path.{refl, ◌∙◌}
-use native.Mathlib.Omega.{arith}
 use Rattle.dims.proofs.share_all.Goals as goal
 
 pub bounds-words-at : goal.bounds-words-at
 bounds-words-at c = list_inside c.requires.1.stands
-
-pub overflow_add-m : goal.overflow_add-m
-overflow_add-m c = omega (arith, list_inside c.requires.1.stands)
 
 pub loop-init : goal.loop-init
 loop-init c = (share_start _ _ _ c.requires.0, c.requires.0, refl)

@@ -1,7 +1,7 @@
 -- The entry: 5, then 1, then the rest of its checks and its work. Assumes nothing.
 use Rattle.std.proofs.Common.{sym, ap, ◌∙◌, arith}
 use Rattle.reader.specs.Begun.{begun_opened, begun_stops, begun_gives}
-use Rattle.reader.proofs.Laws.{few_strings, as_many, few_marks}
+use Rattle.reader.proofs.Laws.{few_strings, as_many}
 use Rattle.evaluate.specs.Evaluate.{eval_of}
 use Rattle.evaluate.proofs.Laws.{moved_by}
 use Rattle.evaluate.proofs.const_eval.Goals as goal
@@ -12,11 +12,8 @@ marks-requires c = λ e. few_strings c.args.bytes.now c.args.ends.now c.args.wor
 pub slice_bounds-names-end : goal.slice_bounds-names-end
 slice_bounds-names-end c = let o = begun_opened c.marks.ensures c.in-Ok.is in omega (arith, o.names.long, few_strings c.args.bytes.now c.args.ends.now c.args.words.now (sym c.sized_tree.ensures ∙ o.within))
 
-pub slice_bounds-eval_at-end : goal.slice_bounds-eval_at-end
-slice_bounds-eval_at-end c = let o = begun_opened c.marks.ensures c.in-Ok.is in as_many o.names (few_strings c.args.bytes.now c.args.ends.now c.args.words.now (sym c.sized_tree.ensures ∙ o.within))
-
-pub eval_at-requires : goal.eval_at-requires
-eval_at-requires c = let o = begun_opened c.marks.ensures c.in-Ok.is in few_marks o.names (few_strings c.args.bytes.now c.args.ends.now c.args.words.now (sym c.sized_tree.ensures ∙ o.within))
+pub slice_bounds-names-end-in-Ok : goal.slice_bounds-names-end-in-Ok
+slice_bounds-names-end-in-Ok c = let o = begun_opened c.marks.ensures c.in-Ok.is in as_many o.names (few_strings c.args.bytes.now c.args.ends.now c.args.words.now (sym c.sized_tree.ensures ∙ o.within))
 
 pub returns-in-Ok : goal.returns-in-Ok
 returns-in-Ok c =

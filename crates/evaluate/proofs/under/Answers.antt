@@ -4,16 +4,16 @@ use Rattle.consteval.proofs.Laws.{good}
 use Rattle.evaluate.proofs.under.Goals as goal
 
 pub invariant_of-held : goal.invariant_of-held
-invariant_of-held c = record { fits = rows_fit c.args.names.now c.args.words.now c.args.at c.args.rows.now c.requires c.check_rows.ensures c.in-Some.is }
+invariant_of-held c = record { fits = rows_fit c.args.source.now.names.now c.args.source.now.words.now c.args.at c.args.rows.now c.requires.0 c.check_rows.ensures c.in-Some.is }
 
 pub const_eval-f-requires : goal.const_eval-f-requires
-const_eval-f-requires c = rows_ready c.args.names.now c.args.words.now c.args.at c.args.rows.now c.requires c.check_rows.ensures c.in-Some.is (λ i. (c.type_inv.rows i).fits)
+const_eval-f-requires c = rows_ready c.args.source.now.names.now c.args.source.now.words.now c.args.at c.args.rows.now c.requires.0 c.check_rows.ensures c.in-Some.is (λ i. (c.type_inv.rows i).fits)
 
 pub fold_of-requires : goal.fold_of-requires
-fold_of-requires c = good (λ i. (c.type_inv.words i).fits) (rows_ready c.args.names.now c.args.words.now c.args.at c.args.rows.now c.requires c.check_rows.ensures c.in-Some.is (λ i. (c.type_inv.rows i).fits)) c.const_eval-f.ensures
+fold_of-requires c = good c.requires.1 (rows_ready c.args.source.now.names.now c.args.source.now.words.now c.args.at c.args.rows.now c.requires.0 c.check_rows.ensures c.in-Some.is (λ i. (c.type_inv.rows i).fits)) c.const_eval-f.ensures
 
 pub returns-in_default : goal.returns-in_default
-returns-in_default c = tells_as c.refused.ensures (rows_bad c.args.names.now c.args.words.now c.args.at c.args.rows.now c.requires c.check_rows.ensures c.in_default.is)
+returns-in_default c = tells_as c.refused.ensures (rows_bad c.args.source.now.names.now c.args.source.now.words.now c.args.at c.args.rows.now c.requires.0 c.check_rows.ensures c.in_default.is)
 
 pub returns : goal.returns
-returns c = rows_fine c.args.names.now c.args.words.now c.args.at c.args.rows.now c.requires c.check_rows.ensures c.in-Some.is c.fold_of.ensures c.const_eval-f.ensures
+returns c = rows_fine c.args.source.now.names.now c.args.source.now.words.now c.args.at c.args.rows.now c.requires.0 c.check_rows.ensures c.in-Some.is c.fold_of.ensures c.const_eval-f.ensures

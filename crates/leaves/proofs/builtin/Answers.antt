@@ -1,7 +1,6 @@
 -- `builtin`: a stop of the first checks stops it; behind them the names' marks are the string table's. Assumes nothing.
 use mathlib.Core.Path.{◌≡◌, sym, ap, ◌∙◌}
 use mathlib.Core.Bool.{Bool}
-use Rattle.std.proofs.lemmas.Result.{err_from_is_err_and}
 use Rattle.words.specs.Told.{gives, after, unless}
 use Rattle.words.specs.Refusals.{refused}
 use Rattle.strings.specs.Table.{string_at, names_of}
@@ -9,12 +8,8 @@ use Rattle.lent.specs.Rules.{is_marked}
 use Rattle.builtins.specs.Builtins.{builtin}
 use Rattle.builtins.specs.Answers.{arguments_of}
 use Rattle.leaves.specs.Leaves.{builtin_at}
-use Rattle.leaves.proofs.Laws.{answers_stop, answers_after}
+use Rattle.leaves.proofs.Laws.{answers_after}
 use Rattle.leaves.proofs.builtin.Goals as goal
-
-pub returns-in_err-passes : goal.returns-in_err-passes
-unfolding refused
-returns-in_err-passes c = let p = err_from_is_err_and c.from_residual.result c.from_residual.ensures.1 in rw (p.1, p.2) (answers_stop c.in_err-passes.ensures.told)
 
 pub returns-then-is_name : goal.returns-then-is_name
 unfolding after builtin_at unless

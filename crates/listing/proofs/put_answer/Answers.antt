@@ -11,7 +11,7 @@ pub put_page-requires : goal.put_page-requires
 put_page-requires c = (let w = within_done c.args.a c.in-Ok.n c.args.notes.now c.args.rows.now c.args.words.now c.in-Ok.is c.requires in (w.0, w.1))
 
 pub returns-in-Err : goal.returns-in-Err
-returns-in-Err c = text_refused c.args.bytes.now c.args.ends.now c.args.notes.now c.args.rows.now c.args.words.now c.in-Err.is c.number.ensures c.put_refusal.ensures
+returns-in-Err c = text_refused c.args.strings.now.bytes.now c.args.strings.now.ends.now c.args.notes.now c.args.rows.now c.args.words.now c.in-Err.is c.number.ensures c.put_refusal.ensures
 
 pub returns-in-Ok : goal.returns-in-Ok
-returns-in-Ok c = text_done c.args.bytes.now c.args.ends.now c.args.notes.now c.args.rows.now c.args.words.now c.in-Ok.is c.put_page.ensures
+returns-in-Ok c = text_done c.args.strings.now.bytes.now c.args.strings.now.ends.now c.args.notes.now c.args.rows.now c.args.words.now c.in-Ok.is c.put_page.ensures

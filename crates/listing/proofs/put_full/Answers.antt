@@ -8,16 +8,16 @@ use Rattle.listing.proofs.Laws.{image_text, from_to, made}
 use Rattle.listing.proofs.put_full.Goals as goal
 
 pub slice_bounds-put_all-end-2 : goal.slice_bounds-put_all-end-2
-slice_bounds-put_all-end-2 c = front_length c.args.image.now _ c.args.s.strings _ _ c.read_words.ensures
+slice_bounds-put_all-end-2 c = front_length c.args.opened.now.image.now _ c.args.opened.now.shape.strings _ _ c.read_words.ensures
 
 pub slice_bounds-put_all-end-3 : goal.slice_bounds-put_all-end-3
-slice_bounds-put_all-end-3 c = front_length c.args.image.now _ c.args.s.words _ _ c.read_words-2.ensures
+slice_bounds-put_all-end-3 c = front_length c.args.opened.now.image.now _ c.args.opened.now.shape.words _ _ c.read_words-2.ensures
 
 pub slice_bounds-put_all-end-4 : goal.slice_bounds-put_all-end-4
-slice_bounds-put_all-end-4 c = front_length c.args.image.now _ c.args.s.erased _ _ c.read_words-3.ensures
+slice_bounds-put_all-end-4 c = front_length c.args.opened.now.image.now _ c.args.opened.now.shape.erased _ _ c.read_words-3.ensures
 
 pub put_all-requires : goal.put_all-requires
-put_all-requires c = (omega (arith, front_length c.args.image.now _ c.args.s.words _ _ c.read_words-2.ensures, c.requires.words_fit), refl, refl, made 12288 12288)
+put_all-requires c = (omega (arith, front_length c.args.opened.now.image.now _ c.args.opened.now.shape.words _ _ c.read_words-2.ensures, c.args.opened.now.shaped.words_fit), refl, refl, made 12288 12288)
 
 pub returns : goal.returns
-returns c = same (image_text c.args.image.now c.requires _ _ _ _ (from_to c.args.image.now (12 + 4 * c.args.s.strings + 4 * c.args.s.words + 4 * c.args.s.erased) c.args.s.bytes) (front c.args.image.now 12 c.args.s.strings _ _ c.read_words.ensures) (front c.args.image.now (12 + 4 * c.args.s.strings) c.args.s.words _ _ c.read_words-2.ensures) (front c.args.image.now (12 + 4 * c.args.s.strings + 4 * c.args.s.words) c.args.s.erased _ _ c.read_words-3.ensures)) c.put_all.ensures
+returns c = same (image_text c.args.opened.now.image.now c.args.opened.now.shaped _ _ _ _ (from_to c.args.opened.now.image.now (12 + 4 * c.args.opened.now.shape.strings + 4 * c.args.opened.now.shape.words + 4 * c.args.opened.now.shape.erased) c.args.opened.now.shape.bytes) (front c.args.opened.now.image.now 12 c.args.opened.now.shape.strings _ _ c.read_words.ensures) (front c.args.opened.now.image.now (12 + 4 * c.args.opened.now.shape.strings) c.args.opened.now.shape.words _ _ c.read_words-2.ensures) (front c.args.opened.now.image.now (12 + 4 * c.args.opened.now.shape.strings + 4 * c.args.opened.now.shape.words) c.args.opened.now.shape.erased _ _ c.read_words-3.ensures)) c.put_all.ensures

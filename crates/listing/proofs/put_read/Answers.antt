@@ -7,19 +7,19 @@ use borrow.Author.Rules.{rules}
 use Rattle.listing.proofs.put_read.Goals as goal
 
 pub slice_bounds-put_first-end : goal.slice_bounds-put_first-end
-slice_bounds-put_first-end c = search (rules, c.requires.0.within)
+slice_bounds-put_first-end c = search (rules, c.args.opened.now.shaped.within)
 
 pub slice_bounds-put_first-end-3 : goal.slice_bounds-put_first-end-3
-slice_bounds-put_first-end-3 c = front_length c.args.image.now _ c.args.s.strings _ _ c.read_words.ensures
+slice_bounds-put_first-end-3 c = front_length c.args.opened.now.image.now _ c.args.opened.now.shape.strings _ _ c.read_words.ensures
 
 pub slice_bounds-put_first-end-5 : goal.slice_bounds-put_first-end-5
-slice_bounds-put_first-end-5 c = front_length c.args.image.now _ c.args.s.words _ _ c.read_words-2.ensures
+slice_bounds-put_first-end-5 c = front_length c.args.opened.now.image.now _ c.args.opened.now.shape.words _ _ c.read_words-2.ensures
 
 pub slice_bounds-put_first-end-7 : goal.slice_bounds-put_first-end-7
-slice_bounds-put_first-end-7 c = front_length c.args.image.now _ c.args.s.erased _ _ c.read_words-3.ensures
+slice_bounds-put_first-end-7 c = front_length c.args.opened.now.image.now _ c.args.opened.now.shape.erased _ _ c.read_words-3.ensures
 
 pub put_first-requires : goal.put_first-requires
-put_first-requires c = (omega (arith, front_length c.args.image.now _ c.args.s.words _ _ c.read_words-2.ensures, c.requires.6), c.requires.4, c.requires.5, c.requires.7)
+put_first-requires c = (omega (arith, front_length c.args.opened.now.image.now _ c.args.opened.now.shape.words _ _ c.read_words-2.ensures, c.requires.5), c.requires.3, c.requires.4, c.requires.6)
 
 pub returns : goal.returns
-returns c = renamed (image_text c.args.image.now c.requires.0 _ _ _ _ (from_to c.args.image.now (12 + 4 * c.args.s.strings + 4 * c.args.s.words + 4 * c.args.s.erased) c.args.s.bytes) (front c.args.image.now 12 c.args.s.strings _ _ c.read_words.ensures) (front c.args.image.now (12 + 4 * c.args.s.strings) c.args.s.words _ _ c.read_words-2.ensures) (front c.args.image.now (12 + 4 * c.args.s.strings + 4 * c.args.s.words) c.args.s.erased _ _ c.read_words-3.ensures)) c.put_first.ensures
+returns c = renamed (image_text c.args.opened.now.image.now c.args.opened.now.shaped _ _ _ _ (from_to c.args.opened.now.image.now (12 + 4 * c.args.opened.now.shape.strings + 4 * c.args.opened.now.shape.words + 4 * c.args.opened.now.shape.erased) c.args.opened.now.shape.bytes) (front c.args.opened.now.image.now 12 c.args.opened.now.shape.strings _ _ c.read_words.ensures) (front c.args.opened.now.image.now (12 + 4 * c.args.opened.now.shape.strings) c.args.opened.now.shape.words _ _ c.read_words-2.ensures) (front c.args.opened.now.image.now (12 + 4 * c.args.opened.now.shape.strings + 4 * c.args.opened.now.shape.words) c.args.opened.now.shape.erased _ _ c.read_words-3.ensures)) c.put_first.ensures

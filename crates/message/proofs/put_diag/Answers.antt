@@ -6,4 +6,4 @@ use Rattle.message.proofs.put_diag.Goals as goal
 
 pub returns : goal.returns
 unfolding ascii
-returns c = same (all_said c.args.bytes.now c.args.ends.now c.args.d) (then c.put_byte-next.ensures (then c.put_byte-next-2.ensures (then c.put_decimal-next.ensures (then c.put_byte-next-3.ensures (then c.put_message-next.ensures c.put_byte.ensures)))))
+returns c = same (all_said c.args.strings.now.bytes.now c.args.strings.now.ends.now c.args.d) (then c.put_byte-next.ensures (then c.put_byte-next-2.ensures (then c.put_decimal-next.ensures (then c.put_byte-next-3.ensures (then c.put_message-next.ensures c.put_byte.ensures)))))

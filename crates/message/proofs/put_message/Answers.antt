@@ -14,15 +14,15 @@ unfolding template table run templates ascii marks flat_map
 message-piece-items-requires c = (refl, refl)
 
 pub loop-piece-init : goal.loop-piece-init
-loop-piece-init c = items_none (shown c.args.bytes.now c.args.ends.now c.args.d) c.message-piece-items.result.now
+loop-piece-init c = items_none (shown c.args.strings.now.bytes.now c.args.strings.now.ends.now c.args.d) c.message-piece-items.result.now
 
 pub loop-piece-preserved : goal.loop-piece-preserved
-loop-piece-preserved c = items_more (shown c.args.bytes.now c.args.ends.now c.args.d) c.message-piece-items.result.now _ _ c.loop-piece-test.true c.loop-piece.invariant c.put_piece-next.ensures
+loop-piece-preserved c = items_more (shown c.args.strings.now.bytes.now c.args.strings.now.ends.now c.args.d) c.message-piece-items.result.now _ _ c.loop-piece-test.true c.loop-piece.invariant c.put_piece-next.ensures
 
 pub returns : goal.returns
 returns c =
-    let bytes = c.args.bytes.now in
-    let ends = c.args.ends.now in
+    let bytes = c.args.strings.now.bytes.now in
+    let ends = c.args.strings.now.ends.now in
     let d = c.args.d in
     let pieces = c.message-piece-items.result.now in
     same (all_shown bytes ends d pieces c.message-piece-items.ensures.1 ∙ ap (render bytes ends d) c.message-piece-items.ensures.0) (items_all (shown bytes ends d) pieces _ c.loop-piece-test.false c.loop-piece.invariant)

@@ -6,4 +6,4 @@ use Rattle.message.specs.Pieces.{shown}
 use Rattle.message.proofs.put_message.Given as goal
 
 abbrev pub invariant-loop-piece : goal.invariant-loop-piece
-invariant-loop-piece l = Wrote (flat_map (shown l.bytes l.ends l.d) (take l.piece-index l.piece-items)) l.initial.out l.out l.at l.next
+invariant-loop-piece l = Wrote (flat_map (shown l.strings.bytes.now l.strings.ends.now l.d) (take l.piece-index l.piece-items)) l.initial.out l.out l.at l.next

@@ -4,4 +4,4 @@ use Rattle.text.specs.Laws.{same}
 use Rattle.message.proofs.put_name.Goals as goal
 
 pub returns : goal.returns
-returns c = same (named c.args.bytes.now c.args.ends.now c.args.k c.saturating_sub.result c.end_of.result c.end_of-2.result c.saturating_sub.ensures c.end_of.ensures c.end_of-2.ensures) c.put_part.ensures
+returns c = same (named c.args.strings.now.bytes.now c.args.strings.now.ends.now c.args.k c.saturating_sub.result c.end_of.result c.end_of-2.result c.saturating_sub.ensures c.end_of.ensures c.end_of-2.ensures) c.put_part.ensures

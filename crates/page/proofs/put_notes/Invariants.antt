@@ -7,4 +7,4 @@ use Rattle.page.specs.Page.{diag_of}
 use Rattle.page.proofs.put_notes.Given as goal
 
 abbrev pub invariant-loop-note : goal.invariant-loop-note
-invariant-loop-note l = Wrote (flat_map (λ d. lines l.bytes l.ends (diag_of d)) (take l.note-index l.notes)) l.initial.out l.out l.at l.next
+invariant-loop-note l = Wrote (flat_map (λ d. lines l.strings.bytes.now l.strings.ends.now (diag_of d)) (take l.note-index l.notes)) l.initial.out l.out l.at l.next

@@ -6,7 +6,7 @@ use Rattle.parts.proofs.differs.Goals as goal
 
 pub returns-then-is_suffix : goal.returns-then-is_suffix
 returns-then-is_suffix c =
-    suffix_disagrees (string_at c.args.bytes.now c.args.ends.now c.args.name) c.last_byte-last.ensures (sym c.if-is_suffix.true ∙ c.is_suffix.ensures) c.from_type_ref.ensures c.from_suffix.ensures
+    suffix_disagrees (string_at c.args.strings.now.bytes.now c.args.strings.now.ends.now c.args.name) c.last_byte-last.ensures (sym c.if-is_suffix.true ∙ c.is_suffix.ensures) c.from_type_ref.ensures c.from_suffix.ensures
 
 pub returns-else-is_suffix : goal.returns-else-is_suffix
-returns-else-is_suffix c = λ ty e. c.if-is_suffix.false ∙ suffix_disagrees (string_at c.args.bytes.now c.args.ends.now c.args.name) c.last_byte-last.ensures (sym c.if-is_suffix.false ∙ c.is_suffix.ensures) refl refl ty e
+returns-else-is_suffix c = λ ty e. c.if-is_suffix.false ∙ suffix_disagrees (string_at c.args.strings.now.bytes.now c.args.strings.now.ends.now c.args.name) c.last_byte-last.ensures (sym c.if-is_suffix.false ∙ c.is_suffix.ensures) refl refl ty e

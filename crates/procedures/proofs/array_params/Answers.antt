@@ -3,4 +3,4 @@ use Rattle.procedures.proofs.Noted.{told_nothing}
 use Rattle.procedures.proofs.array_params.Goals as goal
 
 pub arrays_by-requires : goal.arrays_by-requires
-arrays_by-requires c = (c.requires.0, c.requires.1, c.requires.2, told_nothing _ _)
+arrays_by-requires c = (c.requires.0, told_nothing _ _, c.requires.1)

@@ -4,4 +4,4 @@ use Rattle.procedures.proofs.Walk.{Walked}
 use Rattle.procedures.proofs.arrays.Given as goal
 
 abbrev pub invariant-loop : goal.invariant-loop
-invariant-loop l = (l.n ≤ l.counter) × Walked (λ ps. Unit {0}) l.words l.from l.count l.at l.counter
+invariant-loop l = (l.n ≤ l.counter) × Walked (λ ps. Unit {0}) l.words l.fn.p.params l.fn.p.count l.at l.counter

@@ -1,5 +1,5 @@
 -- `arrays_by`: at each turn the arrays among the parameters that were read are entered. Assumes nothing.
-use Prim.Native.Nat.{ℕ, ◌*◌, ◌≤◌}
+use Prim.Native.Nat.{ℕ, ◌*◌, ◌≤◌, ◌+◌}
 use mathlib.Core.Path.{◌≡◌}
 use mathlib.Core.List.{List}
 use lib.ListN.{length}
@@ -17,4 +17,4 @@ use Rattle.procedures.proofs.arrays_by.Given as goal
 abbrev pub invariant-loop : goal.invariant-loop
 invariant-loop l =
     (length l.b ≡ length l.initial.b) × (l.c.notes ≡ l.initial.c.notes) × (l.c.rows * width ≤ length l.b)
-    × ((t : Tree Seen (one body_sort)) → BodyAt l.words l.body l.past t → Walked (λ ps. (d : List ℕ) → l.initial.c.notes * note_width ≤ length d → Does (λ N D. each (array_param (plain N D) l.scope l.line t) ps) l.initial.c l.c l.initial.b d l.b d) l.words l.from l.count l.at l.counter)
+    × ((t : Tree Seen (one body_sort)) → BodyAt l.words l.p.body l.p.past t → Walked (λ ps. (d : List ℕ) → l.initial.c.notes * note_width ≤ length d → Does (λ N D. each (array_param (plain N D) (l.p.name + 1) l.p.line t) ps) l.initial.c l.c l.initial.b d l.b d) l.words l.p.params l.p.count l.at l.counter)

@@ -1,11 +1,11 @@
 -- `function`: the procedure that was read is the statement. Assumes nothing.
 use Rattle.parts.specs.Names.{name_at_lem}
-use Rattle.procedures.proofs.Reading.{some_proc, name_below}
+use Rattle.procedures.proofs.Reading.{some_proc}
 use Rattle.procedures.proofs.Does.{collects}
 use Rattle.procedures.proofs.function.Goals as goal
 
 pub procedure-requires : goal.procedure-requires
-procedure-requires c = (some_proc c.requires.0.stmt c.function_at-p.ensures, name_at_lem c.requires.1 _ c.function_at-p.ensures.named, name_below c.requires.1 c.requires.2 _ c.function_at-p.ensures.named, c.requires.3)
+procedure-requires c = (some_proc c.requires.0.stmt c.function_at-p.ensures, name_at_lem c.requires.1 _ c.function_at-p.ensures.named, c.requires.3)
 
 pub returns : goal.returns
 returns c = collects c.args.scope c.function_at-p.ensures c.procedure.ensures

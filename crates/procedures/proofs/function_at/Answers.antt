@@ -1,6 +1,6 @@
 -- `function_at`: the words of a FUNCTION, its AS clause, and the two flags before its end. Assumes nothing.
 use native.Mathlib.Omega.{arith}
-use Rattle.procedures.proofs.Reading.{function_inside, function_params, function_clause, last_flags, function_is}
+use Rattle.procedures.proofs.Reading.{function_inside, function_params, function_few, function_clause, last_flags, function_is}
 use Rattle.procedures.proofs.function_at.Goals as goal
 
 pub bounds-words-at : goal.bounds-words-at
@@ -32,6 +32,9 @@ bounds-words-end-2 c = (last_flags c.requires).1
 
 pub overflow_sub-result : goal.overflow_sub-result
 overflow_sub-result c = (last_flags c.requires).0
+
+pub invariant_of-result : goal.invariant_of-result
+invariant_of-result c = record { few = function_few c.requires c.args.source.now.few }
 
 pub returns : goal.returns
 returns c = function_is c.requires c.past_params-m.ensures c.as_type-ty.ensures _ _ c.flag-keeps.ensures c.flag-deffn.ensures

@@ -14,4 +14,4 @@ use Rattle.procedures.proofs.param_rows.Given as goal
 abbrev pub invariant-loop-i : goal.invariant-loop-i
 invariant-loop-i l =
     (length l.b ≡ length l.initial.b) × (l.c.notes ≡ l.initial.c.notes) × (l.c.rows * width ≤ length l.b)
-    × Walked (λ ps. (d : List ℕ) → l.initial.c.notes * note_width ≤ length d → Does (λ N D. each (enter (some N)) (param_rows l.name 0 ps)) l.initial.c l.c l.initial.b d l.b d) l.words l.from l.count l.at l.i
+    × Walked (λ ps. (d : List ℕ) → l.initial.c.notes * note_width ≤ length d → Does (λ N D. each (enter (some N)) (param_rows l.p.name 0 ps)) l.initial.c l.c l.initial.b d l.b d) l.words l.p.params l.p.count l.at l.i

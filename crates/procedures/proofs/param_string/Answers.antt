@@ -3,4 +3,4 @@ use Rattle.procedures.proofs.Does.{says, param_said}
 use Rattle.procedures.proofs.param_string.Goals as goal
 
 pub returns : goal.returns
-returns c = says c.push_if.ensures (λ q o. param_said c.args.line c.args.name q o (c.fixed_length-n.ensures q.ty o.ty))
+returns c = says c.push_if.ensures (λ q o. param_said c.args.p.line c.args.p.name q o (c.fixed_length-n.ensures q.ty o.ty))

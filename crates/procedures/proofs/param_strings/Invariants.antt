@@ -14,4 +14,4 @@ use Rattle.procedures.proofs.param_strings.Given as goal
 abbrev pub invariant-loop : goal.invariant-loop
 invariant-loop l =
     (length l.d ≡ length l.initial.d) × (l.c.rows ≡ l.initial.c.rows) × (l.c.notes * note_width ≤ length l.d)
-    × Walked (λ ps. (b : List ℕ) → l.initial.c.rows * width ≤ length b → Does (λ N D. each (param_string (plain N D) l.line l.name) ps) l.initial.c l.c b l.initial.d b l.d) l.words l.from l.count l.at l.counter
+    × Walked (λ ps. (b : List ℕ) → l.initial.c.rows * width ≤ length b → Does (λ N D. each (param_string (plain N D) l.p.line l.p.name) ps) l.initial.c l.c b l.initial.d b l.d) l.words l.p.params l.p.count l.at l.counter

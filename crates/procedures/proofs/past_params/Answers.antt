@@ -1,10 +1,6 @@
 -- `past_params`: at each turn those that are left stand at the place. Assumes nothing.
-use Rattle.parts.specs.Turns.{turn_start}
 use Rattle.procedures.proofs.Walk.{walk_place, walk_next, walk_at}
 use Rattle.procedures.proofs.past_params.Goals as goal
-
-pub loop-init : goal.loop-init
-loop-init c = turn_start (λ ps. Unit {0}) tt _ _ _
 
 pub param-at-requires : goal.param-at-requires
 param-at-requires c = walk_place c.loop.invariant c.loop-test.true c.requires

@@ -1,18 +1,14 @@
 -- `procedure`: five steps in turn. Assumes nothing.
 use native.Mathlib.Omega.{arith}
-use mathlib.Core.Path.{◌∙◌}
-use Rattle.procedures.proofs.Reading.{proc_body, proc_params}
+use Rattle.procedures.proofs.Reading.{proc_body}
 use Rattle.procedures.proofs.Does.{procedure_acts}
 use Rattle.procedures.proofs.procedure.Goals as goal
 
 pub array_params-s4-requires : goal.array_params-s4-requires
-array_params-s4-requires c = (proc_body c.requires.0, proc_params c.requires.0, (c.with_marks-s3.ensures c.args.words.now).fit)
+array_params-s4-requires c = (c.requires.0, (c.with_marks-s3.ensures c.args.words.now).fit)
 
 pub typed_params-requires : goal.typed_params-requires
-typed_params-requires c = (proc_params c.requires.0, ((c.array_params-s4.ensures _ (proc_body c.requires.0).there).fit, omega (arith, c.before_entry-s1.ensures.fit.1, c.with_params-s2.ensures.kept, (c.with_marks-s3.ensures c.args.words.now).kept, (c.array_params-s4.ensures _ (proc_body c.requires.0).there).kept)))
-
-pub shape_of-d : goal.shape_of-d
-shape_of-d c = c.typed_params.auto.d ∙ c.before_entry-s1.auto.d
+typed_params-requires c = (c.requires.0, ((c.array_params-s4.ensures _ (proc_body c.requires.0).there).fit, omega (arith, c.before_entry-s1.ensures.fit.1, c.with_params-s2.ensures.kept, (c.with_marks-s3.ensures c.args.words.now).kept, (c.array_params-s4.ensures _ (proc_body c.requires.0).there).kept)))
 
 pub returns : goal.returns
-returns c = procedure_acts c.args.bytes.now c.args.ends.now c.args.scope c.before_entry-s1.ensures c.with_params-s2.ensures (c.with_marks-s3.ensures c.args.words.now) c.array_params-s4.ensures c.typed_params.ensures
+returns c = procedure_acts c.args.strings.now.bytes.now c.args.strings.now.ends.now c.args.scope c.before_entry-s1.ensures c.with_params-s2.ensures (c.with_marks-s3.ensures c.args.words.now) c.array_params-s4.ensures c.typed_params.ensures

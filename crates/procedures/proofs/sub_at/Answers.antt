@@ -1,6 +1,6 @@
 -- `sub_at`: the words of a SUB, and the flag before its end. Assumes nothing.
 use native.Mathlib.Omega.{arith}
-use Rattle.procedures.proofs.Reading.{sub_inside, sub_params, last_flag, sub_is}
+use Rattle.procedures.proofs.Reading.{sub_inside, sub_params, sub_few, last_flag, sub_is}
 use Rattle.procedures.proofs.sub_at.Goals as goal
 
 pub bounds-words-at : goal.bounds-words-at
@@ -23,6 +23,9 @@ bounds-words-end c = (last_flag c.requires).1
 
 pub overflow_sub-result : goal.overflow_sub-result
 overflow_sub-result c = (last_flag c.requires).0
+
+pub invariant_of-result : goal.invariant_of-result
+invariant_of-result c = record { few = sub_few c.requires c.args.source.now.few }
 
 pub returns : goal.returns
 returns c = sub_is c.requires c.past_params-body.ensures _ c.flag-keeps.ensures

@@ -4,7 +4,7 @@ use native.Mathlib.Omega.{arith}
 use mathlib.Core.Path.{sym, ◌∙◌}
 use Rattle.subscripts.proofs.Expressions.{unused}
 use Rattle.procedures.proofs.Noted.{room_below}
-use Rattle.procedures.proofs.Reading.{body_inside, body_tree}
+use Rattle.procedures.proofs.Reading.{body_inside, proc_body}
 use Rattle.procedures.proofs.Quiet.{quiet_none}
 use Rattle.procedures.proofs.used.Goals as goal
 
@@ -15,13 +15,7 @@ pub returns-then-name-uses : goal.returns-then-name-uses
 returns-then-name-uses c = λ ns n v s. c.first_use.ensures ∙ c.requires.1.gives ns n v _ s _ (room_below _ _ c.if-name-uses.true)
 
 pub listed-requires : goal.listed-requires
-listed-requires c = body_inside c.requires.0
-
-pub subscript_count-requires : goal.subscript_count-requires
-subscript_count-requires c = body_tree c.requires.0
-
-pub returns-then-listed : goal.returns-then-listed
-returns-then-listed c = λ ns n v s. c.subscript_count.ensures ns n v _ s
+listed-requires c = body_inside (proc_body c.requires.0)
 
 pub returns : goal.returns
-returns c = λ ns n v s. unused ∙ sym (quiet_none c.args.name v s (c.listed.ensures c.if-listed.false))
+returns c = λ ns n v s. unused ∙ sym (quiet_none c.args.q.name v s (c.listed.ensures c.if-listed.false))

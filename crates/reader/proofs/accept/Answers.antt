@@ -3,7 +3,7 @@ use Rattle.std.proofs.Common.{refl, sym, ap, ◌∙◌, arith}
 use Rattle.std.proofs.lemmas.Result.{err_from_is_err_and}
 use Rattle.reader.specs.Program.{told, verdict, accepted_of}
 use Rattle.reader.specs.Begun.{begun_opened, begun_stops, begun_gives}
-use Rattle.reader.proofs.Laws.{few_strings', as_many, few_marks}
+use Rattle.reader.proofs.Laws.{few_strings', as_many}
 use Rattle.reader.proofs.accept.Goals as goal
 
 pub marks-requires : goal.marks-requires
@@ -16,11 +16,8 @@ returns-in_err-names c = let p = err_from_is_err_and c.from_residual.result c.fr
 pub slice_bounds-names-end : goal.slice_bounds-names-end
 slice_bounds-names-end c = let o = begun_opened c.marks.ensures c.in_ok-names.was in omega (arith, o.names.long, few_strings' c.args.bytes.now c.args.ends.now c.args.words.now c.args.erased.now (sym c.sized_program.ensures ∙ o.within))
 
-pub slice_bounds-check_program-end : goal.slice_bounds-check_program-end
-slice_bounds-check_program-end c = let o = begun_opened c.marks.ensures c.in_ok-names.was in as_many o.names (few_strings' c.args.bytes.now c.args.ends.now c.args.words.now c.args.erased.now (sym c.sized_program.ensures ∙ o.within))
-
-pub check_program-requires : goal.check_program-requires
-check_program-requires c = let o = begun_opened c.marks.ensures c.in_ok-names.was in few_marks o.names (few_strings' c.args.bytes.now c.args.ends.now c.args.words.now c.args.erased.now (sym c.sized_program.ensures ∙ o.within))
+pub slice_bounds-names-end-2 : goal.slice_bounds-names-end-2
+slice_bounds-names-end-2 c = let o = begun_opened c.marks.ensures c.in_ok-names.was in as_many o.names (few_strings' c.args.bytes.now c.args.ends.now c.args.words.now c.args.erased.now (sym c.sized_program.ensures ∙ o.within))
 
 pub returns : goal.returns
 returns c = let o = begun_opened c.marks.ensures c.in_ok-names.was in begun_gives (rw c.sized_program.ensures at c.marks.ensures) c.in_ok-names.was (c.check_program.ensures ∙ ap (λ ns. verdict (accepted_of ns c.args.words.now c.args.erased.now)) o.names.first)

@@ -7,7 +7,7 @@ use Rattle.reader.proofs.check_program.Goals as goal
 
 pub returns-in_err-end : goal.returns-in_err-end
 unfolding told
-returns-in_err-end c = let p = err_from_is_err_and c.from_residual.result c.from_residual.ensures.1 in rw (p.1, p.2) (program_err c.args.names.now c.args.words.now c.args.erased.now c.program.ensures c.in_err-end.was)
+returns-in_err-end c = let p = err_from_is_err_and c.from_residual.result c.from_residual.ensures.1 in rw (p.1, p.2) (program_err c.args.source.now.names.now c.args.source.now.words.now c.args.erased.now (rw (c.marks.ensures.0, c.marks.ensures.1) at c.program.ensures) c.in_err-end.was)
 
 pub returns : goal.returns
-returns c = c.whole.ensures ∙ program_ok c.args.names.now c.args.words.now c.args.erased.now c.program.ensures c.in_ok-end.was
+returns c = c.whole.ensures ∙ program_ok c.args.source.now.names.now c.args.source.now.words.now c.args.erased.now (rw (c.marks.ensures.0, c.marks.ensures.1) at c.program.ensures) c.in_ok-end.was

@@ -14,8 +14,8 @@ pub returns-in_err-check : goal.returns-in_err-check
 unfolding Begun refused
 returns-in_err-check c = let p = err_from_is_err_and c.from_residual.result c.from_residual.ensures.1 in rw (p.1, p.2) (answers_breaks c.if-not-sized.false c.check.ensures c.in_err-check.was refl)
 
-pub names_of-requires : goal.names_of-requires
-names_of-requires c = (said_sound c.check.ensures c.in_ok-check.was, c.requires c.if-not-sized.false)
+pub invariant_of-sound : goal.invariant_of-sound
+invariant_of-sound c = record { right = said_sound c.check.ensures c.in_ok-check.was }
 
 pub returns : goal.returns
 unfolding Begun

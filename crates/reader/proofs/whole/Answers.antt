@@ -5,14 +5,14 @@ use Rattle.reader.specs.Program.{told}
 use Rattle.reader.proofs.Laws.{end_over, end_fine, end_erased}
 use Rattle.reader.proofs.whole.Goals as goal
 
-pub returns-then-at-words : goal.returns-then-at-words
+pub returns-then-at-source : goal.returns-then-at-source
 unfolding told refused
-returns-then-at-words c = end_over c.args.names.now c.args.words.now c.args.erased.now c.args.at c.if-at-words.true
+returns-then-at-source c = end_over c.args.source.now.names.now c.args.source.now.words.now c.args.erased.now c.args.at c.if-at-source.true
 
 pub returns : goal.returns
 unfolding told refused
-returns c = end_fine c.args.names.now c.args.words.now c.args.erased.now c.args.at c.if-at-words.false (sym c.erased_right.ensures ∙ c.if-not-erased_right.false)
+returns c = end_fine c.args.source.now.names.now c.args.source.now.words.now c.args.erased.now c.args.at c.if-at-source.false (sym c.erased_right.ensures ∙ c.if-not-erased_right.false)
 
 pub returns-then-not-erased_right : goal.returns-then-not-erased_right
 unfolding told refused
-returns-then-not-erased_right c = end_erased c.args.names.now c.args.words.now c.args.erased.now c.args.at c.if-at-words.false (sym c.erased_right.ensures ∙ c.if-not-erased_right.true)
+returns-then-not-erased_right c = end_erased c.args.source.now.names.now c.args.source.now.words.now c.args.erased.now c.args.at c.if-at-source.false (sym c.erased_right.ensures ∙ c.if-not-erased_right.true)

@@ -6,7 +6,7 @@ use Rattle.resolution.proofs.Laws.{stopped, args_misread}
 use Rattle.resolution.proofs.arguments_at.Goals as goal
 
 pub arguments-requires : goal.arguments-requires
-arguments-requires c = (answer_read _ c.list.ensures c.in_ok-past.was, c.requires)
+arguments-requires c = answer_read _ (rw (c.marks.ensures.0, c.marks.ensures.1) at c.list.ensures) c.in_ok-past.was
 
 pub returns-in_err-past : goal.returns-in_err-past
-returns-in_err-past c = let p = err_from_is_err_and c.from_residual.result c.from_residual.ensures.1 in rw (p.1, p.2) (stopped _ _ (args_misread c.args.names.now c.args.words.now c.args.rows.now (length c.args.out.now) c.args.scope c.args.name c.args.at c.list.ensures c.in_err-past.was))
+returns-in_err-past c = let p = err_from_is_err_and c.from_residual.result c.from_residual.ensures.1 in rw (p.1, p.2) (stopped _ _ (args_misread c.args.source.now.names.now c.args.source.now.words.now c.args.rows.now (length c.args.out.now) c.args.scope c.args.name c.args.at (rw (c.marks.ensures.0, c.marks.ensures.1) at c.list.ensures) c.in_err-past.was))

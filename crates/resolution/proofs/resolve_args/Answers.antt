@@ -2,7 +2,7 @@
 use Rattle.std.proofs.Common.{refl, sym, ap, ◌∙◌, arith, length}
 use Rattle.std.proofs.lemmas.Result.{err_from_is_err_and}
 use Rattle.reader.specs.Begun.{begun_opened, begun_stops, begun_gives}
-use Rattle.reader.proofs.Laws.{few_strings, as_many, few_marks}
+use Rattle.reader.proofs.Laws.{few_strings, as_many}
 use Rattle.resolution.specs.Entries.{resolve_args_at}
 use Rattle.resolution.proofs.Laws.{stopped, rewrites}
 use Rattle.resolution.proofs.resolve_args.Goals as goal
@@ -16,11 +16,8 @@ returns-in_err-names c = let p = err_from_is_err_and c.from_residual.result c.fr
 pub slice_bounds-names-end : goal.slice_bounds-names-end
 slice_bounds-names-end c = let o = begun_opened c.marks.ensures c.in_ok-names.was in omega (arith, o.names.long, few_strings c.args.bytes.now c.args.ends.now c.args.words.now (sym c.sized_tree.ensures ∙ o.within))
 
-pub slice_bounds-arguments_at-end : goal.slice_bounds-arguments_at-end
-slice_bounds-arguments_at-end c = let o = begun_opened c.marks.ensures c.in_ok-names.was in as_many o.names (few_strings c.args.bytes.now c.args.ends.now c.args.words.now (sym c.sized_tree.ensures ∙ o.within))
-
-pub arguments_at-requires : goal.arguments_at-requires
-arguments_at-requires c = let o = begun_opened c.marks.ensures c.in_ok-names.was in few_marks o.names (few_strings c.args.bytes.now c.args.ends.now c.args.words.now (sym c.sized_tree.ensures ∙ o.within))
+pub slice_bounds-names-end-2 : goal.slice_bounds-names-end-2
+slice_bounds-names-end-2 c = let o = begun_opened c.marks.ensures c.in_ok-names.was in as_many o.names (few_strings c.args.bytes.now c.args.ends.now c.args.words.now (sym c.sized_tree.ensures ∙ o.within))
 
 pub returns : goal.returns
 returns c =

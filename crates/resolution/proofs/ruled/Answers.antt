@@ -1,5 +1,5 @@
 -- 6, 11 and 10, in this order, or the rows that passed. Assumes nothing.
-use mathlib.Core.Path.{refl, sym, ◌∙◌}
+use mathlib.Core.Path.{sym, ◌∙◌}
 use Rattle.std.proofs.lemmas.Result.{err_from_is_err_and}
 use Rattle.resolution.proofs.Laws.{ruled_bad, ruled_no, ruled_short, rows_counted, rows_missing, checked_fit}
 use Rattle.resolution.proofs.ruled.Goals as goal
@@ -15,6 +15,3 @@ returns-in_err-count c = let p = err_from_is_err_and c.from_residual.result c.fr
 
 pub invariant_of-result : goal.invariant_of-result
 invariant_of-result c = record { fits = checked_fit c.args.names.now c.args.rows.now (sym c.check_rows.ensures ∙ rows_counted c.ok_or.ensures.value c.in_ok-count.was) }
-
-pub returns : goal.returns
-returns c = (refl, record { rows_are = sym c.check_rows.ensures ∙ rows_counted c.ok_or.ensures.value c.in_ok-count.was; admitted = c.if-not-right.false; roomy = c.if-room-size.false })

@@ -4,4 +4,4 @@ use Rattle.resolver.proofs.Writing.{copy_more}
 use Rattle.resolver.proofs.copy.Goals as goal
 
 pub loop-i-preserved : goal.loop-i-preserved
-loop-i-preserved c = copy_more c.args.words.now c.args.out.now c.loop-i.out c.args.at c.args.to c.loop-i.i (omega arith) c.loop-i.invariant
+loop-i-preserved c = copy_more c.args.words.now c.args.out.now c.loop-i.out c.args.spot.at c.args.spot.to c.loop-i.i (omega arith) c.loop-i.invariant

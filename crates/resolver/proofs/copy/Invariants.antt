@@ -5,4 +5,4 @@ use lib.Seq.{sets}
 use Rattle.resolver.proofs.copy.Given as goal
 
 abbrev pub invariant-loop-i : goal.invariant-loop-i
-invariant-loop-i l = l.out ≡ sets l.initial.out l.to (take l.i (drop l.at l.words))
+invariant-loop-i l = l.out ≡ sets l.initial.out l.spot.to (take l.i (drop l.spot.at l.words))

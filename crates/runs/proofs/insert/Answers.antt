@@ -14,7 +14,7 @@ shape_of-b-in-Some c = search rules
 pub returns-in-Some-clause-after : goal.returns-in-Some-clause-after
 returns-in-Some-clause-after c =
     let key_is : c.key_of-k.result ≡ key c.args.row.now = key_words c.args.row.now c.key_of-k.result c.key_of-k.ensures in
-    λ rows K. put_set K c.args.row.now c.requires.1 _ key_is c.find_old.result c.in-Some.i c.in-Some.is c.find_old.ensures.within (c.find_old.ensures.found rows K) c.put_words.new.b c.put_words.ensures (shape_of-b-in-Some c)
+    λ rows K. put_set K c.args.row.now c.told-row _ key_is c.find_old.result c.in-Some.i c.in-Some.is c.find_old.ensures.within (c.find_old.ensures.found rows K) c.put_words.new.b c.put_words.ensures (shape_of-b-in-Some c)
 
 pub returns-in-None-clause-after : goal.returns-in-None-clause-after
 returns-in-None-clause-after c =

@@ -9,15 +9,15 @@ use Rattle.runs.proofs.put_late.Goals as goal
 
 pub returns-in_err-late-clause-after : goal.returns-in_err-late-clause-after
 returns-in_err-late-clause-after c = λ rows P b f.
-    rw c.from_residual.ensures (late_full c.args.m P b c.args.row.now c.requires.2 f c.insert.result c.insert.new.b c.insert.ensures.after c.in_err-late.was _)
+    rw c.from_residual.ensures (late_full c.args.m P b c.args.row.now c.told-row f c.insert.result c.insert.new.b c.insert.ensures.after c.in_err-late.was _)
 
 pub returns-clause-after : goal.returns-clause-after
 returns-clause-after c = λ rows P b f.
     let long : length (put_rest c.args.b.now (c.args.m * width) c.insert.new.b) ≡ length c.args.b.now = search rules in
     elim c.if-late-eq32.branch [
       | then-late-eq32 w ↦
-          late_joined c.args.m P b c.args.row.now c.requires.2 f (c.args.m + c.in_ok-late.late) c.if-late-eq32.b (c.if-late-eq32.auto.b ∙ long)
-          (rw w.b-is (w.join.ensures _ _ (late_runs c.args.m P b c.args.row.now c.requires.2 f c.insert.result c.insert.new.b c.insert.ensures.after c.in_ok-late.late c.in_ok-late.was)))
+          late_joined c.args.m P b c.args.row.now c.told-row f (c.args.m + c.in_ok-late.late) c.if-late-eq32.b (c.if-late-eq32.auto.b ∙ long)
+          (rw w.b-is (w.join.ensures _ _ (late_runs c.args.m P b c.args.row.now c.told-row f c.insert.result c.insert.new.b c.insert.ensures.after c.in_ok-late.late c.in_ok-late.was)))
       | else-late-eq32 w ↦
-          rw w.b-is (late_kept c.args.m P b c.args.row.now c.requires.2 f c.insert.result c.insert.new.b c.insert.ensures.after c.in_ok-late.late c.in_ok-late.was long w.if-late-eq32.false)
+          rw w.b-is (late_kept c.args.m P b c.args.row.now c.told-row f c.insert.result c.insert.new.b c.insert.ensures.after c.in_ok-late.late c.in_ok-late.was long w.if-late-eq32.false)
     ]

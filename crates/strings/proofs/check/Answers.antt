@@ -6,13 +6,13 @@ use Rattle.strings.proofs.Laws.{is_sound, is_broken, all_none, all_more, sound_n
 use Rattle.strings.proofs.check.Goals as goal
 
 pub returns-then-is_empty-2 : goal.returns-then-is_empty-2
-returns-then-is_empty-2 c = is_sound (sound_none c.args.bytes.now c.args.ends.now (grind (arith, common_steps)) (grind (arith, common_steps)))
+returns-then-is_empty-2 c = is_sound (sound_none c.args.strings.now.bytes.now c.args.strings.now.ends.now (grind (arith, common_steps)) (grind (arith, common_steps)))
 
 pub returns-else-is_empty-2 : goal.returns-else-is_empty-2
-returns-else-is_empty-2 c = is_broken (unsound_none c.args.bytes.now c.args.ends.now (grind (arith, common_steps)) (λ e. grind (arith, common_steps)))
+returns-else-is_empty-2 c = is_broken (unsound_none c.args.strings.now.bytes.now c.args.strings.now.ends.now (grind (arith, common_steps)) (λ e. grind (arith, common_steps)))
 
 pub loop-i-init : goal.loop-i-init
-loop-i-init c = record { here = sym (start_zero c.args.ends.now 0 refl); back = sym (start_zero c.args.ends.now (0 - 1) refl); right = all_none _ }
+loop-i-init c = record { here = sym (start_zero c.args.strings.now.ends.now 0 refl); back = sym (start_zero c.args.strings.now.ends.now (0 - 1) refl); right = all_none _ }
 
 pub right_at-requires : goal.right_at-requires
 right_at-requires c = (
@@ -21,20 +21,20 @@ right_at-requires c = (
     back = c.loop-i.invariant.back;
     from = c.loop-i.invariant.here;
     to = refl;
-    before = omega (arith, c.loop-i.invariant.here, c.loop-i.invariant.back, starts_rise c.args.bytes.now c.args.ends.now c.loop-i.i c.loop-i.invariant.right);
+    before = omega (arith, c.loop-i.invariant.here, c.loop-i.invariant.back, starts_rise c.args.strings.now.bytes.now c.args.strings.now.ends.now c.loop-i.i c.loop-i.invariant.right);
   },
   c.is_plain-plain.ensures,
 )
 
 pub returns-then-not-right_at : goal.returns-then-not-right_at
-returns-then-not-right_at c = is_broken (unsound_at c.args.bytes.now c.args.ends.now c.loop-i.i (omega arith) (sym c.right_at.ensures ∙ c.if-not-right_at.true))
+returns-then-not-right_at c = is_broken (unsound_at c.args.strings.now.bytes.now c.args.strings.now.ends.now c.loop-i.i (omega arith) (sym c.right_at.ensures ∙ c.if-not-right_at.true))
 
 pub loop-i-preserved : goal.loop-i-preserved
 loop-i-preserved c = record {
-  here = start_next c.args.ends.now c.loop-i.i;
-  back = c.loop-i.invariant.here ∙ ap (start_of c.args.ends.now) (omega arith);
+  here = start_next c.args.strings.now.ends.now c.loop-i.i;
+  back = c.loop-i.invariant.here ∙ ap (start_of c.args.strings.now.ends.now) (omega arith);
   right = all_more _ _ c.loop-i.invariant.right (sym c.right_at.ensures ∙ c.if-not-right_at.false);
 }
 
 pub returns : goal.returns
-returns c = is_sound (sound_all c.args.bytes.now c.args.ends.now (grind (arith, common_steps)) (sym (ap (λ (n : ℕ). all_below n (right_at c.args.bytes.now c.args.ends.now)) (omega arith)) ∙ c.loop-i.invariant.right))
+returns c = is_sound (sound_all c.args.strings.now.bytes.now c.args.strings.now.ends.now (grind (arith, common_steps)) (sym (ap (λ (n : ℕ). all_below n (right_at c.args.strings.now.bytes.now c.args.strings.now.ends.now)) (omega arith)) ∙ c.loop-i.invariant.right))

@@ -5,7 +5,7 @@ use Rattle.strings.proofs.check.Given as goal
 
 abbrev pub invariant-loop-i : goal.invariant-loop-i
 invariant-loop-i l = record {
-  here : l.from ≡ start_of l.ends l.i;
-  back : l.before ≡ start_of l.ends (l.i - 1);
-  right : all_below l.i (right_at l.bytes l.ends) ≡ true;
+  here : l.from ≡ start_of l.strings.ends.now l.i;
+  back : l.before ≡ start_of l.strings.ends.now (l.i - 1);
+  right : all_below l.i (right_at l.strings.bytes.now l.strings.ends.now) ≡ true;
 }

@@ -5,7 +5,7 @@ use Rattle.strings.proofs.mark_names.Given as goal
 
 abbrev pub invariant-loop-i : goal.invariant-loop-i
 invariant-loop-i l = record {
-  here : l.from ≡ start_of l.ends l.i;
-  long : length l.names ≡ length l.ends;
-  marked : take l.i l.names ≡ marks_below l.bytes l.ends l.i;
+  here : l.from ≡ start_of l.strings.ends.now l.i;
+  long : length l.names ≡ length l.strings.ends.now;
+  marked : take l.i l.names ≡ marks_below l.strings.bytes.now l.strings.ends.now l.i;
 }

@@ -8,20 +8,20 @@ use Rattle.strings.proofs.right_at.Goals as goal
 pub returns-then-plain : goal.returns-then-plain
 returns-then-plain c =
     let a = c.args in
-    let p : is_plain a.bytes.now a.ends.now ≡ true = sym c.requires.1 ∙ c.if-plain.true in
-    let e = right_of a.bytes.now a.ends.now a.i a.from a.to c.requires.0.from c.requires.0.to in
-    let f = plain_part a.bytes.now a.ends.now p a.from a.to in
-    let g = plain_last a.bytes.now a.ends.now p a.i in
+    let p : is_plain a.strings.now.bytes.now a.strings.now.ends.now ≡ true = sym c.requires.1 ∙ c.if-plain.true in
+    let e = right_of a.strings.now.bytes.now a.strings.now.ends.now a.span.string a.span.from a.span.to c.requires.0.from c.requires.0.to in
+    let f = plain_part a.strings.now.bytes.now a.strings.now.ends.now p a.span.from a.span.to in
+    let g = plain_last a.strings.now.bytes.now a.strings.now.ends.now p a.span.string in
     grind (arith, common_steps)
 
 pub returns-else-plain : goal.returns-else-plain
 returns-else-plain c =
     let a = c.args in
-    let e = right_of a.bytes.now a.ends.now a.i a.from a.to c.requires.0.from c.requires.0.to in
+    let e = right_of a.strings.now.bytes.now a.strings.now.ends.now a.span.string a.span.from a.span.to c.requires.0.from c.requires.0.to in
     grind (arith, common_steps)
 
 pub returns-else-rises : goal.returns-else-rises
 returns-else-rises c =
     let a = c.args in
-    let e = right_of a.bytes.now a.ends.now a.i a.from a.to c.requires.0.from c.requires.0.to in
+    let e = right_of a.strings.now.bytes.now a.strings.now.ends.now a.span.string a.span.from a.span.to c.requires.0.from c.requires.0.to in
     grind (arith, common_steps)

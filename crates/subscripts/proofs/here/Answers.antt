@@ -1,4 +1,5 @@
 -- The use that an expression is: of its name, of its list, or none. Assumes nothing.
+use native.Mathlib.Omega.{arith}
 use mathlib.Core.Path.{refl}
 use Rattle.skip.proofs.Laws as S
 use Rattle.subscripts.proofs.Expressions.{here_empty, here_list, here_other}
@@ -11,7 +12,7 @@ pub returns-else-n-eq0 : goal.returns-else-n-eq0
 returns-else-n-eq0 c = here_list c.in-18.is c.if-n-eq0.false c.note.ensures
 
 pub returns-in_default : goal.returns-in_default
-returns-in_default c = here_other c.in_default.in_default-own.rest.1 (λ x. refl)
+returns-in_default c = here_other (λ e. omega arith) (λ x. refl)
 
 pub bounds-words-at : goal.bounds-words-at
 bounds-words-at c = S.here c.requires

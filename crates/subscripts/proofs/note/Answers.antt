@@ -1,8 +1,6 @@
 -- A use is noted: its name has no mark, or one that stays, or its two words are written. Assumes nothing.
 use native.Mathlib.Omega.{arith}
-use mathlib.Core.Logic.{inl, inr}
 use Rattle.subscripts.proofs.Table.{note_low, note_past, note_kept, note_written}
-use Rattle.subscripts.proofs.note.Goals.{else-t-i-ne0-via-then-t-i-ne0+else-t-i-2, else-t-i-ne0-via-else-t-i-ne0}
 use Rattle.subscripts.proofs.note.Goals as goal
 
 pub returns-then-f-base : goal.returns-then-f-base
@@ -15,4 +13,4 @@ pub returns-then-t-i-2 : goal.returns-then-t-i-2
 returns-then-t-i-2 c = note_kept c.args.base c.args.t.now c.args.k c.args.f c.args.n c.if-f-base.false c.if-t-i.false c.if-t-i-ne0.true c.if-t-i-2.true
 
 pub returns : goal.returns
-returns c = note_written c.args.base c.args.t.now c.args.k c.args.f c.args.n c.if-f-base.false c.if-t-i.false (elim c.else-t-i-ne0.branch [ else-t-i-ne0-via-then-t-i-ne0+else-t-i-2 w ↦ inr w.if-t-i-2.false | else-t-i-ne0-via-else-t-i-ne0 w ↦ inl w.if-t-i-ne0.false ]) (omega (arith, c.ranges.n))
+returns c = note_written c.args.base c.args.t.now c.args.k c.args.f c.args.n c.if-f-base.false c.if-t-i.false (grind arith) (omega (arith, c.ranges.n))

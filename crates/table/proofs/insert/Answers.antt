@@ -28,7 +28,7 @@ returns-then-key_at-k-clause-after c = λ rows H.
     let at = place row rows p c.key_of-k.result (c.lower_bound-p.ensures.ranked rows H) c.key_of-k.ensures in
     let there = key_there rows n b H (key row) p at c.if-p-count.true c.key_at.result c.key_at.ensures in
     let q : key (get_or rows (rank (key row) rows) []) ≡ key row = sym there ∙ c.if-key_at-k.true ∙ key_is row c.key_of-k.result c.key_of-k.ensures in
-    rw (c.put_words.ensures, c.requires.1) (replaced rows n b H row p at c.if-p-count.true q)
+    rw (c.put_words.ensures, c.told-row) (replaced rows n b H row p at c.if-p-count.true q)
 
 pub returns-then-b-end-lt-WIDTH-clause-after : goal.returns-then-b-end-lt-WIDTH-clause-after
 returns-then-b-end-lt-WIDTH-clause-after c = λ rows H.
@@ -60,4 +60,4 @@ returns-clause-after c = λ rows H.
     ])
     (omega (arith, c.if-b-end-lt-WIDTH.false, holds_fits H.filled))
     c.shift_up.new.b c.put_words-2.new.b
-    c.shift_up.ensures (rw c.requires.1 at c.put_words-2.ensures)
+    c.shift_up.ensures (rw c.told-row at c.put_words-2.ensures)

@@ -6,12 +6,9 @@ use Rattle.table.proofs.push.Goals as goal
 
 pub returns-then-b-end-lt-NOTE_WIDTH-clause-after : goal.returns-then-b-end-lt-NOTE_WIDTH-clause-after
 returns-then-b-end-lt-NOTE_WIDTH-clause-after c = λ rows F.
-    let s = c in
-    push_full rows s.args.count s.args.b.now F s.args.note.now c.if-b-end-lt-NOTE_WIDTH.true
+    push_full rows c.args.count c.args.b.now F c.args.note.now c.if-b-end-lt-NOTE_WIDTH.true
 
 pub returns-clause-after : goal.returns-clause-after
 returns-clause-after c = λ rows F.
-    let p = c in
-    let e = p in
-    let s = e in
-    rw (p.put_words.ensures, s.requires.1) (pushed rows s.args.count s.args.b.now F s.args.note.now (omega (arith, e.if-b-end-lt-NOTE_WIDTH.false, holds_fits F)))
+    let a = c.args in
+    rw (c.put_words.ensures, c.told-note) (pushed rows a.count a.b.now F a.note.now (omega (arith, c.if-b-end-lt-NOTE_WIDTH.false, holds_fits F)))

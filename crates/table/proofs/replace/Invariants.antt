@@ -4,8 +4,8 @@ use Rattle.table.specs.Rows.{width, Row, Holds}
 use Rattle.table.proofs.Turns.{Turn}
 use Rattle.table.proofs.replace.Given as goal
 
-abbrev pub invariant-loop-i : goal.invariant-loop-i
-invariant-loop-i l = record {
+abbrev pub invariant-loop-row : goal.invariant-loop-row
+invariant-loop-row l = record {
   fit : l.m * width ≤ length l.b;
-  turn : (rows : List Row) → Holds rows l.initial.m l.initial.b → Turn l.src l.n rows l.b l.m l.i;
+  turn : (rows : List Row) → Holds rows l.initial.m l.initial.b → Turn l.rows rows l.b l.m l.row-index;
 }

@@ -6,13 +6,13 @@ use Rattle.types.proofs.Checking.{checking_all, checking_some, checking_name, ch
 use Rattle.types.proofs.check.Goals as goal
 
 pub loop-init : goal.loop-init
-loop-init c = (refl, refl, below_two c.requires.4, checking_all c.requires.0.1 c.requires.4)
+loop-init c = (refl, refl, below_two c.requires.2, checking_all c.requires.0.1 c.requires.2)
 
 pub field_at-f-requires : goal.field_at-f-requires
 field_at-f-requires c = checking_some c.requires.1 c.loop.invariant.3 c.loop-test.true
 
 pub check_field-told-requires : goal.check_field-told-requires
-check_field-told-requires c = (omega (arith, checking_name c.requires.1 c.loop.invariant.3 c.loop-test.true _ c.field_at-f.ensures, c.loop.invariant.2.long), c.field_at-f.ensures.arg_small)
+check_field-told-requires c = omega (arith, checking_name c.requires.1 c.loop.invariant.3 c.loop-test.true _ c.field_at-f.ensures, c.loop.invariant.2.long)
 
 pub loop-preserved : goal.loop-preserved
 loop-preserved c = (c.look-c.auto.d ∙ c.loop.invariant.0, marked_length c.check_field-told.ensures ∙ c.loop.invariant.1, below_next (omega arith) c.loop.invariant.2 c.check_field-told.ensures, checking_next c.loop.invariant.3 c.loop-test.true _ c.field_at-f.ensures (omega (arith, checking_name c.requires.1 c.loop.invariant.3 c.loop-test.true _ c.field_at-f.ensures, c.loop.invariant.2.long)) _ _ refl c.check_field-told.ensures c.look-c.ensures)

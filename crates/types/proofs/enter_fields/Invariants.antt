@@ -5,4 +5,4 @@ use Rattle.types.proofs.Entering.{EnteringMid}
 use Rattle.types.proofs.enter_fields.Given as goal
 
 abbrev pub invariant-loop : goal.invariant-loop
-invariant-loop l = (length l.b ≡ length l.initial.b) × (length l.seen ≡ length l.initial.seen) × EnteringMid l.words l.at l.n l.owner l.initial.c.counts l.initial.b l.c l.a l.counter l.b l.seen
+invariant-loop l = (length l.b ≡ length l.initial.b) × (length l.seen ≡ length l.initial.seen) × EnteringMid l.words l.owner.fields l.owner.count l.owner.name l.initial.c.counts l.initial.b l.c l.at l.counter l.b l.seen

@@ -6,7 +6,7 @@ use Rattle.uses.proofs.count_of.Goals as goal
 
 pub returns-in_err-end : goal.returns-in_err-end
 unfolding told
-returns-in_err-end c = let p = err_from_is_err_and c.from_residual.result c.from_residual.ensures.1 in rw (p.1, p.2) (misread_is c.args.names.now c.args.words.now c.args.name c.program.ensures c.in_err-end.was)
+returns-in_err-end c = let p = err_from_is_err_and c.from_residual.result c.from_residual.ensures.1 in rw (p.1, p.2) (misread_is c.args.source.now.names.now c.args.source.now.words.now c.args.name (rw (c.marks.ensures.0, c.marks.ensures.1) at c.program.ensures) c.in_err-end.was)
 
 pub count_in-requires : goal.count_in-requires
-count_in-requires c = was_read c.args.names.now c.args.words.now c.args.name c.program.ensures c.in_ok-end.was
+count_in-requires c = was_read c.args.source.now.names.now c.args.source.now.words.now c.args.name (rw (c.marks.ensures.0, c.marks.ensures.1) at c.program.ensures) c.in_ok-end.was

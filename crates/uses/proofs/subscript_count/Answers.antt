@@ -3,7 +3,7 @@ use Rattle.std.proofs.Common.{refl, sym, ap, ◌∙◌, arith}
 use Rattle.std.proofs.lemmas.Result.{err_from_is_err_and}
 use Rattle.uses.specs.Count.{count_of, told}
 use Rattle.reader.specs.Begun.{begun_opened, begun_stops, begun_gives}
-use Rattle.reader.proofs.Laws.{few_strings, as_many, few_marks}
+use Rattle.reader.proofs.Laws.{few_strings, as_many}
 use Rattle.uses.proofs.subscript_count.Goals as goal
 
 pub marks-requires : goal.marks-requires
@@ -16,11 +16,8 @@ returns-in_err-names c = let p = err_from_is_err_and c.from_residual.result c.fr
 pub slice_bounds-names-end : goal.slice_bounds-names-end
 slice_bounds-names-end c = let o = begun_opened c.marks.ensures c.in_ok-names.was in omega (arith, o.names.long, few_strings c.args.bytes.now c.args.ends.now c.args.words.now (sym c.sized_tree.ensures ∙ o.within))
 
-pub slice_bounds-count_of-end : goal.slice_bounds-count_of-end
-slice_bounds-count_of-end c = let o = begun_opened c.marks.ensures c.in_ok-names.was in as_many o.names (few_strings c.args.bytes.now c.args.ends.now c.args.words.now (sym c.sized_tree.ensures ∙ o.within))
-
-pub count_of-requires : goal.count_of-requires
-count_of-requires c = let o = begun_opened c.marks.ensures c.in_ok-names.was in few_marks o.names (few_strings c.args.bytes.now c.args.ends.now c.args.words.now (sym c.sized_tree.ensures ∙ o.within))
+pub slice_bounds-names-end-2 : goal.slice_bounds-names-end-2
+slice_bounds-names-end-2 c = let o = begun_opened c.marks.ensures c.in_ok-names.was in as_many o.names (few_strings c.args.bytes.now c.args.ends.now c.args.words.now (sym c.sized_tree.ensures ∙ o.within))
 
 pub returns : goal.returns
 returns c = let o = begun_opened c.marks.ensures c.in_ok-names.was in begun_gives (rw c.sized_tree.ensures at c.marks.ensures) c.in_ok-names.was (c.count_of.ensures ∙ ap (λ ns. count_of ns c.args.words.now c.args.name) o.names.first)

@@ -1,6 +1,7 @@
 -- What falls from call to call, the levels left, and what the loop over a list keeps.
 use Prim.Native.Nat.{◌+◌, ◌-◌}
 use mathlib.Core.Path.{◌≡◌}
+use Rattle.expr.specs.Expr.{Strings}
 use Rattle.expr.specs.Reader.{exprs_at, expr_at}
 use Rattle.expr.specs.Answer.{step_of}
 use Rattle.expr.proofs.Cursor.+binary_expr_field_list.Given as goal
@@ -19,5 +20,6 @@ decreases-list l = l.left + l.left + 1
 
 abbrev pub invariant-list-loop : goal.invariant-list-loop
 invariant-list-loop l =
-    let sub = expr_at l.words (record { count = l.n; names = l.names }) l.left in
-    step_of (exprs_at l.words (record { count = l.n; names = l.names }) sub l.count l.initial.c.at) ≡ step_of (exprs_at l.words (record { count = l.n; names = l.names }) sub (l.count - l.counter) l.c.at)
+    let strings : Strings = record { count = l.names.count; names = l.names.marks.now } in
+    let sub = expr_at l.words strings l.left in
+    step_of (exprs_at l.words strings sub l.count l.initial.c.at) ≡ step_of (exprs_at l.words strings sub (l.count - l.counter) l.c.at)

@@ -1,1 +1,0 @@
--- put_level: the sizes that are asked have room in these buffers.

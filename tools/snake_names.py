@@ -40,8 +40,8 @@ row_word row_word_lem
 with_params with_params_lem
 """.strip().splitlines())}
 LOCAL = {
-    ("crates/lawful/specs/Lawful.antt", "param_rows"): "param_rows_lem",
-    ("crates/expr/proofs/Cursor/+binary_expr_field_list/Proof.antt", "list_at"): "list_here",
+    ("crates/law_collected_rows/specs/Lawful.antt", "param_rows"): "param_rows_lem",
+    ("crates/tree_expr/proofs/Cursor/+binary_expr_field_list/Proof.antt", "list_at"): "list_here",
 }
 
 

@@ -16,9 +16,9 @@ fn put_whole(image: &[u8], out: &mut [u8]) -> usize
 }
 
 fn main(rt: HostRuntime) -> io::Result<()> {
-    let mut image: [u8; 65536] = programs::room(0);
-    let n = programs::read_full(&mut rt.stdin(), &mut image)?;
-    let mut out: [u8; 1048576] = programs::room(0);
+    let mut image: [u8; 65536] = base_input::room(0);
+    let n = base_input::read_full(&mut rt.stdin(), &mut image)?;
+    let mut out: [u8; 1048576] = base_input::room(0);
     let k = put_whole(&image[..n], &mut out);
     rt.write_all(&out[..k])
 }

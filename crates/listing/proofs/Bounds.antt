@@ -8,8 +8,8 @@ use borrow.Author.Tests.{leb-true, leb-false}
 use lib.Dec.{leb}
 use lib.ListN.{length, take}
 use lib.Seq.{take_all, length-take-le}
-use Rattle.image.specs.Laws.{longest}
-use Rattle.page.specs.Page.{refusal}
+use Rattle.list_image.specs.Laws.{longest}
+use Rattle.list_page.specs.Page.{refusal}
 use Rattle.listing.specs.Listing.{listed, listing}
 
 -- a file of more than 57,356 bytes lists as `E 5`

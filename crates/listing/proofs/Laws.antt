@@ -7,24 +7,24 @@ use mathlib.Core.Bool.{Bool, true, false}
 use mathlib.Core.Option.{none, some}
 use borrow.Author.Tests.{le-leb}
 use lib.ListN.{length, length-replicate, take, drop}
-use Rattle.words.specs.Told.{Told, stops, gives, unless}
-use Rattle.words.specs.Refusals.{number_of, refused}
-use Rattle.words.specs.declared.Refusal.{Refusal}
-use Rattle.text.specs.Wrote.{Wrote}
-use Rattle.strings.specs.Table.{sound}
-use Rattle.strings.specs.Open.{entry_of}
-use Rattle.reader.specs.Sized.{sized_program}
-use Rattle.table.specs.Rows.{width, note_width, zeros}
-use Rattle.steps.specs.Held.{Fresh}
-use Rattle.image.specs.Image.{words_at, tree_from, erased_from, bytes_from, parts, decode}
-use Rattle.image.specs.Laws.{Shaped}
-use Rattle.page.specs.Page.{page, refusal}
-use Rattle.page.specs.Chunks.{chunks}
-use Rattle.equivalence.specs.Analysis.{Analysis, analysis}
-use Rattle.equivalence.proofs.AcceptedLaws.{Within as Longer, same, rows_full, notes_full, longer_limits}
-use Rattle.analyse.specs.Analyse.{Analyses, Tells, work, analysis_in, told, counted}
-use Rattle.analyse.specs.ReadOff.{shown_of, read_off, Within, read_off_lem, within}
-use Rattle.analyse.specs.declared.Given.{Given}
+use Rattle.base_words.specs.Told.{Told, stops, gives, unless}
+use Rattle.base_words.specs.Refusals.{number_of, refused}
+use Rattle.base_words.specs.declared.Refusal.{Refusal}
+use Rattle.base_text.specs.Wrote.{Wrote}
+use Rattle.base_strings.specs.Table.{sound}
+use Rattle.base_strings.specs.Open.{entry_of}
+use Rattle.entry_read.specs.Sized.{sized_program}
+use Rattle.rows_table.specs.Rows.{width, note_width, zeros}
+use Rattle.collect_buffers.specs.Held.{Fresh}
+use Rattle.list_image.specs.Image.{words_at, tree_from, erased_from, bytes_from, parts, decode}
+use Rattle.list_image.specs.Laws.{Shaped}
+use Rattle.list_page.specs.Page.{page, refusal}
+use Rattle.list_page.specs.Chunks.{chunks}
+use Rattle.law_equivalence.specs.Analysis.{Analysis, analysis}
+use Rattle.law_equivalence.proofs.AcceptedLaws.{Within as Longer, same, rows_full, notes_full, longer_limits}
+use Rattle.entry_analyse.specs.Analyse.{Analyses, Tells, work, analysis_in, told, counted}
+use Rattle.entry_analyse.specs.ReadOff.{shown_of, read_off, Within, read_off_lem, within}
+use Rattle.entry_analyse.specs.declared.Given.{Given}
 use Rattle.listing.specs.Listing.{text_of, listed, analysed, listing}
 use Rattle.listing.specs.Shown.{shown_text, answer_text, program_text, limit, too_short, WroteUnless}
 use Rattle.std.specs.Prelude.{Result, Err, Ok, Option, None, Some}

@@ -2,16 +2,16 @@
 -- These are definitions.
 use Rattle.std.specs.Prelude.{ℕ, ◌*◌, ◌≡◌, Bool, false, ◌||◌, List, eqb, Result, Err, Ok, Option, None, Some}
 use Rattle.std.proofs.Math.Option.{some}
-use Rattle.words.specs.Told.{Told, stops, gives}
-use Rattle.words.specs.Refusals.{number_of}
-use Rattle.text.specs.Wrote.{Wrote}
-use Rattle.table.specs.Rows.{width, note_width}
-use Rattle.page.specs.Page.{page, refusal}
-use Rattle.equivalence.specs.Analysis.{analysis}
-use Rattle.analyse.specs.ReadOff.{Shown, read_off}
+use Rattle.base_words.specs.Told.{Told, stops, gives}
+use Rattle.base_words.specs.Refusals.{number_of}
+use Rattle.base_text.specs.Wrote.{Wrote}
+use Rattle.rows_table.specs.Rows.{width, note_width}
+use Rattle.list_page.specs.Page.{page, refusal}
+use Rattle.law_equivalence.specs.Analysis.{analysis}
+use Rattle.entry_analyse.specs.ReadOff.{Shown, read_off}
 use Rattle.listing.specs.Listing.{text_of}
-use Rattle.words.specs.declared.Refusal.{Refusal}
-use Rattle.analyse.specs.declared.Given.{Given}
+use Rattle.base_words.specs.declared.Refusal.{Refusal}
+use Rattle.entry_analyse.specs.declared.Given.{Given}
 
 -- the text of what was read off, or of its number
 unfoldable pub shown_text : (bytes ends : List ℕ) → Told Shown → List ℕ

@@ -2,22 +2,22 @@
 #![tactic(auto)]
 
 ghost use Rattle.std.specs.Prelude.{◌≡◌, true, ◌*◌, ◌≤◌, length};
-ghost use Rattle.text.specs.Wrote.{Wrote, size, laid};
-ghost use Rattle.table.specs.Rows.{width, note_width};
-ghost use Rattle.steps.specs.Held.{Fresh};
-ghost use Rattle.analyse.specs.ReadOff.{Within};
+ghost use Rattle.base_text.specs.Wrote.{Wrote, size, laid};
+ghost use Rattle.rows_table.specs.Rows.{width, note_width};
+ghost use Rattle.collect_buffers.specs.Held.{Fresh};
+ghost use Rattle.entry_analyse.specs.ReadOff.{Within};
 ghost use Rattle.listing.specs.Listing.{listing as listing_of};
 ghost use Rattle.listing.specs.Shown.{answer_text, program_text, limit, too_short, WroteUnless};
 
 mod opened;
 
-use analyse::{Given, analyse_in};
-use image::{open, read_words};
+use base_strings::Strings;
+use base_text::finish;
+use base_words::Refusal;
+use entry_analyse::{Given, analyse_in};
+use list_image::{open, read_words};
+use list_page::{Counts, put_page, put_refusal};
 use opened::Opened;
-use page::{Counts, put_page, put_refusal};
-use strings::Strings;
-use text::finish;
-use words::Refusal;
 
 // The text of an answer and of what stands in the buffers.
 fn put_answer(
@@ -205,7 +205,8 @@ fn put_level<
     )
 }
 
-// Many words, strings or erased names, in 73,728 bytes of buffers; 1,024 rows and 1,024 diagnostics, one for two words.
+// Many words, strings or erased names, in 73,728 bytes of buffers; 1,024 rows and 1,024 diagnostics, one for two words. (A function for each size: which is
+// next depends on what was too little, and the sizes are const parameters, which no table can hold.)
 // (A `match` here and below: the closure of an `unwrap_or_else` would write `out`, and what stands there then the check does not find by itself.)
 fn put_names_middle(out: &mut [u8], opened: &Opened<'_>) -> usize
     ensures { Wrote (listing_of opened.now.image.now) out.old out.new 0 result }

@@ -1,7 +1,7 @@
 // An image that was taken apart.
-ghost use Rattle.image.specs.Laws.{Shaped};
+ghost use Rattle.list_image.specs.Laws.{Shaped};
 
-use image::Shape;
+use list_image::Shape;
 
 // Its bytes, and what was counted of them.
 #[derive(Clone, Copy)]

@@ -2,7 +2,7 @@
 #![tactic(auto)]
 
 ghost use Rattle.std.specs.Prelude.{◌≡◌};
-ghost use Rattle.text.specs.Wrote.{size, laid};
+ghost use Rattle.base_text.specs.Wrote.{size, laid};
 ghost use Rattle.listing.specs.Listing.{listing as listing_of};
 
 // The listing's length; or 0, and `out` zero, where it doesn't fit. Bytes past the listing stay.

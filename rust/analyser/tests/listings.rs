@@ -1,4 +1,4 @@
-//! What the listings say: the original's answers, kept in `samples/` and for `replay`, against the entry and against the program `list`.
+//! What the listings say: the original's answers, kept in `samples/` and for `test_replay`, against the entry and against the program `list`.
 #![cfg(analyser)]
 
 mod common;

@@ -2,7 +2,7 @@
 
 use image::raw::Raw;
 
-/// The public entries, under the numbers by which `crates/calls` knows them.
+/// The public entries, under the numbers by which `crates/test_calls` knows them.
 #[derive(Debug, Clone, Copy, PartialEq, Eq)]
 pub enum Entry {
     ReadStatement,
@@ -64,7 +64,7 @@ impl Case {
         }
     }
 
-    /// As `crates/calls` reads it.
+    /// As `crates/test_calls` reads it.
     pub fn to_bytes(&self) -> Vec<u8> {
         let mut to = Vec::new();
         to.extend((self.label.len() as u32).to_le_bytes());

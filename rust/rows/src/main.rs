@@ -1,6 +1,6 @@
 //! Rows in a lent buffer beside the `HashMap` that sema.rs keeps arrays in: insertions and lookups, in one run.
 //!
-//! `PATSKNELI_BENCH=1 cargo run --release -p rows` makes the archive of crate `measure_c` and prints a table.
+//! `PATSKNELI_BENCH=1 cargo run --release -p rows` makes the archive of crate `bench_rows_c` and prints a table.
 
 fn main() {
     #[cfg(rows)]

@@ -1,5 +1,5 @@
 -- put_whole: the text fits, as every listing does.
-use Rattle.longest.specs.Longest.{whole_listing}
+use Rattle.law_longest_listing.specs.Longest.{whole_listing}
 use Rattle.list.proofs.put_whole.Goals as goal
 
 pub returns : goal.returns

@@ -1,5 +1,5 @@
 -- put_all: with the room that is promised, what the passes tell has the text of what their definition gives (`text_full`).
-use Rattle.text.specs.Laws.{same}
+use Rattle.base_text.specs.Laws.{same}
 use Rattle.listing.proofs.Laws.{text_full, counts_within}
 use Rattle.listing.proofs.put_all.Goals as goal
 

@@ -1,6 +1,6 @@
 -- put_first: an answer that is neither 7 nor 8 is that of longer buffers (`text_first`); for the others nothing is written.
 use mathlib.Core.Path.{sym, ◌∙◌}
-use Rattle.text.specs.Laws.{same}
+use Rattle.base_text.specs.Laws.{same}
 use Rattle.listing.proofs.Laws.{text_first, counts_within, kept, written}
 use Rattle.listing.proofs.put_first.Goals as goal
 

@@ -2,8 +2,8 @@
 use mathlib.Core.Path.{refl}
 use Prim.Native.Nat.{◌+◌, ◌*◌}
 use native.Mathlib.Omega.{arith}
-use Rattle.text.specs.Laws.{same}
-use Rattle.image.specs.Laws.{front, front_length}
+use Rattle.base_text.specs.Laws.{same}
+use Rattle.list_image.specs.Laws.{front, front_length}
 use Rattle.listing.proofs.Laws.{image_text, from_to, made}
 use Rattle.listing.proofs.put_full.Goals as goal
 

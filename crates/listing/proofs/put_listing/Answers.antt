@@ -1,6 +1,6 @@
 -- put_listing: an image's listing, or `E 5`.
 use mathlib.Core.Path.{sym, ◌∙◌}
-use Rattle.image.specs.Laws.{shaped, not_image}
+use Rattle.list_image.specs.Laws.{shaped, not_image}
 use Rattle.listing.proofs.Laws.{no_image}
 use Rattle.listing.proofs.put_listing.Goals as goal
 

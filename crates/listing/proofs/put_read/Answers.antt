@@ -1,7 +1,7 @@
 -- put_read: the parts read are the parts of the image, so that the text is the listing (`image_text`).
 use Prim.Native.Nat.{◌+◌, ◌*◌}
 use native.Mathlib.Omega.{arith}
-use Rattle.image.specs.Laws.{front, front_length}
+use Rattle.list_image.specs.Laws.{front, front_length}
 use Rattle.listing.proofs.Laws.{image_text, from_to, renamed}
 use borrow.Author.Rules.{rules}
 use Rattle.listing.proofs.put_read.Goals as goal

@@ -40,9 +40,9 @@ pub fn samples() -> Vec<Kept> {
         .collect()
 }
 
-/// The images of the list that `replay` replays: length, image, length, listing.
+/// The images of the list that `test_replay` replays: length, image, length, listing.
 pub fn kept() -> Vec<Kept> {
-    let list = fs::read(root().join("crates/replay/stdin")).expect("a list");
+    let list = fs::read(root().join("crates/test_replay/stdin")).expect("a list");
     let mut rest = &list[..];
     let mut part = || {
         let (length, after) = rest.split_first_chunk::<4>()?;

@@ -1,9 +1,0 @@
--- A program is one item of a scan. Assumes nothing.
-use Rattle.accesses.proofs.Scanning.{ready_scan, program_done}
-use Rattle.accesses.proofs.resolve_with.Goals as goal
-
-pub scan-requires : goal.scan-requires
-scan-requires c = ready_scan c.requires.0
-
-pub returns : goal.returns
-returns c = program_done c.requires.0 c.scan.ensures

@@ -1,6 +1,0 @@
--- An answer in words: those of its value, which a CONST row may hold. Assumes nothing.
-use Rattle.consteval.proofs.Laws.{value_laid}
-use Rattle.consteval.proofs.laid.Goals as goal
-
-pub returns : goal.returns
-returns c = value_laid c.in_ok-v.v c.const_words.result c.in_ok-v.was c.requires c.const_words.ensures

@@ -1,9 +1,0 @@
--- `is_erased`: what was seen, or what is left, has it as the whole does. Assumes nothing.
-use mathlib.Core.Path.{◌≡◌}
-use mathlib.Core.Bool.{◌||◌}
-use lib.ListN.{drop}
-use Rattle.collect.specs.Collect.{member}
-use Rattle.dims.proofs.is_erased.Given as goal
-
-abbrev pub invariant-loop-other : goal.invariant-loop-other
-invariant-loop-other l = (l.hit || member l.name (drop l.other-index l.erased)) ≡ member l.name l.erased

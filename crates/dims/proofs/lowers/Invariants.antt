@@ -1,9 +1,0 @@
--- `lowers`: so many bounds, and whether one of them is written. Assumes nothing.
-use Rattle.dims.proofs.Reading.{Lowering}
-use lib.ListN.{get_or}
-use Rattle.words.specs.Word.{pay_of}
-use Prim.Native.Nat.{◌+◌}
-use Rattle.dims.proofs.lowers.Given as goal
-
-abbrev pub invariant-loop : goal.invariant-loop
-invariant-loop l = Lowering l.words (l.at + 1) (pay_of (get_or l.words l.at 0)) l.counter l.any l.m

@@ -1,9 +1,0 @@
--- `say`: the clash's diagnostic, or none. Assumes nothing.
-use mathlib.Core.Path.{refl}
-use mathlib.Core.Bool.{false}
-use mathlib.Core.List.{[]}
-use Rattle.steps.proofs.Laws.{no_note}
-use Rattle.dims.proofs.say.Goals as goal
-
-pub returns-in-None : goal.returns-in-None
-returns-in-None c = rw c.in-None.is (no_note c.args.s c.args.d.now [] c.requires false refl)

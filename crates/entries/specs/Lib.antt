@@ -1,4 +1,0 @@
--- The sixteen kinds of rows, and each of them once as words.
-pub mod Entries
-pub mod Entered
-pub mod Examples

@@ -1,3 +1,0 @@
--- What the code of SHARED and STATIC promises inside, with laws and examples; what is right is said in crate `collect`.
-pub mod Items
-pub mod Examples

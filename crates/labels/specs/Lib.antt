@@ -1,4 +1,0 @@
--- What the code of line numbers, labels, OPTION BASE and CONST promises inside, with laws and examples; what is right is said in crate `collect`.
-pub mod Labels
-pub mod Arrays
-pub mod Examples

@@ -1,6 +1,0 @@
--- `numbers::words_of` meets its contract: a finite float is no NaN. Assumes nothing.
-use Rattle.numbers.specs.NumbersLaws.{no_nan}
-use Rattle.numbers.proofs.words_of.Goals as goal
-
-pub float_to_bits-x : goal.float_to_bits-x
-float_to_bits-x c = no_nan c.args.x c.requires

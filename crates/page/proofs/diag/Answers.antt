@@ -1,8 +1,0 @@
--- diag: its six words, in turn.
-use Rattle.std.proofs.Common.{refl}
-use Rattle.page.specs.Page.{diag_of}
-use Rattle.page.proofs.diag.Goals as goal
-
-pub returns : goal.returns
-unfolding diag_of
-returns c = refl

@@ -1,7 +1,0 @@
--- `past_params`: at each turn those that are left stand at the place. Assumes nothing.
-use Rattle.procedures.proofs.Walk.{Walked}
-use Rattle.procedures.proofs.past_params.Given as goal
-
-abbrev pub invariant-loop : goal.invariant-loop
-invariant-loop l =
-    Walked (λ ps. Unit {0}) l.words l.from l.count l.at l.counter

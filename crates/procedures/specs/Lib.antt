@@ -1,2 +1,0 @@
--- What the code of SUB and FUNCTION promises inside; what is right is said in crate `collect`.
-pub mod Post

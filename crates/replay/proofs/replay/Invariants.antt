@@ -1,6 +1,0 @@
--- `replay`: no more records came out alike than were read.
-use Rattle.std.proofs.Common.{◌≤◌}
-use Rattle.replay.proofs.replay.Given as goal
-
-abbrev pub invariant-loop-all : goal.invariant-loop-all
-invariant-loop-all g l = l.right ≤ l.all

@@ -1,7 +1,0 @@
--- Targets, one after another. Assumes nothing.
-use Rattle.subscripts.specs.Notes.{mark_at}
-use Rattle.subscripts.proofs.Targets.{TargetsRead}
-use Rattle.subscripts.proofs.lvalues.Given as goal
-
-abbrev pub invariant-loop : goal.invariant-loop
-invariant-loop l = TargetsRead l.words l.at l.n l.k l.j (mark_at l.base l.initial.t) (mark_at l.base l.t) l.next l.counter

@@ -1,9 +1,0 @@
--- The statements of a body, up to the first use. Assumes nothing.
-use mathlib.Core.Path.{◌≡◌}
-use lib.ListN.{length}
-use Rattle.subscripts.specs.Notes.{free, mark_at}
-use Rattle.subscripts.proofs.Bodies.{BodyRead}
-use Rattle.subscripts.proofs.subscript_count.Given as goal
-
-abbrev pub invariant-loop : goal.invariant-loop
-invariant-loop l = (length l.t ≡ 2) × (mark_at l.name l.initial.t l.name ≡ free) × BodyRead l.words l.at l.n (mark_at l.name l.initial.t) (mark_at l.name l.t) l.next l.counter

@@ -1,8 +1,0 @@
--- put_word: where the word doesn't fit, the nine bytes that `lay_word` leaves are the word's, and they are written.
-use Rattle.text.specs.Text.{hex8}
-use Rattle.text.specs.Laws.{same}
-use Rattle.text.proofs.put_word.Goals as goal
-
-pub returns : goal.returns
-unfolding hex8
-returns c = same c.lay_word-2.ensures.now c.put_bytes.ensures

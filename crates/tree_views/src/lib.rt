@@ -1,0 +1,2 @@
+// The typed views are definitions: see specs/.
+#![tactic(auto)]

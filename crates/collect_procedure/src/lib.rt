@@ -1,5 +1,6 @@
 // What collecting does for SUB and FUNCTION, but for their bodies.
-// `b, d, s` stay side by side, and that the counts fit stays a clause (`Fit`, `s.rows * width ≤ length b`): a ghost field beside a `&mut` field isn't had (the kit's NOT_COVERED).
+// `b, d, s` stay side by side, and that the counts fit stays a clause (`Fit`, `s.rows * width ≤ length b`): a ghost field beside a `&mut` field isn't had (the kit's NOT_COVERED). Where `b` is only read it
+// stays beside `s` all the same: its count is `s.rows`, and `s` goes on to the diagnostics.
 // `words, p` do so too, with `SomeProc` a clause: it names what stands there, so that a ghost field refuses it, which takes a proposition alone; and `∥ .. ∥₁` gives only propositions
 // back, while `collect_as_clause::as_type` and `collect_subscript_count` ask for the tree itself. So the parameters are gone through by their places too: an iterator's `next` can ask nothing.
 #![tactic(auto)]

@@ -1,5 +1,6 @@
 // The scan of collecting: each statement, then its bodies, those of a procedure in its own scope. Every word tells by its kind what it is, so one pass over the words meets
 // every statement's head in that order.
+// Kinds of words are numbers, matched with ranges: document 01's form of a tree.
 #![tactic(auto)]
 
 ghost use Rattle.std.specs.Prelude.{ℕ, ◌<◌, List, length, get_or};

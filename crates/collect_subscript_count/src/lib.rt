@@ -1,4 +1,5 @@
 // `subscript_count`: how many subscripts a body gives a name the first time it subscripts it. One read-only walk notes the first uses of many names at once.
+// Kinds of words are numbers, matched with ranges: document 01's form of a tree.
 // (`SomeTree`, `SomeExpr` and `KindAt` stay clauses: each says of words, at a place, what stands there, in nearly each function another shape, and a struct for each would be opened at each call.)
 #![tactic(auto)]
 

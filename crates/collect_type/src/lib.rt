@@ -1,5 +1,6 @@
 // What collecting does for TYPE: its fields are looked at in order, then the TYPE and the fields that are kept are entered as one change.
-// `b, d, s` stay side by side, and that the counts fit stays a clause (`Fit`, `s.rows * width ≤ length b`): a ghost field beside a `&mut` field isn't had (the kit's NOT_COVERED).
+// `b, d, s` stay side by side, and that the counts fit stays a clause (`Fit`, `s.rows * width ≤ length b`): a ghost field beside a `&mut` field isn't had (the kit's NOT_COVERED). Where `b` is only read it
+// stays beside `s` all the same: its count is `s.rows`, and `s` goes on to the diagnostics.
 // `SomeTree` and `SomeFields` stay clauses: they name the tree that stands at a place, and a ghost field takes a proposition alone.
 #![tactic(auto)]
 

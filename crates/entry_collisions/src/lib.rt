@@ -45,7 +45,7 @@ fn collision(strings: &Sound<'_>, rows: &Rows<'_>, d: &mut [u32], s: Counts, i: 
     }
 }
 
-// All arrays: their rows stand together, and no other is looked at.
+// All arrays: their rows stand together, and no other is looked at. (`b` is only read, and stays beside `s` all the same: its count is `s.rows`, and `s` goes on to the diagnostics.)
 pub fn collisions(strings: &Sound<'_>, b: &[u32], d: &mut [u32], s: Counts) -> Counts
     requires { Ready strings.now.bytes.now strings.now.ends.now b.now s × Fit s (length b.now) (length d.old) }
     ensures { Checks strings.now.bytes.now strings.now.ends.now s result b.now d.old d.new }
@@ -66,7 +66,7 @@ pub fn collisions(strings: &Sound<'_>, b: &[u32], d: &mut [u32], s: Counts) -> C
     t
 }
 
-// Over the n rows of a lent table, into diagnostics of its own: number 8, which leaves zeros.
+// Over the n rows of a lent table, into diagnostics of its own: number 8, which leaves zeros. (`rows, n` go on as `b` and `s.rows`.)
 fn over(strings: &Sound<'_>, rows: &[u32], n: usize, d: &mut [u32]) -> Result<usize, Refusal>
     requires { LentReady strings.now.bytes.now strings.now.ends.now rows.now n }
     ensures { Tells d.old result d.new (over_of strings.now.bytes.now strings.now.ends.now rows.now (length d.old) n) }

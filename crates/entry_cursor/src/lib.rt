@@ -1,4 +1,5 @@
-// Two thin functions on a caller's own reading place, lent by `&mut`: it moves past what was read, and stays on a refusal.
+// Thin functions on a caller's own reading place, lent by `&mut`: it moves past what was read, and stays on a refusal. Statement and expression stay two, as in `entry_read`: one that
+// takes the call as a closure would be longer by its promise.
 #![tactic(auto)]
 
 ghost use Rattle.entry_read.specs.Reading.{statement_of, expression_of};

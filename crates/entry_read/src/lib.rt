@@ -160,7 +160,7 @@ impl Reader {
     }
 }
 
-// Whether the erased names rise strictly, each a name's number.
+// Whether the erased names rise strictly, each a name's number. (No `all`: each is compared with the one before it, so that a closure would write what it captures.)
 fn erased_right(erased: &[u32], names: &[u8]) -> bool
     ensures { result ≡ erased_from names.now 0 erased.now }
 {

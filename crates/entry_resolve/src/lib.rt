@@ -137,7 +137,7 @@ fn expression_at(
     expression(source, rows, scope, at, past.at, out)
 }
 
-// The list of expressions at `at`, as the arguments of a name.
+// The list of expressions at `at`, as the arguments of a name. (The two differ in what they read and in the call: one over both would take two closures, with their promises.)
 fn arguments_at(
     source: &Source<'_>,
     rows: &[u32],

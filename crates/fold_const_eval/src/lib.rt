@@ -1,4 +1,5 @@
 // `const_eval`: the value of a constant expression of a tree, under the CONST rows.
+// Kinds of words are numbers, matched with ranges: document 01's form of a tree.
 // (`SomeExpr` and `GoodFold` stay clauses: one says of words, at a place, that an expression stands there, the other of an answer that its value is in range, and a struct for each would be opened at each call.)
 #![tactic(auto)]
 

@@ -55,6 +55,7 @@ fn value_words(v: Value) -> TwoWords
     }
 }
 
+// The kind of a literal of the value, a number, as row 132 has it: document 01's form.
 pub fn literal_kind(v: Value) -> u32
     ensures { result ≡ literal_kind v }
 {
@@ -205,6 +206,7 @@ fn int_of(v: Value) -> i64
 
 // ---- a result in the range of its type, or overflow
 
+// (Three functions and not one: they differ in the range tested and in the variant made, and nothing else is in them.)
 fn integer_fold(z: i64) -> Fold
     ensures { result ≡ integer_fold z }
 {

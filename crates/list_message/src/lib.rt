@@ -175,7 +175,7 @@ static MESSAGES: [&[Piece]; 29] = [
     ],
 ];
 
-// The message of a code, among all; no pieces for a code that has none.
+// The message of a code, among all; no pieces for a code that has none. (A `match`: with `copied` and `unwrap_or` the proof did not close.)
 fn message<'a>(messages: &[&'a [Piece]], code: u32) -> &'a [Piece]
     requires { Messages messages.now }
     ensures { (template result.now ≡ get_or table code []) × (list_all plain result.now ≡ true) }
@@ -186,7 +186,7 @@ fn message<'a>(messages: &[&'a [Piece]], code: u32) -> &'a [Piece]
     }
 }
 
-// Where string k - 1 ends; 0 for k = 0.
+// Where string k - 1 ends; 0 for k = 0. (`base_strings::start` asks that k is within the table, and this answers 0 past it.)
 fn end_of(ends: &[u32], k: usize) -> usize
     ensures { result ≡ get_or (0 ∷ ends.now) k 0 }
 {

@@ -49,7 +49,7 @@ fn put_notes(out: &mut [u8], at: usize, strings: &Strings<'_>, notes: &[[u32; NO
     next
 }
 
-// A row's line where there is room for it, word by word: a loop over six words costs more.
+// A row's line where there is room for it, word by word: a loop over six words was tried, and cost more.
 fn lay_row(out: &mut [u8], at: usize, row: &[u32; WIDTH])
     requires { at + 56 ≤ length out.old }
     ensures { Wrote (line 84 row.now) out.old out.new at (at + 56) }
@@ -93,6 +93,7 @@ pub struct Counts {
     pub rows: usize,
 }
 
+// The text of an answer. (Buffers and counts stay apart: `n` says of two of them at once how much is in use.)
 pub fn put_page(
     out: &mut [u8],
     strings: &Strings<'_>,

@@ -1,15 +1,11 @@
--- Runs of stores, and what resolving writes: the words of a node from those of its parts, and never more than were read. Assumes nothing.
-use Prim.Native.Nat.{ℕ, ◌+◌, ◌<◌}
+-- What resolving writes: the words of a node from those of its parts, and never more than were read. Assumes nothing.
+use Prim.Native.Nat.{ℕ, ◌+◌}
 use native.Mathlib.Nat.{add-zero}
-use native.Mathlib.Numerals.{add-one}
-use native.Mathlib.Omega.{arith}
-use mathlib.Core.Path.{◌≡◌, refl, sym, ap, ap₂, ◌∙◌}
+use mathlib.Core.Path.{◌≡◌, refl, sym, ap, ap₂}
 use mathlib.Core.Bool.{Bool, true, false}
-use mathlib.Core.List.{List, [], ◌∷◌, ◌++◌, append-nil}
-use lib.ListN.{length, take, drop, get_or, set, length-drop}
-use lib.Seq.{sets, take-suc, get_or-drop, length-take-le}
+use mathlib.Core.List.{List, ◌∷◌, ◌++◌, append-nil}
+use lib.ListN.{length}
 use Rattle.base_words.specs.Word.{word_of, pick}
-use Rattle.base_words.specs.Laws.{sets_append}
 use Rattle.tree_expr.specs.Expr.{Strings, Expr, Lit, Var, Elem, Unary, Binary, Call, Field, Paren, Exprs, none, more, many, words, words_all, words_l, Valid, kind_e}
 use Rattle.tree_expr.specs.Stands.{Stands}
 use Rattle.tree_expr.proofs.Parts.{wrote_first}
@@ -18,17 +14,6 @@ use Rattle.resolve_definition.specs.Tables.{Tables, Places, nowhere, places, aft
 use Rattle.resolve_definition.specs.Resolve.{passed, called, resolve_expr, resolve_args}
 use Rattle.resolve_definition.specs.Flags.{passed_false}
 use Rattle.resolve_exprs.specs.Node.{front, back, pair_of, bare}
-
--- ---- stores
-
--- one word more copied
-pub copy_more : (ws out last : List ℕ) (at to i : ℕ) → at + i < length ws → last ≡ sets out to (take i (drop at ws)) → set last (to + i) (get_or ws (at + i) 0) ≡ sets out to (take (i + 1) (drop at ws))
-copy_more ws out last at to i h e =
-    let d = drop at ws in
-    let short : i < length d = simp length-drop (omega arith) in
-    let whole : length (take i d) ≡ i = length-take-le i d (omega arith) in
-    let one : sets (sets out to (take i d)) (to + length (take i d)) (get_or d i 0 ∷ []) ≡ sets out to (take (i + 1) d) = sym (sets_append (take i d) (get_or d i 0 ∷ []) out to) ∙ ap (sets out to) (sym (take-suc d i 0 short) ∙ ap (λ (n : ℕ). take n d) (sym (add-one i))) in
-    rw (e, ← get_or-drop at ws i 0) (rw whole at one)
 
 -- ---- a whole argument
 

@@ -20,14 +20,12 @@ pub struct Spot {
     pub to: usize,
 }
 
-// Copies n words, a node's own: they are few, and a call for each node that moves memory would cost more than the loop.
+// Copies n words, a node's own. (The library's `copy_from_slice`, under the promise that the laws of writing cite.)
 fn copy(words: &[u32], out: &mut [u32], spot: Spot, n: usize)
     requires { (spot.at + n ≤ length words.now) × (spot.to + n ≤ length out.old) }
     ensures { out.new ≡ sets out.old spot.to (take n (drop spot.at words.now)) }
 {
-    for i in 0..n {
-        out[spot.to + i] = words[spot.at + i];
-    }
+    out[spot.to..spot.to + n].copy_from_slice(&words[spot.at..spot.at + n]);
 }
 
 // Copies n words, and tells the places past them.

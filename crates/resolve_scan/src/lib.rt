@@ -1,4 +1,5 @@
 // Resolves statements of all kinds in one scan of their words, into a lent output.
+// Kinds of words are numbers, matched with ranges: document 01's form of a tree.
 #![tactic(auto)]
 
 ghost use Rattle.std.specs.Prelude.{◌≡◌, [], ◌∷◌, ◌+◌, ◌≤◌, ◌<◌, length, get_or, set};
@@ -21,7 +22,7 @@ fn past(inputs: &Inputs<'_>, at: usize) -> usize
     tree_stmt::past(inputs.source.words, &inputs.source.marks(), inputs.memo, at)
 }
 
-// Copies one word. One to three words are stored by hand here and below: a call that moves memory would cost more.
+// Copies one word. (One word here and two below are stored by index: a call over two ranges would be longer.)
 fn one(words: &[u32], out: &mut [u32], spot: Spot) -> Spot
     requires { (spot.at < length words.now) × (spot.to < length out.old) }
     ensures { (result.at ≡ spot.at + 1) × (result.to ≡ spot.to + 1) × (out.new ≡ set out.old spot.to (get_or words.now spot.at 0)) }

@@ -36,7 +36,8 @@ fn place(b: &mut [u32], i: usize, src: &[u32], j: usize) -> usize
     p
 }
 
-// Puts the first m rows of src, a table none of whose keys is in the other, into the table of `count` rows: each row moves once.
+// Puts the first m rows of src, a table none of whose keys is in the other, into the table of `count` rows: each row moves once. (`src, m` stay two beside `b, count`, which can't
+// be one: a struct on one side alone would be no plainer.)
 pub fn merge(b: &mut [u32], count: usize, src: &[u32], m: usize)
     requires { ((count + m) * width ≤ length b.old) × (m * width ≤ length src.now) }
     ensures long { length b.new ≡ length b.old }

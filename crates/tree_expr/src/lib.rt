@@ -1,5 +1,6 @@
 // Reads a flat tree of words: a cursor by value, and a `Result` for the answer.
 // `words`, `names` and `left` stay parameters of their own, and no form is plainer: what reads no name takes the words alone, and `left` falls from level to level.
+// Kinds of words are numbers, matched with ranges: document 01's form of a tree.
 #![tactic(auto)]
 
 ghost use Rattle.std.specs.Prelude.{◌≡◌, ◌+◌, ◌<◌, ◌≤◌, ◌^◌, length, get_or, IfOk, IfErr, cond, Ok, Err};

@@ -1,5 +1,5 @@
 // Steps over an expression: its place past the end, without reading what is in it. (`SomeExpr` stays a clause: it names the expression that stands at a place of
-// the words, and a ghost field takes a proposition alone.)
+// the words, and a ghost field takes a proposition alone.) Kinds of words are numbers, matched with ranges: document 01's form of a tree.
 #![tactic(auto)]
 
 ghost use Rattle.std.specs.Prelude.{◌≡◌, ℕ};

@@ -25,7 +25,7 @@ mod stmt;
 
 use base_strings::Sound;
 use collect_buffers::Counts;
-use decl::Decl;
+pub use decl::Decl;
 use rows_kinds::bit;
 use rows_lookup::Typed;
 use rows_table::Rows;

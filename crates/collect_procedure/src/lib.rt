@@ -30,7 +30,7 @@ mod read;
 
 use base_strings::Sound;
 use collect_buffers::Counts;
-use read::{ParamAt, ProcAt};
+pub use read::{ParamAt, ProcAt};
 use rows_lookup::Typed;
 use rows_table::Rows;
 use tree_stmt::Source;

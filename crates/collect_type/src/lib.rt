@@ -17,7 +17,8 @@ ghost use Rattle.collect_type.specs.Types.{SomeType, SomeFields, FieldIs, Below,
 mod read;
 
 use collect_buffers::Counts;
-use read::{FieldAt, TypeAt};
+pub use read::FieldAt;
+use read::TypeAt;
 use rows_table::Rows;
 
 // Why a field is not kept.

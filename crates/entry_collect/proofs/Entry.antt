@@ -11,6 +11,7 @@ use Rattle.base_words.specs.Refusals.{refused, number_of, place_of}
 use Rattle.base_words.specs.declared.Refusal.{Refusal}
 use Rattle.base_strings.specs.Table.{sound, names_of}
 use Rattle.base_strings.specs.Open.{Answers, entry_of}
+use Rattle.base_strings.specs.declared.right.Sound.{Sound}
 use Rattle.entry_read.specs.Begun.{Begun}
 use Rattle.entry_read.specs.Program.{accepted_of}
 use Rattle.rows_runs.specs.Laws.{keeps_same}
@@ -104,7 +105,7 @@ leaves_first b d at true false n p e = let z : n ≡ 1 = cc in rw z (refl, refl)
 leaves_first b d at false t n p e = let z : n ≡ 5 = cc in rw z (refl, refl)
 
 -- so a refusal of the beginning does
-pub leaves_begun : (sized : Bool) (bytes ends : List ℕ) {v : Result (List ℕ) Refusal} {r : Refusal} (b d : List ℕ) → Begun sized bytes ends v → v ≡ Err r → Leaves (told b d (Err r)) b d b d
+pub leaves_begun : (sized : Bool) (bytes ends : List ℕ) {v : Result Sound Refusal} {r : Refusal} (b d : List ℕ) → Begun sized bytes ends v → v ≡ Err r → Leaves (told b d (Err r)) b d b d
 unfolding Begun entry_of refused told
 leaves_begun sized bytes ends {r = r} b d B e =
     let a : Answers sized bytes ends (refused {A = Unit {0}} r) (gives tt) = rw e at B in

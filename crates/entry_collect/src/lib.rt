@@ -7,7 +7,7 @@ ghost use Rattle.tree_stmt.specs.Memo.{Remembers};
 ghost use Rattle.collect_definition.specs.Passed.{Passed};
 ghost use Rattle.entry_collect.specs.Entry.{Tabled, Tells, Entered, work};
 
-use base_strings::{Sound, Strings};
+use base_strings::Strings;
 use base_words::Refusal;
 use collect_buffers::Counts;
 use collect_scan::Program;
@@ -75,16 +75,15 @@ pub fn collect(
     ensures { Entered bytes.now ends.now erased.now words.now result rows.old notes.old rows.new notes.new }
 {
     let strings = &Strings { bytes, ends };
-    let names = entry_read::marks(entry_read::sized_program(strings, words, erased), strings)?;
-    // Behind a reference, as `strings` below: the check takes a struct with a ghost field that was made here into another only where the signature has one lifetime for both.
-    let source = &Source {
-        words,
-        names: &names[..ends.len()],
-    };
-    let strings = &Sound { bytes, ends };
+    let sound = entry_read::begin(entry_read::sized_program(strings, words, erased), strings)?;
+    let mut marks = [0; base_words::MAX_STRINGS];
+    let names = &mut marks[..ends.len()];
+    base_strings::mark_names(&sound, names);
+    // Behind a reference: the check takes a struct with a ghost field that was made here into another only where the signature has one lifetime for both.
+    let source = &Source { words, names };
     let program = Program {
         source: *source,
-        strings: *strings,
+        strings: sound,
         erased,
     };
     checked(&program, rows, notes)

@@ -62,9 +62,11 @@ pub fn const_eval(at: usize, bytes: &[u8], ends: &[u32], words: &[u32], rows: &[
     ensures { Evaluates bytes.now ends.now words.now at rows.now result }
 {
     let strings = &Strings { bytes, ends };
-    match entry_read::marks(entry_read::sized_tree(strings, words), strings) {
-        Ok(names) => {
-            let names = &names[..ends.len()];
+    match entry_read::begin(entry_read::sized_tree(strings, words), strings) {
+        Ok(sound) => {
+            let mut marks = [0; base_words::MAX_STRINGS];
+            let names = &mut marks[..ends.len()];
+            base_strings::mark_names(&sound, names);
             eval_at(at, &Source { words, names }, rows)
         }
         Err(r) => refused(at, r),

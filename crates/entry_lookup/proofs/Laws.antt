@@ -105,8 +105,8 @@ module _ (names rows : List ℕ) (q : Question) {o : Option ℕ} (e : o ≡ chec
     ruled_yes a = rw (← e, some, ← a)
 
     -- and they are known to be a table
-    pub rows_judged : (held : Rows) → held.count ≡ n → held.words.now ≡ rows → true ≡ admits names q → Passing names q held
-    rows_judged held k l a = record { holds = rw (k, l) lent.holds; admitted = sym a }
+    pub rows_judged : (held : Rows) → held.count ≡ n → held.words.now ≡ rows → true ≡ admits names q → Passing names rows q held
+    rows_judged held k l a = record { lent = l; holds = rw (k, l) lent.holds; admitted = sym a }
 
 -- ---- numbers of names
 
@@ -219,7 +219,7 @@ module _ (strings : Sound) (x : ℕ) (e : is_marked (names_of strings.bytes.now 
       ∙ ap (λ (l : ℕ). get_or (take (z - a) (drop a bytes)) (l - 1) 0) (sym string_length)
 
 -- what passed is known
-pub ready_judged : (bytes ends : List ℕ) (q : Question) (o : Result Rows Refusal) → sound bytes ends ≡ true → length ends ≤ 1024 → Judged (names_of bytes ends) q o → Ready bytes ends q o
-ready_judged bytes ends q (Err f) s l j = tt
-ready_judged bytes ends q (Ok held) s l j =
+pub ready_judged : (bytes ends rows : List ℕ) (q : Question) (o : Result Rows Refusal) → sound bytes ends ≡ true → length ends ≤ 1024 → Judged (names_of bytes ends) rows q o → Ready bytes ends rows q o
+ready_judged bytes ends rows q (Err f) s l j = tt
+ready_judged bytes ends rows q (Ok held) s l j =
     record { passing = j; right = s; small = small_admitted (names_of bytes ends) q (omega (arith, names_length bytes ends)) j.admitted }

@@ -57,26 +57,27 @@ Small (InProc proc name) = (proc < 16777216) × (name < 16777216)
 Small (InScope scope name) = (scope ≤ 16777216) × (name < 16777216)
 Small (OfType head arg) = arg < 16777216
 
--- what rows that passed are known to be
-pub record Passing (names : List ℕ) (q : Question) (held : Rows) : Type 0 where
+-- what rows that passed are known to be: the lent words, which hold their rows
+pub record Passing (names rows : List ℕ) (q : Question) (held : Rows) : Type 0 where
+  pub lent : held.words.now ≡ rows
   pub holds : HeldIn (rows_of held.count held.words.now) held
   pub admitted : admits names q ≡ true
 
 -- where the table passed, it is known to be so
-abbrev pub Judged : (names : List ℕ) → Question → Result Rows Refusal → Type 0
-Judged names q (Err f) = Unit {0}
-Judged names q (Ok held) = Passing names q held
+abbrev pub Judged : (names rows : List ℕ) → Question → Result Rows Refusal → Type 0
+Judged names rows q (Err f) = Unit {0}
+Judged names rows q (Ok held) = Passing names rows q held
 
 -- and behind all checks
-pub record Known (bytes ends : List ℕ) (q : Question) (held : Rows) : Type 0 where
-  pub passing : Passing (names_of bytes ends) q held
+pub record Known (bytes ends rows : List ℕ) (q : Question) (held : Rows) : Type 0 where
+  pub passing : Passing (names_of bytes ends) rows q held
   pub right : sound bytes ends ≡ true
   pub small : Small q
 
 -- where it passed, all this is known
-abbrev pub Ready : (bytes ends : List ℕ) → Question → Result Rows Refusal → Type 0
-Ready bytes ends q (Err f) = Unit {0}
-Ready bytes ends q (Ok held) = Known bytes ends q held
+abbrev pub Ready : (bytes ends rows : List ℕ) → Question → Result Rows Refusal → Type 0
+Ready bytes ends rows q (Err f) = Unit {0}
+Ready bytes ends rows q (Ok held) = Known bytes ends rows q held
 
 -- the sizes and the string table
 abbrev pub tell_gate : Result (Unit {0}) Refusal → Told (Unit {0})

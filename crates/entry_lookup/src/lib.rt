@@ -47,7 +47,7 @@ fn admits(names: &[u8], q: Question) -> bool
 #[tactic(auto, using(crate::proofs::Laws::ruled_none, crate::proofs::Laws::ruled_yes, crate::proofs::Laws::ruled_no))]
 fn ruled<'a>(rows: &'a [u32], names: &[u8], q: Question) -> Result<Rows<'a>, Refusal>
     ensures told { tell_rows result ≡ ruled_of names.now rows.now q }
-    ensures judged { Judged names.now q result }
+    ensures judged { Judged names.now rows.now q result }
 {
     let count = rows_lent::check_rows(rows, names).ok_or(Refusal::Rows)?;
     if admits(names, q) {
@@ -65,7 +65,7 @@ fn sized(strings: &Strings<'_>) -> bool
     strings.ends.len() <= base_words::MAX_STRINGS && strings.bytes.len() <= base_words::MAX_BYTES
 }
 
-// Numbers 5 and 1. `entry_read::marks` begins in the same way, but that crate is not below this one: here is no tree to read.
+// Numbers 5 and 1. `entry_read::begin` begins in the same way, but that crate is not below this one: here is no tree to read.
 #[tactic(auto, using(base_strings::specs::OpenLaws::said_sound, base_strings::specs::OpenLaws::answers_size, base_strings::specs::OpenLaws::answers_inner), unfolding(base_words::specs::Refusals::refused))]
 pub fn passes(strings: &Strings<'_>) -> Result<(), Refusal>
     ensures told { Answers (sized_of strings.now.bytes.now strings.now.ends.now) strings.now.bytes.now strings.now.ends.now (tell_gate result) (gives tt) }
@@ -82,7 +82,7 @@ pub fn passes(strings: &Strings<'_>) -> Result<(), Refusal>
 #[tactic(auto, using(crate::proofs::Laws::answers_stop, crate::proofs::Laws::ready_judged), unfolding(base_words::specs::Refusals::refused))]
 fn open<'a>(strings: &Strings<'_>, rows: &'a [u32], q: Question) -> Result<Rows<'a>, Refusal>
     ensures told { Answers (sized_of strings.now.bytes.now strings.now.ends.now) strings.now.bytes.now strings.now.ends.now (tell_rows result) (ruled_of (names_of strings.now.bytes.now strings.now.ends.now) rows.now q) }
-    ensures ready { Ready strings.now.bytes.now strings.now.ends.now q result }
+    ensures ready { Ready strings.now.bytes.now strings.now.ends.now rows.now q result }
 {
     passes(strings)?;
     let sound = Sound {

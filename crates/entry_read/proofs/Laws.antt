@@ -4,17 +4,15 @@ use mathlib.Core.Path.{◌≡◌, refl, sym, ap, ◌∙◌}
 use mathlib.Core.Bool.{Bool, true, false, ◌&&◌}
 use mathlib.Mathlib.Data.Bool.Basic.{and_elim_left, and_elim_right}
 use mathlib.Core.List.{List}
-use native.Mathlib.Omega.{arith}
 use native.Mathlib.Numerals.{add-one}
-use lib.ListN.{length, get_or, take, drop, drop_of_length-le}
-use lib.Seq.{drop-cons, length-take-le}
+use lib.ListN.{length, get_or, drop, drop_of_length-le}
+use lib.Seq.{drop-cons}
 use lib.Dec.{leb, eqb}
 use borrow.Author.Tests.{le-leb, lt-leb, eq-eqb, ne_eqb, leb-true}
 use Rattle.base_words.specs.Word.{pick}
 use Rattle.base_words.specs.Sizes.{max_strings}
 use Rattle.base_words.specs.Told.{stops, gives, after, unless}
 use Rattle.base_strings.proofs.Laws.{and_true, and_false}
-use Rattle.base_strings.specs.Table.{Names}
 use Rattle.tree_expr.specs.Got.{Got, got, wrong, deep}
 use Rattle.tree_expr.specs.Answer.{step_of, refusal_of, Step}
 use Rattle.tree_expr.specs.declared.Cursor.{Cursor}
@@ -22,22 +20,17 @@ use Rattle.tree_expr.specs.declared.Misread.{Misread}
 use Rattle.tree_expr.specs.declared.Misread.TheVariants.{Wrong, Deep}
 use Rattle.std.specs.Prelude.{Ok, Err}
 use Rattle.base_words.specs.Refusals.{refused}
-use Rattle.entry_read.specs.Answered.{answer_read, answer_wrong, answer_deep}
 use Rattle.tree_stmt.specs.Reader.{program_at}
 use Rattle.entry_read.specs.Sized.{sized_strings, sized_tree, sized_program}
-use Rattle.entry_read.specs.Reading.{node_of}
+use Rattle.entry_read.specs.Reading.{node_of, node_of_step}
 use Rattle.entry_read.specs.Program.{whole_of, erased_from, program_of, accepted_of, verdict, end_of, step_told}
 
--- the node that was read
-pub node_ok : {A : Type 0} (ws : List ℕ) (at : ℕ) (g : Got A) {s : Step} {c : Cursor} → s ≡ step_of g → s ≡ Ok c → gives (record { head = get_or ws at 0; first = at; end = c.at }) ≡ node_of ws at g
-unfolding node_of
-node_ok ws at g e q = let r = answer_read g e q in rw r.is refl
-
--- where none was read: the refusal that a `?` makes of what was wrong
-pub node_err : {A : Type 0} (ws : List ℕ) (at : ℕ) (g : Got A) {s : Step} {m : Misread} → s ≡ step_of g → s ≡ Err m → refused (refusal_of m) ≡ node_of ws at g
-unfolding node_of refused
-node_err ws at g {m = Wrong p} e q = rw (answer_wrong g e q) refl
-node_err ws at g {m = Deep p} e q = rw (answer_deep g e q) refl
+-- the node that the code's answer tells
+pub node_is : {A : Type 0} (ws : List ℕ) (at : ℕ) (g : Got A) {s : Step} → s ≡ step_of g → node_of_step ws at s ≡ node_of ws at g
+unfolding node_of_step node_of step_of
+node_is ws at (got a m) e = rw e refl
+node_is ws at (wrong p) e = rw e refl
+node_is ws at (deep p) e = rw e refl
 
 -- ---- sizes
 
@@ -51,12 +44,6 @@ module _ (bytes ends ws : List ℕ) where
   pub few_strings' : (erased : List ℕ) → sized_program bytes ends ws erased ≡ true → length ends ≤ max_strings
   unfolding sized_program
   few_strings' erased e = few_strings (and_elim_left (sized_tree bytes ends ws) _ e)
-
--- ---- the marks of the names, as a part of an array
-
--- there is a mark for each string
-pub as_many : {bytes ends marks : List ℕ} → Names bytes ends marks → length ends ≤ max_strings → length ends ≡ length (take (length ends) marks)
-as_many {bytes} {ends} {marks} n p = sym (length-take-le (length ends) marks (omega (arith, n.long)))
 
 -- ---- whole programs
 

@@ -1,19 +1,18 @@
 // Reads one statement or one expression at a place, and checks whole programs, with document 01's refusals.
 #![tactic(auto)]
 
-ghost use Rattle.std.specs.Prelude.{◌≡◌, true, ◌≤◌, length, get_or};
-ghost use Rattle.base_words.specs.Sizes.{max_strings};
+ghost use Rattle.std.specs.Prelude.{◌≡◌, length, get_or};
 ghost use Rattle.tree_stmt.specs.Memo.{Keeps};
 ghost use Rattle.base_strings.specs.Table.{names_of};
 ghost use Rattle.base_strings.specs.Open.{Answers};
 ghost use Rattle.entry_read.specs.Sized.{sized_tree as sized_tree_of, sized_program as sized_program_of};
 ghost use Rattle.entry_read.specs.Begun.{Begun};
-ghost use Rattle.entry_read.specs.Reading.{statement_of, expression_of, told, moved_of};
+ghost use Rattle.entry_read.specs.Reading.{node_of_step, statement_of, expression_of, told, moved_of};
 ghost use Rattle.entry_read.specs.Program.{erased_from, accepted_of, verdict, end_of, told as told_program};
 
 use base_strings::{Sound, Strings};
 use base_words::Refusal;
-use tree_expr::Cursor;
+use tree_expr::{Cursor, Step};
 use tree_stmt::Source;
 
 // A node: its head word, its place, and the place past it.
@@ -41,15 +40,17 @@ fn word(words: &[u32], at: usize) -> u32
     words.get(at).copied().unwrap_or(0)
 }
 
-// The node from `at` to where reading came.
-fn passed(words: &[u32], at: usize, past: Cursor) -> Node
-    ensures { result ≡ record { head = get_or words.now at 0; first = at; end = past.at } }
+// The node from `at` to where reading came, or why there is none.
+#[tactic(auto, unfolding(crate::specs::Reading::node_of_step, crate::specs::Reading::told, base_words::specs::Refusals::refused))]
+fn passed(words: &[u32], at: usize, past: Step) -> Result<Node, Refusal>
+    ensures { told result ≡ node_of_step words.now at past }
 {
-    Node {
+    let end = past?.at;
+    Ok(Node {
         head: word(words, at),
         first: at,
-        end: past.at,
-    }
+        end,
+    })
 }
 
 // One statement, where the names' marks are known. (It and the next differ in the call alone; one function that takes the call as a closure would be longer by
@@ -62,32 +63,31 @@ fn statement_at(at: usize, source: &Source<'_>) -> Result<Node, Refusal>
         source.words,
         &source.marks(),
         base_words::MAX_DEPTH,
-    )?;
-    Ok(passed(source.words, at, past))
+    );
+    passed(source.words, at, past)
 }
 
 // One expression, where the names' marks are known.
 fn expression_at(at: usize, source: &Source<'_>) -> Result<Node, Refusal>
     ensures { told result ≡ expression_of source.now.names.now source.now.words.now at }
 {
-    let past = Cursor { at }.expr(source.words, &source.marks(), base_words::MAX_DEPTH)?;
-    Ok(passed(source.words, at, past))
+    let past = Cursor { at }.expr(source.words, &source.marks(), base_words::MAX_DEPTH);
+    passed(source.words, at, past)
 }
 
-// How an entry begins, where it is known whether its sizes are right: the names' marks of a right string table.
-pub fn marks(sized: bool, strings: &Strings<'_>) -> Result<[u8; 1024], Refusal>
-    requires { sized ≡ true → length strings.now.ends.now ≤ max_strings }
+// How an entry begins, where it is known whether its sizes are right: its string table, where that is right. (The names' marks, which come next, the
+// caller lays into room of its own: so large an array is copied where it is handed back.)
+pub fn begin<'a>(sized: bool, strings: &Strings<'a>) -> Result<Sound<'a>, Refusal>
     ensures { Begun sized strings.now.bytes.now strings.now.ends.now result }
 {
     if !sized {
         return Err(Refusal::Size);
     }
     base_strings::check(strings)?;
-    let sound = Sound {
+    Ok(Sound {
         bytes: strings.bytes,
         ends: strings.ends,
-    };
-    Ok(base_strings::names_of(&sound))
+    })
 }
 
 // These entries take a string table as document 01 gives it, as bytes and ends; what stands behind them takes `Strings` and `Source`.
@@ -97,8 +97,10 @@ pub fn read_statement(at: usize, bytes: &[u8], ends: &[u32], words: &[u32]) -> R
     ensures { Answers (sized_tree_of bytes.now ends.now words.now) bytes.now ends.now (told result) (statement_of (names_of bytes.now ends.now) words.now at) }
 {
     let strings = &Strings { bytes, ends };
-    let names = marks(sized_tree(strings, words), strings)?;
-    let names = &names[..ends.len()];
+    let sound = begin(sized_tree(strings, words), strings)?;
+    let mut marks = [0; base_words::MAX_STRINGS];
+    let names = &mut marks[..ends.len()];
+    base_strings::mark_names(&sound, names);
     statement_at(at, &Source { words, names })
 }
 
@@ -112,8 +114,10 @@ pub fn read_expression(
     ensures { Answers (sized_tree_of bytes.now ends.now words.now) bytes.now ends.now (told result) (expression_of (names_of bytes.now ends.now) words.now at) }
 {
     let strings = &Strings { bytes, ends };
-    let names = marks(sized_tree(strings, words), strings)?;
-    let names = &names[..ends.len()];
+    let sound = begin(sized_tree(strings, words), strings)?;
+    let mut marks = [0; base_words::MAX_STRINGS];
+    let names = &mut marks[..ends.len()];
+    base_strings::mark_names(&sound, names);
     expression_at(at, &Source { words, names })
 }
 
@@ -223,7 +227,9 @@ pub fn accept(bytes: &[u8], ends: &[u32], words: &[u32], erased: &[u32]) -> Resu
     ensures { Answers (sized_program_of bytes.now ends.now words.now erased.now) bytes.now ends.now (told_program result) (verdict (accepted_of (names_of bytes.now ends.now) words.now erased.now)) }
 {
     let strings = &Strings { bytes, ends };
-    let names = marks(sized_program(strings, words, erased), strings)?;
-    let names = &names[..ends.len()];
+    let sound = begin(sized_program(strings, words, erased), strings)?;
+    let mut marks = [0; base_words::MAX_STRINGS];
+    let names = &mut marks[..ends.len()];
+    base_strings::mark_names(&sound, names);
     check_program(&Source { words, names }, erased)
 }

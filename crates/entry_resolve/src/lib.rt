@@ -176,8 +176,10 @@ pub fn resolve_expr(
     ensures { Rewrites (sized_tree bytes.now ends.now words.now) bytes.now ends.now result out.old out.new (resolve_expr_at (names_of bytes.now ends.now) words.now rows.now (length out.old) scope at) }
 {
     let strings = &Strings { bytes, ends };
-    let names = entry_read::marks(entry_read::sized_tree(strings, words), strings)?;
-    let names = &names[..ends.len()];
+    let sound = entry_read::begin(entry_read::sized_tree(strings, words), strings)?;
+    let mut marks = [0; base_words::MAX_STRINGS];
+    let names = &mut marks[..ends.len()];
+    base_strings::mark_names(&sound, names);
     let source = &Source { words, names };
     expression_at(source, rows, scope, at, out)
 }
@@ -196,8 +198,10 @@ pub fn resolve_args(
     ensures { Rewrites (sized_tree bytes.now ends.now words.now) bytes.now ends.now result out.old out.new (resolve_args_at (names_of bytes.now ends.now) words.now rows.now (length out.old) scope name at) }
 {
     let strings = &Strings { bytes, ends };
-    let names = entry_read::marks(entry_read::sized_tree(strings, words), strings)?;
-    let names = &names[..ends.len()];
+    let sound = entry_read::begin(entry_read::sized_tree(strings, words), strings)?;
+    let mut marks = [0; base_words::MAX_STRINGS];
+    let names = &mut marks[..ends.len()];
+    base_strings::mark_names(&sound, names);
     let source = &Source { words, names };
     arguments_at(source, rows, scope, name, at, out)
 }
@@ -213,8 +217,10 @@ pub fn resolve_array_accesses(
     ensures { Rewrites (sized_tree bytes.now ends.now words.now) bytes.now ends.now result out.old out.new (resolve_all (names_of bytes.now ends.now) words.now rows.now (length out.old)) }
 {
     let strings = &Strings { bytes, ends };
-    let names = entry_read::marks(entry_read::sized_tree(strings, words), strings)?;
-    let names = &names[..ends.len()];
+    let sound = entry_read::begin(entry_read::sized_tree(strings, words), strings)?;
+    let mut marks = [0; base_words::MAX_STRINGS];
+    let names = &mut marks[..ends.len()];
+    base_strings::mark_names(&sound, names);
     let source = &Source { words, names };
     program_at(source, rows, out)
 }

@@ -44,7 +44,9 @@ pub fn subscript_count(
     ensures { Answers (sized_tree bytes.now ends.now words.now) bytes.now ends.now (told result) (count_of (names_of bytes.now ends.now) words.now name) }
 {
     let strings = &Strings { bytes, ends };
-    let names = entry_read::marks(entry_read::sized_tree(strings, words), strings)?;
-    let names = &names[..ends.len()];
+    let sound = entry_read::begin(entry_read::sized_tree(strings, words), strings)?;
+    let mut marks = [0; base_words::MAX_STRINGS];
+    let names = &mut marks[..ends.len()];
+    base_strings::mark_names(&sound, names);
     count_of(&Source { words, names }, name)
 }

@@ -6,7 +6,7 @@ ghost use mathlib.Core.List.{flat_map};
 ghost use Rattle.base_text.specs.Wrote.{Wrote};
 ghost use Rattle.list_message.specs.Message.{lines};
 ghost use Rattle.rows_table.specs.Rows.{width, note_width};
-ghost use Rattle.list_page.specs.Page.{line, diag_of, page, refusal};
+ghost use Rattle.list_page.specs.Page.{word, line, diag_of, page, refusal};
 ghost use Rattle.list_page.specs.Chunks.{chunks};
 
 use base_strings::Strings;
@@ -14,14 +14,44 @@ use base_text::{lay_word, put_byte, put_bytes, put_decimal, put_word};
 use list_message::{Diag, put_diag};
 use rows_table::{NOTE_WIDTH, WIDTH};
 
+// Some words, where there is room for all.
+fn lay_words(out: &mut [u8], at: usize, words: &[u32])
+    requires { at + 9 * length words.now ≤ length out.old }
+    ensures { Wrote (flat_map word words.now) out.old out.new at (at + 9 * length words.now) }
+{
+    for (i, w) in words.iter().enumerate() {
+        lay_word(out, at + 9 * i, *w);
+    }
+}
+
+// One by one, as much as fits.
+fn put_each(out: &mut [u8], at: usize, words: &[u32]) -> usize
+    ensures { Wrote (flat_map word words.now) out.old out.new at result }
+{
+    let mut next = at;
+    for w in words {
+        next = put_word(out, next, *w);
+    }
+    next
+}
+
+// At once where there is room for all: with a test at each word a line of many took a quarter longer, or more.
+fn put_words(out: &mut [u8], at: usize, words: &[u32]) -> usize
+    ensures { Wrote (flat_map word words.now) out.old out.new at result }
+{
+    if at < out.len() && words.len() <= (out.len() - at) / 9 {
+        lay_words(out, at, words);
+        return at + 9 * words.len();
+    }
+    put_each(out, at, words)
+}
+
 // A letter and some words, as a line.
 fn put_line(out: &mut [u8], at: usize, letter: u8, words: &[u32]) -> usize
     ensures { Wrote (line letter words.now) out.old out.new at result }
 {
     let mut next = put_byte(out, at, letter);
-    for word in words {
-        next = put_word(out, next, *word);
-    }
+    next = put_words(out, next, words);
     put_byte(out, next, b'\n')
 }
 
@@ -49,41 +79,51 @@ fn put_notes(out: &mut [u8], at: usize, strings: &Strings<'_>, notes: &[[u32; NO
     next
 }
 
-// A row's line where there is room for it, word by word: a loop over six words was tried, and cost more.
+// A row's line where there is room for it, word by word: a loop over six words was tried, and taking the row apart before (a third longer); both cost more.
 fn lay_row(out: &mut [u8], at: usize, row: &[u32; WIDTH])
     requires { at + 56 ≤ length out.old }
     ensures { Wrote (line 84 row.now) out.old out.new at (at + 56) }
 {
-    let [first, second, third, fourth, fifth, sixth] = *row;
     out[at] = b'T';
-    lay_word(out, at + 1, first);
-    lay_word(out, at + 10, second);
-    lay_word(out, at + 19, third);
-    lay_word(out, at + 28, fourth);
-    lay_word(out, at + 37, fifth);
-    lay_word(out, at + 46, sixth);
+    lay_word(out, at + 1, row[0]);
+    lay_word(out, at + 10, row[1]);
+    lay_word(out, at + 19, row[2]);
+    lay_word(out, at + 28, row[3]);
+    lay_word(out, at + 37, row[4]);
+    lay_word(out, at + 46, row[5]);
     out[at + 55] = b'\n';
 }
 
-// A row's line: most rows fit.
-fn put_row(out: &mut [u8], at: usize, row: &[u32; WIDTH]) -> usize
-    ensures { Wrote (line 84 row.now) out.old out.new at result }
+// The rows' lines, where there is room for all.
+fn lay_rows(out: &mut [u8], at: usize, rows: &[[u32; WIDTH]])
+    requires { at + 56 * length rows.now ≤ length out.old }
+    ensures { Wrote (flat_map (line 84) rows.now) out.old out.new at (at + 56 * length rows.now) }
 {
-    if at < out.len() && 56 <= out.len() - at {
-        lay_row(out, at, row);
-        return at + 56;
+    for (i, row) in rows.iter().enumerate() {
+        lay_row(out, at + 56 * i, row);
     }
-    put_line(out, at, b'T', row)
 }
 
-fn put_rows(out: &mut [u8], at: usize, rows: &[[u32; WIDTH]]) -> usize
+// One by one, as much as fits.
+fn put_each_row(out: &mut [u8], at: usize, rows: &[[u32; WIDTH]]) -> usize
     ensures { Wrote (flat_map (line 84) rows.now) out.old out.new at result }
 {
     let mut next = at;
     for row in rows {
-        next = put_row(out, next, row);
+        next = put_line(out, next, b'T', row);
     }
     next
+}
+
+// At once where there is room for all, as with words: with a test at each row many rows took some 8 % longer.
+fn put_rows(out: &mut [u8], at: usize, rows: &[[u32; WIDTH]]) -> usize
+    ensures { Wrote (flat_map (line 84) rows.now) out.old out.new at result }
+{
+    if at < out.len() && rows.len() <= (out.len() - at) / 56 {
+        lay_rows(out, at, rows);
+        return at + 56 * rows.len();
+    }
+    put_each_row(out, at, rows)
 }
 
 // How many diagnostics and rows stand in their buffers.

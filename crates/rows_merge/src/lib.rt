@@ -1,7 +1,8 @@
 // Two tables made one in a lent buffer, from the back, so that each row moves once.
 #![tactic(auto)]
 
-ghost use Rattle.std.specs.Prelude.{◌≡◌, List, ℕ, ◌+◌, ◌*◌, ◌≤◌, length, take};
+ghost use Rattle.std.specs.Prelude.{◌≡◌, List, ◌++◌, ℕ, ◌+◌, ◌*◌, ◌≤◌, length, take, drop};
+ghost use Rattle.std.proofs.Math.Seq.{slice};
 ghost use Rattle.rows_table.specs.Rows.{Row, width, rank, insert_all, Holds};
 ghost use Rattle.rows_merge.specs.Merge.{Apart, Merging};
 
@@ -20,6 +21,19 @@ fn below(rows: &Rows<'_>, k: u64) -> usize
     Rows { words, count }.lower_bound(k)
 }
 
+// The words from `from` up to `to` move up by w words.
+fn move_up(b: &mut [u32], from: usize, to: usize, w: usize)
+    requires { (from ≤ to) × (to + w ≤ length b.old) }
+    ensures { b.new ≡ take (from + w) b.old ++ (slice from to b.old ++ drop (to + w) b.old) }
+{
+    // by one row, it is one move of memory
+    if w == rows_table::WIDTH {
+        rows_table::shift_up(b, from, to);
+    } else {
+        b.copy_within(from..to, from + w);
+    }
+}
+
 // Row j of src goes to its place; the rows after that place, of the first i, move up by j + 1 rows. Returns how many of them are left below.
 fn place(b: &mut [u32], i: usize, src: &[u32], j: usize) -> usize
     requires { ((i + j + 1) * width ≤ length b.old) × ((j + 1) * width ≤ length src.now) }
@@ -31,7 +45,7 @@ fn place(b: &mut [u32], i: usize, src: &[u32], j: usize) -> usize
     let k = rows_table::key_at(src, j);
     let p = below(&Rows { words: b, count: i }, k);
     let to = p * rows_table::WIDTH;
-    b.copy_within(to..end, to + at + rows_table::WIDTH);
+    move_up(b, to, end, at + rows_table::WIDTH);
     rows_table::put_words(b, to + at, &src[at..at + rows_table::WIDTH]);
     p
 }

@@ -137,6 +137,11 @@ old_is {rows} P k None f = go (find k P.first) refl
         let z : ◌≡◌ {A = ℕ} 0 1 = cc in
         absurd (omega arith)
 
+-- what is found in the first run is the table's
+pub old_first : {rows : List Row} {m n : ℕ} {buf : List ℕ} (P : Parted rows m n buf) (k : ℕ) (r : RustOption ℕ) → row_in buf r ≡ find k P.first → Old k rows P.first buf r
+old_first P k None f = sym f
+old_first {buf = buf} P k (Some i) f = both_first P.runs k (row_of buf i) f ∙ ap (find k) (sym P.all)
+
 module _ {rows : List Row} {n : ℕ} {buf : List ℕ} (K : Keeps rows n buf) (row : Row) (w : length row ≡ width) where
   -- the row with its key is replaced, in either run
   pub keeps_set : (i : ℕ) → i < n → some (row_of buf i) ≡ find (key row) rows → Keeps (insert row rows) n (take (i * width) buf ++ (row ++ drop (i * width + width) buf))

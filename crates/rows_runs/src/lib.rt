@@ -8,7 +8,7 @@ ghost use Rattle.std.specs.Prelude.{◌≡◌, List, ℕ, ◌+◌, ◌*◌, ◌�
 ghost use Rattle.std.proofs.Math.Option.{none};
 ghost use Rattle.rows_table.specs.Rows.{Row, width, key, rank, find as find_row, insert as insert_row, insert_all, remove as remove_rows, Holds};
 ghost use Rattle.rows_table.specs.Answers.{Within, Fit, HeldIn};
-ghost use Rattle.rows_runs.specs.Runs.{row_in, Runs, Parted, Near, Last, Keeps, Old, PutIn, TakenOut, KeptIn};
+ghost use Rattle.rows_runs.specs.Runs.{row_in, Runs, Parted, Near, Last, Keeps, PutIn, TakenOut, KeptIn};
 
 use rows_table::{Rows, WIDTH};
 
@@ -154,17 +154,6 @@ fn put_late(b: &mut [u32], m: usize, count: usize, row: &[u32; WIDTH]) -> Option
     Some(m + late)
 }
 
-// The row with the key k, if there is a first run: where all rows are late, `put_late` looks for it.
-fn find_old(rows: &Rows<'_>, k: u64) -> Option<usize>
-    ensures within { Within rows.now.count result }
-    ensures found { (rs : List Row) (K : KeptIn rs rows.now) → Old k rs K.parted.first rows.now.words.now result }
-{
-    if rows.count < 32 {
-        return None;
-    }
-    find_long(rows, k)
-}
-
 // Puts the row in, in the place of the one with its key where there is one.
 pub fn insert(b: &mut [u32], count: usize, row: &[u32; WIDTH]) -> Option<usize>
     requires { count * width ≤ length b.old }
@@ -172,15 +161,14 @@ pub fn insert(b: &mut [u32], count: usize, row: &[u32; WIDTH]) -> Option<usize>
     ensures after { (rows : List Row) → Keeps rows count b.old → PutIn (insert_row row.now rows) (length b.old) result b.new }
 {
     let k = rows_table::key_of(row[0], row[1]);
-    match find_old(&Rows { words: b, count }, k) {
+    let m = split(&Rows { words: b, count });
+    match find_first(&Rows { words: b, count: m }, k) {
         Some(i) => {
             rows_table::put_words(b, i * WIDTH, row);
             Some(count)
         }
-        None => {
-            let m = split(&Rows { words: b, count });
-            put_late(b, m, count, row)
-        }
+        // which looks for it among the late rows
+        None => put_late(b, m, count, row),
     }
 }
 

@@ -1,3 +1,2 @@
--- The laws that the proofs cite: words moved within a buffer or cut into rows.
+-- The laws that the proofs cite: words moved within a buffer.
 pub mod Moves
-mod Cut

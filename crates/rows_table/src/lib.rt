@@ -33,7 +33,12 @@ fn shift_down(b: &mut [u32], from: usize, to: usize, w: usize)
     requires { (from + w ≤ to) × (to ≤ length b.old) }
     ensures { b.new ≡ take from b.old ++ (slice (from + w) to b.old ++ drop (to - w) b.old) }
 {
-    b.copy_within(from + w..to, from);
+    // by one row, one move of memory too: `to` first here, since the compiler makes a loop of it where only `from` is
+    if w == WIDTH {
+        b[from..to].copy_within(WIDTH.., 0);
+    } else {
+        b.copy_within(from + w..to, from);
+    }
 }
 
 // Two words as one number.
@@ -67,8 +72,18 @@ impl Rows<'_> {
         ensures within { result ≤ self.now.count }
         ensures ranked { (rs : List Row) → HeldIn rs self.now → result ≡ rank k rs }
     {
-        let (rows, _) = self.words[..self.count * WIDTH].as_chunks::<WIDTH>();
-        rows.partition_point(|row| key_of(row[0], row[1]) < k)
+        // By hand: the library's `partition_point` asks other places, and so answers otherwise of rows that don't rise, which C may lend (`bench_rows`).
+        let mut lo = 0;
+        let mut hi = self.count;
+        while lo < hi {
+            let mid = lo + (hi - lo) / 2;
+            if self.key(mid) < k {
+                lo = mid + 1;
+            } else {
+                hi = mid;
+            }
+        }
+        lo
     }
 
     // The row with the key k.
@@ -81,15 +96,18 @@ impl Rows<'_> {
     }
 }
 
-// The words of `row`, written from `at`. (This and `clear` are the library's `copy_from_slice` and `fill` under the promise that the laws of a buffer cite.)
+// The words of `row`, written from `at`. By a loop, since the compiler makes six stores of it where `row` is a row: `copy_from_slice` of one was first laid into
+// memory, and tested for lying apart from `b`.
 pub fn put_words(b: &mut [u32], at: usize, row: &[u32])
     requires { at + length row.now ≤ length b.old }
     ensures { b.new ≡ take at b.old ++ (row.now ++ drop (at + length row.now) b.old) }
 {
-    b[at..at + row.len()].copy_from_slice(row);
+    for (j, &w) in row.iter().enumerate() {
+        b[at + j] = w;
+    }
 }
 
-// Zeros from `from` up to `to`.
+// Zeros from `from` up to `to`. (This is the library's `fill` under the promise that the laws of a buffer cite.)
 pub fn clear(b: &mut [u32], from: usize, to: usize)
     requires { (from ≤ to) × (to ≤ length b.old) }
     ensures { b.new ≡ take from b.old ++ (zeros (to - from) ++ drop to b.old) }

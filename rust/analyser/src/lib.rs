@@ -4,7 +4,7 @@
 //! the two it is lent, it ends, and what it writes is the listing that the passes' definitions give. It keeps no state and
 //! allocates nothing.
 //!
-//! An image is made with the crate `list_image`, which has a compiler's syntax tree and reads the resolved words back.
+//! An image is made with the crate `image`, which has a compiler's syntax tree and reads the resolved words back.
 //!
 //! Without an archive to link (see `build.rs`) [`AVAILABLE`] is false and there is nothing else here.
 

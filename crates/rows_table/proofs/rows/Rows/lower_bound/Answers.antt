@@ -1,47 +1,35 @@
--- `lower_bound` is the library's search among the rows, cut out of their words: the keys of a table rise, so the place that it finds is the key's rank. Assumes nothing.
-use Rattle.std.specs.Prelude.{◌≡◌, List, [], ℕ, ◌≤◌, ◌<◌, length, ltb, get_or}
-use Rattle.std.specs.List.Sorted.{IsPartitionPoint, IsPartitionedBy}
-use Rattle.std.proofs.Common.{rules, arith, ◌∙◌, ◌⊎◌, inl, inr, ltb-true, lt-ltb, ltb-false}
-use Rattle.std.proofs.Math.Bool.{true, false}
-use Rattle.std.proofs.lemmas.List.{get_or_default}
-use Rattle.std.proofs.lemmas.List.Sorted.{IsPartitionPoint-from_clause}
-use Rattle.rows_table.specs.Rows.{Row, key, rank, Table}
-use Rattle.rows_table.specs.Laws.{order, rank_le, rank_low, rank_high}
-use Rattle.rows_table.proofs.Cut.{rows_cut, rows_held}
+-- `lower_bound` is the key's rank: it lies between lo and hi, and a test at mid moves one of them. Assumes nothing.
+use Rattle.std.specs.Prelude.{◌≡◌, List, ℕ, ◌≤◌, ◌<◌, ◌-◌, ◌+◌, ◌/◌, ◌*◌, get_or}
+use Rattle.std.proofs.Common.{arith}
+use Rattle.rows_table.specs.Rows.{Row, width, key_of, rank, Holds}
+use Rattle.rows_table.specs.Laws.{rank_le, rank_low, rank_high}
+use Rattle.rows_table.specs.Images.{key_of_row}
 use Rattle.rows_table.proofs.rows.Rows.lower_bound.Goals as goal
 
-module _ (k : ℕ) (rows : List Row) (T : Table 0 rows) where
-  -- a row before one whose key is below k has its key below k
-  parted : IsPartitionedBy (λ row. ltb (key row) k) rows
-  parted i j d le in_rows e = go (order (key (get_or rows i d)) k)
-    where
-      go : (key (get_or rows i d) < k) ⊎ (k ≤ key (get_or rows i d)) → ltb (key (get_or rows i d)) k ≡ true
-      go (inl h) = lt-ltb _ k h
-      go (inr h) =
-          let at_i = get_or_default rows i d [] (omega arith) in
-          let at_j = get_or_default rows j d [] in_rows in
-          let low = rank_low k rows i (omega arith) (rw at_i at h) in
-          let high = rank_high 0 k rows T j in_rows (rw at_j at (ltb-true _ k e)) in
-          absurd (omega (arith, low, high))
+-- the middle row's key is below k, so k's place is past it; else it is at most the middle
+module _ (b : List ℕ) (count k m x : ℕ) (h : m < count) (e : x ≡ key_of (get_or b (m * width) 0) (get_or b (m * width + 1) 0)) (rows : List Row) (H : Holds rows count b) where
+  up : x < k → m < rank k rows
+  up q = rank_high 0 k rows H.table m (omega (arith, H.filled.count)) (omega (arith, key_of_row H.filled m h, e))
 
-  -- the place where the keys below k end is k's rank
-  point_is : (p : ℕ) → p ≤ length rows → IsPartitionPoint (λ row. ltb (key row) k ≡ true) (λ row. ltb (key row) k ≡ false) rows p → p ≡ rank k rows
-  point_is p le P = go (order (rank k rows) p) (order p (rank k rows))
-    where
-      go : (rank k rows < p) ⊎ (p ≤ rank k rows) → (p < rank k rows) ⊎ (rank k rows ≤ p) → p ≡ rank k rows
-      go (inl h) _ =
-          let high = rank_high 0 k rows T (rank k rows) (omega arith) (ltb-true _ k (P.0 (rank k rows) [] (omega arith) h)) in
-          absurd (omega (arith, high))
-      go (inr h) (inl q) =
-          let low = rank_low k rows p (omega (arith, rank_le k rows)) (ltb-false _ k (P.1 p [] (omega arith) (omega (arith, rank_le k rows)))) in
-          absurd (omega (arith, low))
-      go (inr h) (inr q) = omega arith
+  down : k ≤ x → rank k rows ≤ m
+  down q = rank_low k rows m (omega (arith, H.filled.count)) (omega (arith, key_of_row H.filled m h, e))
+
+pub loop-lo-init : goal.loop-lo-init
+loop-lo-init c = (omega arith, omega arith, λ rows H. (omega arith, omega (arith, rank_le c.args.k rows, H.filled.count)))
+
+pub loop-lo-preserved-then-key-k : goal.loop-lo-preserved-then-key-k
+loop-lo-preserved-then-key-k c =
+    let b : List ℕ = c.args.self.now.words.now in
+    let m : ℕ = c.loop-lo.lo + (c.loop-lo.hi - c.loop-lo.lo) / 2 in
+    let h : m < c.args.self.now.count = omega arith in
+    (omega arith, omega arith, λ rows H. (omega (arith, up b c.args.self.now.count c.args.k m c.key.result h c.key.ensures rows H c.if-key-k.true), (c.loop-lo.invariant.2 rows H).1))
+
+pub loop-lo-preserved : goal.loop-lo-preserved
+loop-lo-preserved c =
+    let b : List ℕ = c.args.self.now.words.now in
+    let m : ℕ = c.loop-lo.lo + (c.loop-lo.hi - c.loop-lo.lo) / 2 in
+    let h : m < c.args.self.now.count = omega arith in
+    (omega arith, omega arith, λ rows H. ((c.loop-lo.invariant.2 rows H).0, down b c.args.self.now.count c.args.k m c.key.result h c.key.ensures rows H c.if-key-k.false))
 
 pub returns-clause-ranked : goal.returns-clause-ranked
-unfolding key
-returns-clause-ranked c = λ rows H.
-    let k = c.args.k in
-    let e : c.as_chunks.result.0.now ≡ rows = c.as_chunks.ensures.front ∙ rows_cut c.args.self.now.count c.args.self.now.words.now c.args.self.now.fits ∙ rows_held H.filled in
-    let parts : IsPartitionedBy (λ row. ltb (key row) k) c.as_chunks.result.0.now = rw e (parted k rows H.table) in
-    let point = IsPartitionPoint-from_clause (λ row. ltb (key row) k) _ _ c.partition_point.ensures.partitioned parts (λ a r q w. search rules) in
-    point_is k rows H.table c.partition_point.result (rw e at c.partition_point.ensures.bound) (rw e at point)
+returns-clause-ranked c = λ rows H. omega (arith, c.loop-lo.invariant.2 rows H)

@@ -4,15 +4,17 @@ use mathlib.Core.Path.{◌≡◌, refl, sym, ap, ◌∙◌}
 use mathlib.Core.Bool.{Bool, true, false, ◌&&◌}
 use mathlib.Mathlib.Data.Bool.Basic.{and_elim_left, and_elim_right}
 use mathlib.Core.List.{List}
+use native.Mathlib.Omega.{arith}
 use native.Mathlib.Numerals.{add-one}
-use lib.ListN.{length, get_or, drop, drop_of_length-le}
-use lib.Seq.{drop-cons}
+use lib.ListN.{length, get_or, take, drop, drop_of_length-le}
+use lib.Seq.{drop-cons, length-take-le}
 use lib.Dec.{leb, eqb}
 use borrow.Author.Tests.{le-leb, lt-leb, eq-eqb, ne_eqb, leb-true}
 use Rattle.base_words.specs.Word.{pick}
 use Rattle.base_words.specs.Sizes.{max_strings}
 use Rattle.base_words.specs.Told.{stops, gives, after, unless}
 use Rattle.base_strings.proofs.Laws.{and_true, and_false}
+use Rattle.base_strings.specs.Table.{Names}
 use Rattle.tree_expr.specs.Got.{Got, got, wrong, deep}
 use Rattle.tree_expr.specs.Answer.{step_of, refusal_of, Step}
 use Rattle.tree_expr.specs.declared.Cursor.{Cursor}
@@ -44,6 +46,12 @@ module _ (bytes ends ws : List ℕ) where
   pub few_strings' : (erased : List ℕ) → sized_program bytes ends ws erased ≡ true → length ends ≤ max_strings
   unfolding sized_program
   few_strings' erased e = few_strings (and_elim_left (sized_tree bytes ends ws) _ e)
+
+-- ---- the marks of the names, as a part of an array
+
+-- there is a mark for each string
+pub as_many : {bytes ends marks : List ℕ} → Names bytes ends marks → length ends ≤ max_strings → length ends ≡ length (take (length ends) marks)
+as_many {bytes} {ends} {marks} n p = sym (length-take-le (length ends) marks (omega (arith, n.long)))
 
 -- ---- whole programs
 

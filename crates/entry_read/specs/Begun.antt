@@ -4,17 +4,18 @@ use Rattle.std.proofs.Common.{◌∙◌, arith}
 use Rattle.base_words.specs.Told.{Told, stops, gives, unless}
 use Rattle.base_words.specs.Refusals.{refused}
 use Rattle.base_words.specs.declared.Refusal.{Refusal}
-use Rattle.base_strings.specs.Table.{sound}
+use Rattle.base_strings.specs.Table.{sound, Names}
 use Rattle.base_strings.specs.declared.right.Sound.{Sound}
 use Rattle.base_strings.specs.Open.{Answers, entry_of}
 use Rattle.base_strings.specs.OpenLaws.{answers_inner}
 
--- within the sizes: the same table, which keeps its rule
+-- within the sizes: the same table, which keeps its rule; so the marks of its names are those of the given one
 pub record Opened (sized : Bool) (bytes ends : List ℕ) (strings : Sound) : Type 0 where
   pub within : sized ≡ true
   pub right : sound bytes ends ≡ true
   pub bytes_are : strings.bytes.now ≡ bytes
   pub ends_are : strings.ends.now ≡ ends
+  pub names : {marks : List ℕ} → Names strings.bytes.now strings.ends.now marks → Names bytes ends marks
 
 -- for entries: the table, or what stops an entry before its work
 unfoldable pub Begun : Bool → List ℕ → List ℕ → Result Sound Refusal → Type 0

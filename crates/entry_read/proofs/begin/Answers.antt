@@ -19,4 +19,4 @@ invariant_of-result c = record { right = said_sound c.check.ensures c.in_ok-chec
 
 pub returns : goal.returns
 unfolding Begun
-returns c = record { within = c.if-not-sized.false; right = said_sound c.check.ensures c.in_ok-check.was; bytes_are = refl; ends_are = refl }
+returns c = record { within = c.if-not-sized.false; right = said_sound c.check.ensures c.in_ok-check.was; bytes_are = refl; ends_are = refl; names = λ n. n }
